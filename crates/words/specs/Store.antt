@@ -1,0 +1,20 @@
+-- Words of a lent store. Assumes nothing.
+use Prim.Native.Nat.{ℕ, _+_}
+use mathlib.Core.Bool.{Bool, true, false, _&&_}
+use mathlib.Core.List.{List, [], _∷_, _++_}
+use lib.ListN.{length, take, drop}
+use lib.Dec.{leb, ltb}
+use Rattle.limits.specs.Questions.{pick}
+
+-- every word is below the bound
+unfoldable pub allBelow : ℕ → List ℕ → Bool
+allBelow bound [] = true
+allBelow bound (x ∷ s) = ltb x bound && allBelow bound s
+
+-- the store with the words in the place of as many of its own, from place `at` on
+abbrev pub putWords : ℕ → List ℕ → List ℕ → List ℕ
+putWords at words s = take at s ++ (words ++ drop (at + length words) s)
+
+-- the same where the store holds the words, else the store as it is
+abbrev pub fitWords : ℕ → List ℕ → List ℕ → List ℕ
+fitWords at words s = pick (leb (at + length words) (length s)) (putWords at words s) s

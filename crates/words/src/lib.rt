@@ -1,0 +1,60 @@
+// Lent stores of u32 words: filled, written at a place, and tested word by word.
+//
+// Each function is total and says what every word of the store is afterwards.
+
+ghost use mathlib.Core.Path.{_≡_};
+ghost use lib.ListN.{length, replicate};
+ghost use Rattle.limits.specs.Questions.{_▸_, ask};
+ghost use Rattle.words.specs.Store.{allBelow, fitWords};
+
+// Every word of s becomes v.
+pub fn fill(s: &mut [u32], v: u32)
+    ensures { λ _. ⌜ now (s .exit) ≡ replicate (length (now (s .entry))) v ⌝ }
+{
+    let mut i = 0;
+    while i < s.len() {
+        s[i] = v;
+        i += 1;
+    }
+}
+
+// The words at place `at` of the store; where they do not fit, the store stays as it is.
+pub fn put(out: &mut [u32], at: usize, words: &[u32])
+    ensures { λ _. ⌜ now (out .exit) ≡ fitWords at (now (words .entry)) (now (out .entry)) ⌝ }
+{
+    if out.len() < at {
+        return;
+    }
+    if out.len() - at < words.len() {
+        return;
+    }
+    let mut i = 0;
+    while i < words.len() {
+        out[at + i] = words[i];
+        i += 1;
+    }
+}
+
+// Is every word of s below the bound?
+pub fn all_below(s: &[u32], bound: u32) -> bool
+    ensures { λ r. ⌜ r ≡ allBelow bound (now (s .entry)) ⌝ }
+{
+    let mut i = 0;
+    while i < s.len() {
+        if bound <= s[i] {
+            return false;
+        }
+        i += 1;
+    }
+    true
+}
+
+// Question k, whether every word of s is below the bound; not looked at where an earlier question said no.
+pub fn asked_below(no: u32, s: &[u32], bound: u32, k: u32) -> u32
+    ensures { λ r. ⌜ r ≡ no ▸ ask k (allBelow bound (now (s .entry))) ⌝ }
+{
+    if no != 0 {
+        return no;
+    }
+    limits::asked(0, all_below(s, bound), k)
+}
