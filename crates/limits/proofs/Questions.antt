@@ -1,7 +1,8 @@
 -- Laws of questions in order: the first no of two, of a list and of a list that is put together from parts.
 --
--- `both` and `join` say when nothing says no; `refused` says what a number means; `chain-firstNo` turns the
--- code's chain of `limits::asked` into the list that a definition cites. Assumes nothing.
+-- `both` and `join` say when nothing says no, `refused` what a number means. The code's chain of questions is
+-- nested to the left; `simp (▸-assoc, zero-▸, ▸-zero)` turns it into the list that a definition cites.
+-- Assumes nothing.
 use Prim.Native.Nat.{ℕ, zero, suc}
 use mathlib.Core.Path.{_≡_, refl, sym, ap, _∙_}
 use native.Mathlib.Omega.{arith}
@@ -46,6 +47,10 @@ pub join : (a b : ℕ) → a ≡ 0 → b ≡ 0 → a ▸ b ≡ 0
 unfolding _▸_
 join zero b e f = f
 join (suc a) b e f = e
+
+pub zero-▸ : (b : ℕ) → 0 ▸ b ≡ b
+unfolding _▸_
+zero-▸ b = refl
 
 pub ▸-zero : (a : ℕ) → a ▸ 0 ≡ a
 unfolding _▸_
@@ -141,16 +146,3 @@ refused (q ∷ qs) k e = go (λ z. refused qs k z) (ask (q .number) (q .says)) r
         let p = no-of (q .number) n (q .says) z in
         let first : ask (q .number) (q .says) ≡ suc k = sym (stays _ (firstNo qs) (λ w. absurd (omega (arith, z, w)))) ∙ e in
         record { before = []; no = q; after = qs; place = refl; number = p .1 ∙ sym z ∙ first; says = p .0; earlier = refl }
-
--- ---- the questions as the code puts them, each after the answer so far
-abbrev pub chain : ℕ → List Question → ℕ
-chain answered [] = answered
-chain answered (q ∷ qs) = chain (answered ▸ ask (q .number) (q .says)) qs
-
-chain-after : (qs : List Question) (answered : ℕ) → chain answered qs ≡ answered ▸ firstNo qs
-chain-after [] answered = sym (▸-zero answered)
-chain-after (q ∷ qs) answered =
-    chain-after qs (answered ▸ ask (q .number) (q .says)) ∙ ▸-assoc answered (ask (q .number) (q .says)) (firstNo qs)
-
-pub chain-firstNo : (qs : List Question) → chain 0 qs ≡ firstNo qs
-chain-firstNo qs = chain-after qs 0 ∙ goes-on 0 (firstNo qs) refl

@@ -5,7 +5,8 @@
 // an earlier no stays.
 
 ghost use mathlib.Core.Path.{_≡_};
-ghost use Rattle.limits.specs.Questions.{_▸_, ask};
+ghost use Rattle.limits.specs.Questions.{_▸_, ask, firstNo};
+ghost use Rattle.limits.specs.Asks.{widthAsks, storeAsks, countAsks};
 
 // The BabyBear prime p: a unit is below it.
 pub const P: u32 = 2013265921;
@@ -30,4 +31,27 @@ pub fn asked(no: u32, says: bool, k: u32) -> u32
         return 0;
     }
     k
+}
+
+// Question 1, after the answer so far.
+pub fn asked_width(no: u32, width: u32) -> u32
+    ensures { λ r. ⌜ r ≡ no ▸ firstNo (widthAsks width) ⌝ }
+{
+    let a = asked(no, 1 <= width, 1);
+    asked(a, width <= MAX_WIDTH, 1)
+}
+
+// Question 2 of a lent word store, by its length.
+pub fn asked_store(no: u32, len: usize) -> u32
+    ensures { λ r. ⌜ r ≡ no ▸ firstNo (storeAsks len) ⌝ }
+{
+    asked(no, len <= MAX_COUNT as usize, 2)
+}
+
+// Question 2 of a relation's wire count.
+pub fn asked_count(no: u32, count: u32) -> u32
+    ensures { λ r. ⌜ r ≡ no ▸ firstNo (countAsks count) ⌝ }
+{
+    let a = asked(no, 1 <= count, 2);
+    asked(a, count <= MAX_COUNT, 2)
 }
