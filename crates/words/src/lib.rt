@@ -4,8 +4,11 @@
 
 ghost use mathlib.Core.Path.{_≡_};
 ghost use lib.ListN.{length, replicate};
+ghost use Prim.Native.Nat.{_+_};
+ghost use lib.Dec.{leb};
 ghost use Rattle.limits.specs.Questions.{_▸_, ask};
 ghost use Rattle.words.specs.Store.{allBelow, fitWords};
+ghost use Rattle.words.specs.Pieces.{wordsOf};
 
 // Every word of s becomes v.
 pub fn fill(s: &mut [u32], v: u32)
@@ -57,4 +60,20 @@ pub fn asked_below(no: u32, s: &[u32], bound: u32, k: u32) -> u32
         return no;
     }
     limits::asked(0, all_below(s, bound), k)
+}
+
+// Question k, whether a store of len words holds n pieces of 2 · width words.
+pub fn asked_pieces(no: u32, width: u32, n: u32, len: usize, k: u32) -> u32
+    ensures { λ r. ⌜ r ≡ no ▸ ask k (leb (wordsOf width n) len) ⌝ }
+{
+    let half = n as u64 * width as u64;
+    limits::asked(no, half <= len as u64 / 2, k)
+}
+
+// Question k, whether it holds one piece more than n.
+pub fn asked_one_more(no: u32, width: u32, n: u32, len: usize, k: u32) -> u32
+    ensures { λ r. ⌜ r ≡ no ▸ ask k (leb (wordsOf width (n + 1)) len) ⌝ }
+{
+    let half = n as u64 * width as u64 + width as u64;
+    limits::asked(no, half <= len as u64 / 2, k)
 }

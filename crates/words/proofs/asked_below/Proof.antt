@@ -1,8 +1,8 @@
 -- `words::asked_below` meets its contract: an earlier no stays, else it is one question on the words.
 -- Assumes nothing.
 use borrow.Author.Needs.{needs}
-use mathlib.Core.Path.{sym, _∙_}
-use Rattle.limits.proofs.Questions.{stays, goes-on}
+use mathlib.Core.Path.{sym}
+use Rattle.limits.proofs.Questions.{stays}
 use Rattle.words.proofs.asked_below.Statement.{statement}
 use Rattle.words.proofs.asked_below.Tie as tie
 

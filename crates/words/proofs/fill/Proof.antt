@@ -1,11 +1,11 @@
 -- `words::fill` meets its contract: after i turns the first i words are v and the rest as they were.
 -- Assumes nothing.
 use Prim.Native.Nat.{ℕ, _≤_, _-_}
-use mathlib.Core.Path.{_≡_, refl, sym, ap, _∙_}
+use mathlib.Core.Path.{_≡_, refl, ap, _∙_}
 use mathlib.Core.List.{List, _++_, append-nil}
 use native.Mathlib.Omega.{arith}
-use borrow.Author.Needs.{needs, scaled-fits}
-use borrow.Author.Fill.{fill-none, fill-more}
+use borrow.Author.Needs.{needs}
+use borrow.Author.Fill.{fill-more}
 use lib.ListN.{length, set, drop, replicate, length-set}
 use lib.Seq.{drop-length}
 use Rattle.words.proofs.fill.Statement.{statement}

@@ -1,0 +1,37 @@
+-- Pieces of 2w words: whether a store holds them, by half of it; and the pieces that a store begins with.
+-- Assumes nothing.
+use Prim.Native.Nat.{ℕ, _+_, _*_, _/_, _≤_, _<_, _^_}
+use mathlib.Core.Path.{_≡_, refl, sym, ap, _∙_}
+use mathlib.Core.Bool.{Bool, true, false}
+use native.Mathlib.Omega.{arith}
+use native.Mathlib.Nat.{mul-add, add-mul, mul-le-mul-right}
+use borrow.Author.Tests.{le-leb, lt-leb, leb-true, leb-false}
+use lib.Dec.{leb}
+use Rattle.words.specs.Pieces.{wordsOf}
+
+-- h + h words fit where h fit half of the store
+half-fits : (h len : ℕ) → leb h (len / 2) ≡ leb (h + h) len
+half-fits h len = go (leb h (len / 2)) refl
+  where
+    go : (b : Bool) → leb h (len / 2) ≡ b → leb h (len / 2) ≡ leb (h + h) len
+    go true e =
+        let f : h ≤ len / 2 = leb-true h (len / 2) e in
+        e ∙ sym (le-leb (h + h) len (omega arith))
+    go false e =
+        let f : len / 2 < h = leb-false h (len / 2) e in
+        e ∙ sym (lt-leb (h + h) len (omega arith))
+
+pub pieces-fit : (width n len : ℕ) → leb (n * width) (len / 2) ≡ leb (wordsOf width n) len
+pieces-fit width n len = half-fits (n * width) len ∙ ap (λ (k : ℕ). leb k len) (sym (mul-add n width width))
+
+pub one-more-fits : (width n len : ℕ) → leb (n * width + width) (len / 2) ≡ leb (wordsOf width (n + 1)) len
+one-more-fits width n len =
+    let e : n * width + width ≡ (n + 1) * width = rw (add-mul n 1 width) (omega arith) in
+    ap (λ (k : ℕ). leb k (len / 2)) e ∙ pieces-fit width (n + 1) len
+
+-- n + 1 halves of pieces fit 64 bits
+pub one-more-below : (width n : ℕ) → n < 2 ^ 32 → width < 2 ^ 32 → n * width + width < 2 ^ 64
+one-more-below width n h k =
+    let e : n * width + width ≡ (n + 1) * width = rw (add-mul n 1 width) (omega arith) in
+    let a : (n + 1) * width ≤ 2 ^ 32 * width = mul-le-mul-right width (omega arith) in
+    omega arith

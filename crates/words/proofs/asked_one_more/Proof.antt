@@ -1,0 +1,26 @@
+-- `words::asked_one_more` meets its contract: the half of the words is compared with the half of the store.
+-- Assumes nothing.
+use Rattle.limits.proofs.Product.{below}
+use Rattle.words.proofs.Pieces.{one-more-fits, one-more-below}
+use borrow.Author.Needs.{needs}
+use Rattle.words.proofs.asked_one_more.Statement.{statement}
+use Rattle.words.proofs.asked_one_more.Tie as tie
+
+mul-half : tie.Need-mul-half
+mul-half c = record { fits = below 32 (search needs) (search needs) }
+
+add-half : tie.Need-add-half
+add-half c =
+    let a = c .args in
+    record { fits = one-more-below (a .width) (a .n) (search needs) (search needs) }
+
+asked-requires : tie.Need-asked-requires
+asked-requires c κs = search needs
+
+returns : tie.Need-returns
+returns c =
+    let a = c .before .args in
+    rw (c .asked .ensures, one-more-fits (a .width) (a .n) (a .len))
+
+pub asked-one-more-spec : {M : Type 1} → statement M
+asked-one-more-spec = tie.close (tie.spec mul-half add-half asked-requires returns)
