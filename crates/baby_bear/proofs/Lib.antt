@@ -1,0 +1,4 @@
+pub mod Mod
+pub mod Product
+pub mod Ring
+pub mod Units

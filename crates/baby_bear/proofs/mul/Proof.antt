@@ -1,0 +1,33 @@
+-- `baby_bear::mul` meets its contract: the product of two u32 fits a u64.
+-- Assumes nothing.
+use mathlib.Core.Path.{refl}
+use borrow.Author.Needs.{needs}
+use Rattle.baby_bear.specs.Field.{mulUnit}
+use Rattle.baby_bear.proofs.Product.{product-bits}
+use Rattle.baby_bear.proofs.mul.Statement.{statement}
+use Rattle.baby_bear.proofs.mul.Tie as tie
+
+cast-t3 : tie.Need-cast-t3
+cast-t3 c = search needs
+
+cast-t4 : tie.Need-cast-t4
+cast-t4 c = search needs
+
+mul-t5 : tie.Need-mul-t5
+mul-t5 c = record { fits = product-bits 32 (search needs) (search needs) }
+
+cast-t6 : tie.Need-cast-t6
+cast-t6 c = search needs
+
+rem-t7 : tie.Need-rem-t7
+rem-t7 c = search needs
+
+cast-t8 : tie.Need-cast-t8
+cast-t8 c = search needs
+
+returns : tie.Need-returns
+unfolding mulUnit
+returns c = refl
+
+pub mul-spec : {M : Type 1} → statement M
+mul-spec = tie.close (tie.spec cast-t3 cast-t4 mul-t5 cast-t6 rem-t7 cast-t8 returns)
