@@ -1,0 +1,109 @@
+-- A word read and bytes written at a cursor: the cases by facts on numbers, for the code's returns, and what
+-- follows from an answer, for those who call. Assumes nothing.
+use Prim.Native.Nat.{ℕ, _+_, _≤_, _<_}
+use mathlib.Core.Path.{_≡_, refl, sym, ap, _∙_}
+use mathlib.Core.Bool.{Bool, true, false}
+use mathlib.Core.List.{List}
+use native.Mathlib.Omega.{arith}
+use borrow.Author.Tests.{le-leb, lt-leb, leb-true, leb-false}
+use lib.Dec.{leb}
+use lib.ListN.{length, drop, getD, length-drop}
+use lib.Seq.{getD-drop, drop-drop}
+use Rattle.limits.specs.Questions.{pick}
+use Rattle.words.specs.Store.{putWords, fitWords}
+use Rattle.narg.specs.Bytes.{word4}
+use Rattle.narg.specs.Reader.{Got, got, stop, word}
+use Rattle.narg.specs.Cursor.{cursor, wordOf, wordAt, putAt}
+use Rattle.narg.specs.declared.Cursor.{Cursor}
+use Rattle.narg.specs.declared.Word.the-variants.{Read, Short}
+use Rattle.narg.specs.declared.Put.the-variants.{Written, Full}
+use Rattle.narg.proofs.Fields.{word-short, word-long, word-stop}
+use Rattle.narg.proofs.Words.{word-rest-at}
+
+-- two variants are never equal
+never : (v : ℕ) (next : Cursor) → Short ≡ Read v next → ⊥
+never v next e = let z : _≡_ {A = ℕ} 0 1 = cc in omega arith
+
+never-put : (next : Cursor) → Full ≡ Written next → ⊥
+never-put next e = let z : _≡_ {A = ℕ} 0 1 = cc in omega arith
+
+-- ---- a word at a cursor
+word-at : (s : List ℕ) (at : ℕ) → at + 4 ≤ length s
+    → word (drop at s) ≡ got (word4 (getD s at 0) (getD s (at + 1) 0) (getD s (at + 2) 0) (getD s (at + 3) 0)) (drop (at + 4) s)
+word-at s at h =
+    let z : at + 0 ≡ at = omega arith in
+    word-long (drop at s) (rw length-drop (omega arith)) ∙ simp (getD-drop, drop-drop, z)
+
+pub wordAt-short : (s : List ℕ) (at : ℕ) → length s < at + 4 → Short ≡ wordAt s at
+unfolding wordAt
+wordAt-short s at h = rw (word-short (drop at s) (rw length-drop (omega arith)))
+
+pub wordAt-long : (s : List ℕ) (at v : ℕ) → at + 4 ≤ length s
+    → v ≡ word4 (getD s at 0) (getD s (at + 1) 0) (getD s (at + 2) 0) (getD s (at + 3) 0) → Read v (cursor (at + 4)) ≡ wordAt s at
+unfolding wordAt
+wordAt-long s at v h e = rw (word-at s at h, e)
+
+-- a word that was answered
+pub record WordRead (s : List ℕ) (at v : ℕ) (next : Cursor) : Type 0 where
+  pub reads : word (drop at s) ≡ got v (drop (at + 4) s)
+  pub fits : at + 4 ≤ length s
+  pub past : next .at ≡ at + 4
+
+pub wordAt-read : (s : List ℕ) (at v : ℕ) (next : Cursor) → wordAt s at ≡ Read v next → WordRead s at v next
+unfolding wordAt
+wordAt-read s at v next e = go (word (drop at s)) refl e
+  where
+    go : (g : Got ℕ) → word (drop at s) ≡ g → wordOf at g ≡ Read v next → WordRead s at v next
+    go (got x r) w f =
+        let t = word-rest-at s at x r w in
+        let ev : x ≡ v = cc in
+        let en : cursor (at + 4) ≡ next = cc in
+        record { reads = w ∙ ap (λ (l : List ℕ). got x l) (t .1) ∙ ap (λ (n : ℕ). got n (drop (at + 4) s)) ev; fits = t .0; past = sym (ap (λ (c : Cursor). c .at) en) }
+    go (stop k) w f = absurd (never v next f)
+
+pub wordAt-stop : (s : List ℕ) (at : ℕ) → wordAt s at ≡ Short → word (drop at s) ≡ stop 20
+unfolding wordAt
+wordAt-stop s at e = go (word (drop at s)) refl e
+  where
+    go : (g : Got ℕ) → word (drop at s) ≡ g → wordOf at g ≡ Short → word (drop at s) ≡ stop 20
+    go (got x r) w f = absurd (never x (cursor (at + 4)) (sym f))
+    go (stop k) w f = w ∙ ap (λ (n : ℕ). stop n) (word-stop (drop at s) k w)
+
+-- ---- n bytes written at a cursor
+module _ (out : List ℕ) (at : ℕ) (bytes : List ℕ) {n : ℕ} (l : length bytes ≡ n) where
+  pub put-full : length out < at + n → (Full ≡ putAt out at bytes) × (out ≡ fitWords at bytes out)
+  unfolding putAt
+  put-full h = let e = lt-leb (at + length bytes) (length out) (omega arith) in (simp e, simp e)
+
+  pub put-written : (last : List ℕ) → at + n ≤ length out → last ≡ putWords at bytes out
+      → (Written (cursor (at + n)) ≡ putAt out at bytes) × (last ≡ fitWords at bytes out)
+  unfolding putAt
+  put-written last h w =
+      let e = le-leb (at + length bytes) (length out) (omega arith) in (rw (e, l), simp e w)
+
+  -- for those who call: where it holds them, and from the answer
+  pub put-fits : at + n ≤ length out → (putAt out at bytes ≡ Written (cursor (at + n))) × (fitWords at bytes out ≡ putWords at bytes out)
+  put-fits h = let w = put-written (putWords at bytes out) h refl in (sym (w .0), sym (w .1))
+
+  pub putAt-written : (next : Cursor) → putAt out at bytes ≡ Written next
+      → (at + n ≤ length out) × (next .at ≡ at + n) × (fitWords at bytes out ≡ putWords at bytes out)
+  unfolding putAt
+  putAt-written next e = go (leb (at + length bytes) (length out)) refl e
+    where
+      go : (b : Bool) → leb (at + length bytes) (length out) ≡ b → pick b (Written (cursor (at + length bytes))) Full ≡ Written next
+          → (at + n ≤ length out) × (next .at ≡ at + n) × (pick b (putWords at bytes out) out ≡ putWords at bytes out)
+      go true t f =
+          let h = leb-true (at + length bytes) (length out) t in
+          let c : cursor (at + length bytes) ≡ next = cc in
+          let p : at + length bytes ≡ next .at = ap (λ (x : Cursor). x .at) c in
+          (omega arith, omega arith, refl)
+      go false t f = absurd (never-put next f)
+
+  pub putAt-full : putAt out at bytes ≡ Full → (length out < at + n) × (fitWords at bytes out ≡ out)
+  unfolding putAt
+  putAt-full e = go (leb (at + length bytes) (length out)) refl e
+    where
+      go : (b : Bool) → leb (at + length bytes) (length out) ≡ b → pick b (Written (cursor (at + length bytes))) Full ≡ Full
+          → (length out < at + n) × (pick b (putWords at bytes out) out ≡ out)
+      go true t f = absurd (never-put (cursor (at + length bytes)) (sym f))
+      go false t f = let h = leb-false (at + length bytes) (length out) t in (omega arith, refl)

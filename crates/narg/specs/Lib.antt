@@ -1,0 +1,4 @@
+pub mod All
+pub mod Bytes
+pub mod Cursor
+pub mod Reader
