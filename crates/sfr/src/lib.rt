@@ -1,0 +1,133 @@
+// The proved functions for C and Rust: the static library libsfr.a (`rt staticlib sfr`), declared in
+// include/sfr.h and oracle/sfr/src/sys.rs.
+//
+// Each function here only hands its arguments on; what comes back is its own struct with document 01's number
+// first, 0 for yes. A lent list is a pointer and a count.
+
+ghost use mathlib.Core.Path.{_≡_};
+ghost use mathlib.Core.Logic.{_↔_};
+ghost use mathlib.Core.Bool.{true};
+ghost use Rattle.limits.specs.Numbers.{prime, maxCount};
+ghost use Rattle.baby_bear.specs.Field.{addUnit, mulUnit};
+ghost use Rattle.utf8.specs.Utf8.{isUtf8, Utf8};
+ghost use Rattle.words.specs.Store.{fitWords};
+ghost use Rattle.narg.specs.Bytes.{u32Bytes};
+ghost use Rattle.narg.specs.Cursor.{wordAt, putAt, wordsAt, wordsOut};
+ghost use Rattle.sfr.specs.Leaves.{wordRead, placeWritten, placeRead};
+use baby_bear::BabyBearUnit;
+use narg::Cursor;
+use narg::Item;
+use narg::Put;
+use narg::Word;
+
+// A word that was read: number 0 and the place after it, or 20, value 0 and the place that was given.
+#[repr(C)]
+pub struct SfrWord {
+    pub number: u32,
+    pub value: u32,
+    pub next: usize,
+}
+
+// The place after what was read or written, or a refusal's number and the place that was given.
+#[repr(C)]
+pub struct SfrPlace {
+    pub number: u32,
+    pub next: usize,
+}
+
+#[no_mangle]
+pub extern "C" fn sfr_add(a: u32, b: u32) -> u32
+    ensures { λ r. ⌜ r ≡ addUnit a b ⌝ }
+{
+    baby_bear::add(BabyBearUnit(a), BabyBearUnit(b)).0
+}
+
+#[no_mangle]
+pub extern "C" fn sfr_mul(a: u32, b: u32) -> u32
+    ensures { λ r. ⌜ r ≡ mulUnit a b ⌝ }
+{
+    baby_bear::mul(BabyBearUnit(a), BabyBearUnit(b)).0
+}
+
+#[no_mangle]
+pub extern "C" fn sfr_is_utf8(bytes: &[u8]) -> bool
+    ensures { λ r. ⌜ (r ≡ isUtf8 (now (bytes .entry))) × ((r ≡ true) ↔ Utf8 (now (bytes .entry))) ⌝ }
+{
+    utf8::is_utf8(bytes)
+}
+
+#[no_mangle]
+pub extern "C" fn sfr_read_u32(bytes: &[u8], at: usize) -> SfrWord
+    ensures { λ r. ⌜ r ≡ wordRead at (wordAt (now (bytes .entry)) at) ⌝ }
+{
+    match narg::read_u32(bytes, Cursor { at }) {
+        Word::Read(value, c) => SfrWord {
+            number: 0,
+            value,
+            next: c.at,
+        },
+        Word::Short => SfrWord {
+            number: 20,
+            value: 0,
+            next: at,
+        },
+    }
+}
+
+#[no_mangle]
+pub extern "C" fn sfr_put_u32(out: &mut [u8], at: usize, value: u32) -> SfrPlace
+    ensures { λ r. ⌜ (r ≡ placeWritten at (putAt (now (out .entry)) at (u32Bytes value))) × (now (out .exit) ≡ fitWords at (u32Bytes value) (now (out .entry))) ⌝ }
+{
+    match narg::put_u32(out, Cursor { at }, value) {
+        Put::Written(c) => SfrPlace {
+            number: 0,
+            next: c.at,
+        },
+        Put::Full => SfrPlace {
+            number: 10,
+            next: at,
+        },
+    }
+}
+
+// What an item came to, for C.
+fn place_read(at: usize, item: Item) -> SfrPlace
+    ensures { λ r. ⌜ r ≡ placeRead at item ⌝ }
+{
+    match item {
+        Item::Read(c) => SfrPlace {
+            number: 0,
+            next: c.at,
+        },
+        Item::Refused(k) => SfrPlace {
+            number: k,
+            next: at,
+        },
+    }
+}
+
+#[no_mangle]
+pub extern "C" fn sfr_read_units(
+    bytes: &[u8],
+    at: usize,
+    out: &mut [u32],
+    place: usize,
+    n: u32,
+) -> SfrPlace
+    ensures { λ r. ⌜ (r ≡ placeRead at (wordsAt (now (bytes .entry)) at (now (out .entry)) place n prime 4)) × (now (out .exit) ≡ wordsOut (now (bytes .entry)) at (now (out .entry)) place n prime 4) ⌝ }
+{
+    place_read(at, narg::read_units(bytes, Cursor { at }, out, place, n))
+}
+
+#[no_mangle]
+pub extern "C" fn sfr_read_vars(
+    bytes: &[u8],
+    at: usize,
+    out: &mut [u32],
+    place: usize,
+    n: u32,
+) -> SfrPlace
+    ensures { λ r. ⌜ (r ≡ placeRead at (wordsAt (now (bytes .entry)) at (now (out .entry)) place n maxCount 3)) × (now (out .exit) ≡ wordsOut (now (bytes .entry)) at (now (out .entry)) place n maxCount 3) ⌝ }
+{
+    place_read(at, narg::read_vars(bytes, Cursor { at }, out, place, n))
+}
