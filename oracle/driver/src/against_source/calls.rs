@@ -1,0 +1,199 @@
+//! The calls on a relation, put to the sources after the second reading has answered.
+
+use reading::{MAX_COUNT, P};
+
+use super::Run;
+use crate::{
+    calls::{weighted, Answer, Call, State},
+    compared::{holds, same, Compared, Outcome},
+    rng::Rng,
+    source::{self, Relation},
+};
+
+fn are_vars(words: &[u32]) -> bool {
+    words.iter().all(|&word| source::var(word).is_some())
+}
+
+fn are_units(words: &[u32]) -> bool {
+    words.iter().all(|&word| source::unit(word).is_some())
+}
+
+/// The number of a call that the sources' types have no room for: a list of another length
+/// than the width, a word that is no wire, a word that is no unit.
+fn untyped(call: &Call, width: u32) -> Option<u32> {
+    let is_list = |words: &[u32]| words.len() == width as usize;
+    let (lists, vars, units) = match call {
+        Call::Set(var, value) => (true, are_vars(&[*var]), are_units(&[*value])),
+        Call::Value(var) | Call::IsAllocated(var) => (true, are_vars(&[*var]), true),
+        Call::Record(input, output) => (
+            is_list(input) && is_list(output),
+            are_vars(input) && are_vars(output),
+            true,
+        ),
+        Call::Mint(input) => (is_list(input), are_vars(input), true),
+        Call::Equation(terms, image) => {
+            let (vars, weights): (Vec<u32>, Vec<u32>) = terms.iter().copied().unzip();
+            let units = are_units(&weights) && are_units(&[*image]);
+            (true, are_vars(&vars), units)
+        }
+        Call::Allocate(_) | Call::AllocateWith(_) | Call::SetList(..) => (true, true, true),
+    };
+    match (lists, vars, units) {
+        (false, ..) => Some(9),
+        (_, false, _) => Some(3),
+        (.., false) => Some(4),
+        _ => None,
+    }
+}
+
+/// Compares a call's answer; whether the sources could be asked.
+pub fn compare(
+    call: &Call,
+    answer: &Answer,
+    width: u32,
+    relation: &dyn Relation,
+    spelling: usize,
+) -> Outcome<bool> {
+    let number = answer.number;
+    if let Some(expected) = untyped(call, width) {
+        same("number", ("reading", number), ("types", expected))?;
+        return Ok(true);
+    }
+    if number == 6 || number == 10 {
+        return Ok(false);
+    }
+    let before = relation.vars_count();
+    match call {
+        Call::Allocate(count) => allocated(answer, before, relation.allocate_vars(*count)),
+        Call::AllocateWith(values) => {
+            allocated(answer, before, relation.allocate_vars_with(values))
+        }
+        Call::Mint(input) => {
+            let outputs = relation.allocate_permutation(input, spelling);
+            allocated(answer, before, outputs)
+        }
+        Call::Set(var, value) => accepted(answer, relation.set_var(*var, *value)),
+        Call::SetList(vars, values) => set_list(answer, vars, values, relation),
+        Call::Record(input, output) => {
+            relation.add_permutation(input, output);
+            accepted(answer, Some(()))
+        }
+        Call::Equation(terms, image) => {
+            relation.add_equation(terms, *image, spelling);
+            accepted(answer, Some(()))
+        }
+        Call::Value(var) => {
+            let value = relation.value(*var);
+            same("value", ("reading", answer.value), ("source", value))
+        }
+        Call::IsAllocated(var) => {
+            let yes = relation.is_allocated(*var);
+            same("is allocated", ("reading", answer.yes), ("source", yes))
+        }
+    }?;
+    Ok(true)
+}
+
+/// Where the sources panic, any refusal will do.
+fn accepted(answer: &Answer, done: Option<()>) -> Compared {
+    match done {
+        None => holds(
+            "a refusal, as the source panics",
+            answer.number != 0,
+            answer,
+        ),
+        Some(()) => same("number", ("reading", answer.number), ("source", 0)),
+    }
+}
+
+/// The wires that an allocation answers: one after the other, from the count before it on.
+fn allocated(answer: &Answer, before: u32, vars: Option<Vec<u32>>) -> Compared {
+    accepted(answer, vars.as_ref().map(|_| ()))?;
+    let Some(vars) = vars else {
+        return Ok(());
+    };
+    let expected: Vec<u32> = (answer.first..).take(vars.len()).collect();
+    same("wires", ("reading", expected), ("source", vars))?;
+    same("first wire", ("reading", answer.first), ("source", before))
+}
+
+/// Pairs with a word that the sources' types can't hold end the list that they are given.
+fn set_list(answer: &Answer, vars: &[u32], values: &[u32], relation: &dyn Relation) -> Compared {
+    let common = vars.len().min(values.len());
+    let typed = |i: &usize| !are_vars(&[vars[*i]]) || !are_units(&[values[*i]]);
+    if let Some(cut) = (0..common).find(typed) {
+        let done = relation.set_vars(&vars[..cut], &values[..cut]);
+        if done.is_none() {
+            return accepted(answer, done);
+        }
+        let number = if are_vars(&[vars[cut]]) { 4 } else { 3 };
+        let expected = (number, cut as u32);
+        let given = (answer.number, answer.accepted);
+        return same("number and tally", ("reading", given), ("types", expected));
+    }
+    // What follows the common pairs is never looked at, only that it is there.
+    let typed = |words: &[u32]| {
+        let mut list = words[..common].to_vec();
+        list.resize(words.len(), 0);
+        list
+    };
+    let done = relation.set_vars(&typed(vars), &typed(values));
+    accepted(answer, done)?;
+    if done.is_some() {
+        let all = vars.len() as u32;
+        same("tally", ("reading", answer.accepted), ("source", all))?;
+    }
+    Ok(())
+}
+
+/// Counts and held words on both sides.
+pub fn compare_states(state: &State, relation: &dyn Relation) -> Compared {
+    let (slots, queries, equations) = state.held();
+    let vars_count = relation.vars_count();
+    same(
+        "wires",
+        ("reading", state.rel.vars_count),
+        ("source", vars_count),
+    )?;
+    same("slots", ("reading", slots), ("source", &relation.slots()))?;
+    same(
+        "queries",
+        ("reading", queries),
+        ("source", &relation.queries()),
+    )?;
+    same(
+        "equations",
+        ("reading", equations),
+        ("source", &relation.equations()),
+    )
+}
+
+impl Run<'_> {
+    /// Scaling, which knows no width.
+    pub fn scaling(&mut self, rng: &mut Rng) -> Compared {
+        let mut word = |limit: u32| {
+            if rng.once_in(12) {
+                rng.edge()
+            } else {
+                rng.word() % limit
+            }
+        };
+        let term = |_| (word(MAX_COUNT), word(P));
+        let terms: Vec<(u32, u32)> = (0..3).map(term).collect();
+        let factor = word(P);
+        self.log.say(|| format!("Scale({terms:?}, {factor})"));
+        let mut scaled = weighted(&terms);
+        let number = reading::scale(&mut scaled, factor);
+        self.seen.answered("scale", number);
+        let call = Call::Equation(terms.clone(), factor);
+        if let Some(expected) = untyped(&call, 1) {
+            return same("number", ("reading", number), ("types", expected));
+        }
+        let expected = weighted(&source::scale(&terms, factor));
+        same(
+            "scaled terms",
+            ("reading", (number, scaled)),
+            ("source", (0, expected)),
+        )
+    }
+}

@@ -1,0 +1,126 @@
+//! `self`: the second reading beside the compiled sources, on random lists of calls and
+//! what follows them: gate, bytes, damaged bytes, builder and check, in widths 1 to 24.
+//!
+//! Stores that are too short have no counterpart in the sources, and words that are no
+//! wire or no unit have none in their types: such refusals are judged by what the types
+//! say, or counted and left alone. Where a call of the sources panics, the second reading
+//! must refuse; where one answers a message, the number must be one that the message
+//! stands for.
+
+pub mod calls;
+mod instances;
+mod witnesses;
+
+use crate::{
+    compared::{same, Compared, Log, Seen},
+    generate::{self, Generator, Mood},
+    held::Room,
+    options::Options,
+    rng::Rng,
+    source,
+};
+
+/// What the sources answer otherwise, or cannot answer at all, counted.
+#[derive(Default)]
+struct Apart {
+    /// Held publics are searched there as if they increased.
+    unsorted_value: u64,
+    /// An instance with more wires than scratch has words is read there.
+    too_many_wires: u64,
+    /// A store was too short, which can't happen there.
+    room: u64,
+}
+
+/// One run, list by list.
+struct Run<'a> {
+    seen: &'a mut Seen,
+    apart: &'a mut Apart,
+    log: Log,
+}
+
+/// Commands compared where no count is given.
+const COUNT: u64 = 1_000_000;
+
+/// Lists of calls until the commands asked for have been compared. The list that shows a
+/// difference is run again, told call by call.
+pub fn run(options: &Options) -> bool {
+    source::silence_panics();
+    let (mut seen, mut apart) = (Seen::default(), Apart::default());
+    let count = options.count.unwrap_or(COUNT);
+    let mut lists = 0;
+    while seen.total < count {
+        let seed = options.seed.wrapping_add(lists);
+        let mut run = Run {
+            seen: &mut seen,
+            apart: &mut apart,
+            log: Log(false),
+        };
+        if run.list(seed).is_err() {
+            println!("self: a difference; again with: self --seed {seed} --count 1");
+            run.log = Log(true);
+            if let Err(difference) = run.list(seed) {
+                println!("{}", difference.0);
+            }
+            return false;
+        }
+        lists += 1;
+    }
+    seen.print();
+    println!(
+        "  apart from the source: {} values in publics that don't increase, {} reads of more \
+         wires than scratch, {} short stores",
+        apart.unsorted_value, apart.too_many_wires, apart.room
+    );
+    let (total, seed) = (seen.total, options.seed);
+    println!("self: seed {seed}, {lists} lists, {total} commands, no difference");
+    true
+}
+
+impl Run<'_> {
+    /// One list of calls and what follows it.
+    fn list(&mut self, seed: u64) -> Compared {
+        let mut generator = Generator::new(Rng::new(seed));
+        let width = generator.width;
+        let label = generate::label(&mut generator.rng);
+        let mut state = generator.state();
+        self.log.say(|| {
+            let lens = [&state.slots, &state.queries, &state.equations].map(Vec::len);
+            let mood = generator.mood;
+            format!("width {width}, {mood:?}, label {label:?}, stores {lens:?}")
+        });
+
+        let relation = source::relation(width, &label);
+        let number = state.new_relation(width);
+        self.seen.answered("fresh", number);
+        same("fresh", ("reading", number), ("source", 0))?;
+        calls::compare_states(&state, &*relation)?;
+        for _ in 0..generator.rng.between(1, 40) {
+            let call = generator.call(&state);
+            self.log.say(|| format!("{call:?}"));
+            let answer = state.run(&call);
+            self.seen.answered(call.name(), answer.number);
+            let spelling = generator.rng.below(3);
+            let compared = calls::compare(&call, &answer, width, &*relation, spelling)?;
+            self.apart.room += u64::from(!compared);
+            calls::compare_states(&state, &*relation)?;
+            generator.note(&call, &answer);
+            if generator.rng.once_in(30) {
+                self.gate(&mut generator.rng, &state, &label, &*relation)?;
+            }
+        }
+        self.scaling(&mut generator.rng)?;
+        if let Some((held, instance)) = self.gate(&mut generator.rng, &state, &label, &*relation)? {
+            let trace = self.builder(&mut generator, &held)?;
+            if generator.mood == Mood::Honest {
+                let number = held.check(&trace, &generator.sheet, Room::AMPLE.scratch);
+                same(
+                    "an honest list's check",
+                    ("reading", number),
+                    ("expected", 0),
+                )?;
+            }
+            self.instance(&mut generator, &held, &*instance, &trace)?;
+        }
+        self.ungated(&mut generator)
+    }
+}

@@ -1,0 +1,149 @@
+//! The builder's calls, a trace's bytes, and the check.
+
+use reading::Trace;
+
+use super::Run;
+use crate::{
+    calls::DIRT,
+    compared::{holds, same, Compared, Outcome},
+    generate::{self, Generator, Mood},
+    held::{self, Held},
+    rng::Rng,
+    source::{self, Instance, Sheet},
+};
+
+/// The sources' check makes a list of all wires, and a damaged count may be any word: up
+/// to this many are tried.
+const WIRES: u32 = 1 << 12;
+
+impl Run<'_> {
+    /// A step for each query, evaluated or given; the trace that they make.
+    pub fn builder(&mut self, generator: &mut Generator, held: &Held) -> Outcome<Vec<u32>> {
+        let width = generator.width as usize;
+        let builder = source::builder(generator.width, &generator.sheet);
+        let mut rec = Trace {
+            width: generator.width,
+            steps: 0,
+        };
+        let (_, queries, _) = held.words();
+        let mut trace = vec![DIRT; queries.len()];
+        for query in queries.chunks(2 * width) {
+            let value = |var: &u32| *generator.table.get(*var as usize).unwrap_or(&1);
+            let input: Vec<u32> = query[..width].iter().map(value).collect();
+            let output: Vec<u32> = query[width..].iter().map(value).collect();
+            // Only an honest list's table knows the outputs.
+            let answer = if generator.mood == Mood::Honest && generator.rng.once_in(3) {
+                self.log
+                    .say(|| format!("AppendStep({input:?}, {output:?})"));
+                builder.add_permutation(&input, &output);
+                reading::append_step(rec, &mut trace, &input, &output)
+            } else {
+                self.log.say(|| format!("EvaluateStep({input:?})"));
+                builder.allocate_permutation(&input);
+                reading::evaluate_step(rec, &mut trace, &input, generator.sheet.reading())
+            };
+            self.seen.answered("builder's steps", answer.number);
+            rec = answer.trace;
+        }
+        same("trace", ("reading", &trace), ("source", &builder.trace()))?;
+
+        let (number, bytes) = held::write_witness(rec, &trace, 17 + 4 * trace.len());
+        self.seen.answered("write SFRW", number);
+        let expected = builder.to_bytes();
+        same(
+            "SFRW bytes",
+            ("reading", (number, &bytes)),
+            ("source", (0, &expected)),
+        )?;
+        self.read_witness(generator.width, &bytes)?;
+        let fields: Vec<usize> = (5..bytes.len()).step_by(4).collect();
+        for _ in 0..3 {
+            let damaged = generate::damaged(&mut generator.rng, &bytes, &fields);
+            self.read_witness(generator.width, &damaged)?;
+        }
+        Ok(trace)
+    }
+
+    fn read_witness(&mut self, width: u32, bytes: &[u8]) -> Compared {
+        self.log.say(|| format!("ReadWitness({width}, {bytes:?})"));
+        let (number, trace) = held::read_witness(width, bytes, 1 << 12);
+        self.seen.answered("read SFRW", number);
+        match source::witness_from_bytes(width, bytes) {
+            Ok(expected) => same(
+                "trace",
+                ("reading", (number, trace)),
+                ("source", (0, expected)),
+            ),
+            Err(message) => {
+                let meant = source::numbers(&message).contains(&number);
+                holds(&format!("a number for {message:?}"), meant, number)
+            }
+        }
+    }
+
+    /// The check of a trace, of damaged ones, and under another sheet.
+    pub fn checks(
+        &mut self,
+        generator: &mut Generator,
+        held: &Held,
+        instance: &dyn Instance,
+        trace: &[u32],
+    ) -> Compared {
+        if held.ins.vars_count > WIRES {
+            return Ok(());
+        }
+        let sheet = generator.sheet.clone();
+        self.check(held, instance, trace, &sheet)?;
+        for _ in 0..2 {
+            let damaged = damaged_trace(&mut generator.rng, generator.width, trace, &sheet);
+            self.check(held, instance, &damaged, &sheet)?;
+        }
+        if generator.rng.once_in(4) {
+            let other = generate::sheet(&mut generator.rng, generator.width);
+            self.check(held, instance, trace, &other)?;
+        }
+        Ok(())
+    }
+
+    fn check(
+        &mut self,
+        held: &Held,
+        instance: &dyn Instance,
+        trace: &[u32],
+        sheet: &Sheet,
+    ) -> Compared {
+        self.log
+            .say(|| format!("Check({held:?}, {trace:?}, {sheet:?})"));
+        let number = held.check(trace, sheet, WIRES as usize);
+        self.seen.answered("check", number);
+        let known = number == 0 || (31..=36).contains(&number);
+        holds("a number of the comparison", known, number)?;
+        // The source says no more than yes or no.
+        let expected = instance.is_witness_valid(sheet, trace);
+        same("check", ("reading", number == 0), ("source", expected))
+    }
+}
+
+/// A trace with one fault.
+fn damaged_trace(rng: &mut Rng, width: u32, trace: &[u32], sheet: &Sheet) -> Vec<u32> {
+    let width = width as usize;
+    let mut trace = trace.to_vec();
+    match rng.below(6) {
+        0 => trace.truncate(trace.len().saturating_sub(2 * width)),
+        1 => trace.extend((0..2 * width).map(|_| rng.unit())),
+        2 | 3 if !trace.is_empty() => {
+            let at = rng.below(trace.len());
+            trace[at] = rng.unit();
+        }
+        _ if !trace.is_empty() => {
+            // Another input, evaluated: only what its wires carry is wrong.
+            let at = rng.below(trace.len() / (2 * width)) * 2 * width;
+            let place = at + rng.below(width);
+            trace[place] = rng.unit();
+            let output = sheet.permute(&trace[at..at + width]);
+            trace[at + width..at + 2 * width].copy_from_slice(&output);
+        }
+        _ => {}
+    }
+    trace
+}

@@ -1,0 +1,66 @@
+//! Where document 01 and the sources part, each with the smallest input that shows it.
+
+use crate::{
+    held::{self, Held, Room},
+    source::{self, Parts},
+};
+
+/// SFRI of width 1 without a label whose words after that are these.
+fn file(words: &[u32]) -> Vec<u8> {
+    let words = [&[1, 4, 0], words].concat();
+    let mut bytes = b"SFRI\x01".to_vec();
+    bytes.extend(words.iter().flat_map(|word| word.to_le_bytes()));
+    bytes
+}
+
+/// The sources search held publics by halving. 01: the last pair that lists the wire. They
+/// agree on publics that strictly increase, which are all that a gate or a read lets by;
+/// on a wire listed twice in a row, the standard library promises neither pair.
+#[test]
+fn value_in_publics_that_do_not_increase() {
+    let parts = Parts {
+        vars_count: 2,
+        publics: vec![1, 3, 0, 4],
+        ..Parts::default()
+    };
+    let held = Held::from_parts(1, &parts);
+    let value = |var| reading::public_value(held.ins, &held.publics, var).value;
+    let instance = source::ungated(1, &parts);
+    assert_eq!((value(1), instance.value(1)), (Some(3), None));
+}
+
+/// The sources read any wire count and make a list as long as that. 01: 16, as no scratch
+/// has more than 2^30 words.
+#[test]
+fn more_wires_than_any_scratch() {
+    let bytes = file(&[(1 << 30) + 1, 0, 0, 0]);
+    assert_eq!(bytes.len(), 33);
+    assert!(source::instance_from_bytes(1, &bytes).is_ok());
+    assert_eq!(held::read(1, &bytes, Room::AMPLE).0, 16);
+}
+
+/// One message for a unit that is cut off and for one that is too large. 01: 20 and 4.
+#[test]
+fn one_message_for_two_numbers() {
+    let cut = file(&[1, 1, 0]);
+    let large = file(&[1, 1, 0, reading::P]);
+    for (bytes, number) in [(cut, 20), (large, 4)] {
+        assert_eq!(held::read(1, &bytes, Room::AMPLE).0, number);
+        let message = source::instance_from_bytes(1, &bytes).err();
+        assert_eq!(message.as_deref(), Some("malformed encoding: unit value"));
+    }
+}
+
+/// Where the sources panic, 01 gives a number; what is left behind is the same.
+#[test]
+fn panics() {
+    source::silence_panics();
+    let relation = source::relation(1, "");
+    assert!(relation.allocate_vars(2).is_some());
+    assert!(relation.allocate_vars(1 << 30).is_none()); // 5
+    assert_eq!(relation.vars_count(), 3);
+    assert!(relation.set_var(3, 0).is_none()); // 7
+    assert!(relation.set_var(0, 5).is_none()); // 8
+    assert!(relation.set_vars(&[1, 2], &[6]).is_none()); // 9
+    assert_eq!(relation.slots(), [0, 6, u32::MAX]);
+}

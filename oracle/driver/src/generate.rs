@@ -1,0 +1,368 @@
+//! Random lists of calls, sheets, labels and damaged bytes.
+
+use std::collections::BTreeSet;
+
+use reading::{MAX_COUNT, P};
+
+use crate::{
+    calls::{Answer, Call, State},
+    rng::Rng,
+    source::Sheet,
+};
+
+/// How a list's calls are chosen.
+#[derive(Clone, Copy, Debug, PartialEq, Eq)]
+pub enum Mood {
+    /// A table gives every wire one unit, and every call agrees with it: a gate that
+    /// accepts, and a witness that the check says yes to.
+    Honest,
+    /// Wires that are allocated, and units.
+    Tame,
+    /// Any words, those at the edges first, and lists of any length.
+    Wild,
+}
+
+pub struct Generator {
+    pub rng: Rng,
+    pub mood: Mood,
+    pub width: u32,
+    pub sheet: Sheet,
+    /// The unit of each wire, in an honest list.
+    pub table: Vec<u32>,
+    /// Wires that a set or a query names, in an honest list.
+    known: BTreeSet<u32>,
+}
+
+impl Generator {
+    pub fn new(mut rng: Rng) -> Self {
+        let width = rng.width();
+        let mood = *rng.pick(&[
+            Mood::Honest,
+            Mood::Honest,
+            Mood::Tame,
+            Mood::Wild,
+            Mood::Wild,
+        ]);
+        let sheet = sheet(&mut rng, width);
+        Self {
+            rng,
+            mood,
+            width,
+            sheet,
+            table: vec![0],
+            known: BTreeSet::from([0]),
+        }
+    }
+
+    /// Stores that hold some calls, and now and then too few words for them.
+    pub fn state(&mut self) -> State {
+        let width = self.width as usize;
+        let rng = &mut self.rng;
+        let slots = match rng.below(6) {
+            0 => rng.between(1, 3),
+            1 => rng.between(1, 2 * width + 2),
+            _ => rng.between(10, 60) + 4 * width,
+        };
+        let queries = match rng.below(4) {
+            0 => rng.between(0, 4 * width + 1),
+            _ => rng.between(2, 8) * 2 * width,
+        };
+        let equations = match rng.below(4) {
+            0 => rng.between(0, 12),
+            _ => rng.between(20, 90),
+        };
+        State::sized(slots, queries, equations)
+    }
+
+    /// A call that fits the mood, for a relation in this state.
+    pub fn call(&mut self, state: &State) -> Call {
+        match self.rng.below(20) {
+            0..=2 => Call::Allocate(self.count(state)),
+            3 => self.allocate_with(),
+            4..=6 => {
+                let (var, value) = self.assignment(state);
+                Call::Set(var, value)
+            }
+            7..=9 => self.set_list(state),
+            10 | 11 => self.record(state),
+            12 | 13 => Call::Mint(self.vars(state)),
+            14..=17 => self.equation(state),
+            18 => Call::Value(self.var(state)),
+            _ => Call::IsAllocated(self.var(state)),
+        }
+    }
+
+    /// A call that fits no mood, for a relation in any state.
+    #[cfg(feature = "relation")]
+    pub fn wild_call(&mut self, state: &State) -> Call {
+        let mood = std::mem::replace(&mut self.mood, Mood::Wild);
+        let call = self.call(state);
+        self.mood = mood;
+        call
+    }
+
+    /// Follows an honest list: what the wires of an accepted call are worth.
+    pub fn note(&mut self, call: &Call, answer: &Answer) {
+        if self.mood != Mood::Honest || answer.number != 0 {
+            return;
+        }
+        match call {
+            Call::Allocate(count) => {
+                for _ in 0..*count {
+                    let value = self.rng.unit();
+                    self.table.push(value);
+                }
+            }
+            Call::AllocateWith(values) => {
+                let first = self.table.len() as u32;
+                self.known.extend(first..first + values.len() as u32);
+                self.table.extend(values);
+            }
+            Call::Set(var, _) => {
+                self.known.insert(*var);
+            }
+            Call::SetList(vars, _) => self.known.extend(vars),
+            Call::Record(input, output) => {
+                self.known.extend(input);
+                self.known.extend(output);
+            }
+            Call::Mint(input) => {
+                let values: Vec<u32> = input.iter().map(|&var| self.table[var as usize]).collect();
+                let first = self.table.len() as u32;
+                self.known.extend(input);
+                self.known.extend(first..first + self.width);
+                self.table.extend(self.sheet.permute(&values));
+            }
+            Call::Equation(..) | Call::Value(_) | Call::IsAllocated(_) => {}
+        }
+    }
+
+    fn count(&mut self, state: &State) -> u32 {
+        let rng = &mut self.rng;
+        if self.mood != Mood::Wild || !rng.once_in(4) {
+            return rng.below(6) as u32;
+        }
+        // Just what the store or the limit still takes, or one more.
+        let room = (state.slots.len() as u32).wrapping_sub(state.rel.vars_count);
+        let left = MAX_COUNT.wrapping_sub(state.rel.vars_count);
+        match rng.below(5) {
+            0 => room,
+            1 => room.wrapping_add(1),
+            2 => left,
+            3 => left.wrapping_add(1),
+            _ => rng.edge(),
+        }
+    }
+
+    fn var(&mut self, state: &State) -> u32 {
+        let vars_count = state.rel.vars_count;
+        let rng = &mut self.rng;
+        if self.mood == Mood::Wild {
+            match rng.below(12) {
+                0 => return rng.edge(),
+                1 => return vars_count,
+                2 => return vars_count.wrapping_add(rng.below(30) as u32),
+                3 => return vars_count.wrapping_sub(1),
+                _ => {}
+            }
+        }
+        // A handful of wires, so that repeats and conflicts come about.
+        let last = vars_count.clamp(1, 1000) as usize;
+        if rng.once_in(2) {
+            rng.below(last.min(6)) as u32
+        } else {
+            rng.below(last) as u32
+        }
+    }
+
+    fn unit(&mut self) -> u32 {
+        if self.mood == Mood::Wild && self.rng.once_in(10) {
+            self.rng.edge()
+        } else {
+            self.rng.unit()
+        }
+    }
+
+    /// As many wires as the width, or in a wild list now and then not quite.
+    fn vars(&mut self, state: &State) -> Vec<u32> {
+        let width = self.width as usize;
+        let len = if self.mood == Mood::Wild && self.rng.once_in(10) {
+            *self.rng.pick(&[0, width - 1, width + 1, 2 * width])
+        } else {
+            width
+        };
+        (0..len).map(|_| self.var(state)).collect()
+    }
+
+    fn assignment(&mut self, state: &State) -> (u32, u32) {
+        let var = self.var(state);
+        if self.mood == Mood::Honest {
+            return (var, self.table[var as usize]);
+        }
+        let slot = state.slots.get(var as usize).copied();
+        match slot {
+            // The same value again is accepted.
+            Some(value) if value < P && self.rng.once_in(2) => (var, value),
+            _ => (var, self.unit()),
+        }
+    }
+
+    fn allocate_with(&mut self) -> Call {
+        let len = self.rng.below(4);
+        Call::AllocateWith((0..len).map(|_| self.rng.unit()).collect())
+    }
+
+    fn set_list(&mut self, state: &State) -> Call {
+        let len = self.rng.below(6);
+        let (mut vars, mut values) = (Vec::new(), Vec::new());
+        for _ in 0..len {
+            let (var, value) = match vars.len() {
+                // An earlier pair of this very list, with its value or another.
+                1.. if self.mood != Mood::Honest && self.rng.once_in(4) => {
+                    let i = self.rng.below(vars.len());
+                    let value = if self.rng.once_in(4) {
+                        self.unit()
+                    } else {
+                        values[i]
+                    };
+                    (vars[i], value)
+                }
+                _ => self.assignment(state),
+            };
+            vars.push(var);
+            values.push(value);
+        }
+        if self.mood == Mood::Wild && self.rng.once_in(5) {
+            for _ in 0..self.rng.between(1, 3) {
+                let list = if self.rng.once_in(2) {
+                    &mut vars
+                } else {
+                    &mut values
+                };
+                list.push(self.rng.edge());
+            }
+        }
+        Call::SetList(vars, values)
+    }
+
+    fn record(&mut self, state: &State) -> Call {
+        if self.mood != Mood::Honest {
+            return Call::Record(self.vars(state), self.vars(state));
+        }
+        // An honest query is one that was made before: its outputs are right.
+        let size = 2 * self.width as usize;
+        let (_, held, _) = state.held();
+        if held.is_empty() {
+            return Call::Mint(self.vars(state));
+        }
+        let at = self.rng.below(held.len() / size) * size;
+        let (input, output) = held[at..at + size].split_at(size / 2);
+        Call::Record(input.to_vec(), output.to_vec())
+    }
+
+    fn equation(&mut self, state: &State) -> Call {
+        let len = match self.rng.below(8) {
+            0 => 0,
+            1..=5 => self.rng.between(1, 3),
+            _ => self.rng.between(1, 9),
+        };
+        if self.mood != Mood::Honest {
+            let terms = (0..len).map(|_| {
+                let weight = if self.rng.once_in(4) { 0 } else { self.unit() };
+                (self.var(state), weight)
+            });
+            let terms = terms.collect();
+            return Call::Equation(terms, self.unit());
+        }
+        let known: Vec<u32> = self.known.iter().copied().collect();
+        let mut image = 0;
+        let mut terms = Vec::new();
+        for _ in 0..len {
+            let (var, weight) = (*self.rng.pick(&known), self.rng.unit());
+            let value = self.table[var as usize];
+            image = (image + u64::from(weight) * u64::from(value)) % u64::from(P);
+            terms.push((var, weight));
+        }
+        Call::Equation(terms, image as u32)
+    }
+}
+
+/// A sheet of few rounds, or of as many as there may be.
+pub fn sheet(rng: &mut Rng, width: u32) -> Sheet {
+    let rounds = match rng.below(40) {
+        0 => 128,
+        1..=12 => 0,
+        _ => rng.between(1, 3) as u32,
+    };
+    let mut words = Vec::new();
+    for _ in 0..rounds {
+        words.push(rng.below(2) as u32);
+        words.extend((0..width).map(|_| rng.unit()));
+    }
+    words.extend((0..width * width).map(|_| rng.unit()));
+    Sheet { rounds, words }
+}
+
+/// A label, most of them short.
+pub fn label(rng: &mut Rng) -> String {
+    let len = match rng.below(4) {
+        0 | 1 => 0,
+        2 => rng.below(4),
+        _ => rng.below(30),
+    };
+    let characters = [
+        'a', 'z', '\0', '\u{7F}', '\u{80}', 'µ', '\u{7FF}', '\u{800}', '한',
+    ];
+    let far = [
+        '\u{D7FF}',
+        '\u{E000}',
+        '\u{FFFF}',
+        '\u{10000}',
+        '\u{10FFFF}',
+    ];
+    let mut pick = || {
+        if rng.once_in(3) {
+            *rng.pick(&far)
+        } else {
+            *rng.pick(&characters)
+        }
+    };
+    (0..len).map(|_| pick()).collect()
+}
+
+/// The bytes with one to three faults; `fields` are the places at which words start.
+pub fn damaged(rng: &mut Rng, bytes: &[u8], fields: &[usize]) -> Vec<u8> {
+    let mut bytes = bytes.to_vec();
+    for _ in 0..rng.between(1, 3) {
+        damage(rng, &mut bytes, fields);
+    }
+    bytes
+}
+
+fn damage(rng: &mut Rng, bytes: &mut Vec<u8>, fields: &[usize]) {
+    match rng.below(8) {
+        0 => bytes.truncate(rng.below(bytes.len() + 1)),
+        1 => bytes.extend((0..rng.between(1, 5)).map(|_| rng.byte())),
+        2 if !bytes.is_empty() => {
+            let at = rng.below(bytes.len());
+            bytes[at] = rng.byte();
+        }
+        3 if !bytes.is_empty() => {
+            let at = rng.below(bytes.len());
+            bytes[at] ^= 1 << rng.below(8);
+        }
+        _ => {
+            let at = *rng.pick(fields);
+            if let Some(field) = bytes.get_mut(at..at + 4) {
+                let old = u32::from_le_bytes([field[0], field[1], field[2], field[3]]);
+                let new = match rng.below(5) {
+                    0 => old.wrapping_add(1),
+                    1 => old.wrapping_sub(1),
+                    2 => rng.below(8) as u32,
+                    _ => rng.edge(),
+                };
+                field.copy_from_slice(&new.to_le_bytes());
+            }
+        }
+    }
+}

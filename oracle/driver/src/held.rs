@@ -1,0 +1,161 @@
+//! An instance's record and its stores, with the second reading's calls on them.
+
+use reading::{Instance, Trace};
+
+use crate::{
+    calls::{State, DIRT},
+    source::{Parts, Sheet},
+};
+
+/// An instance as the second reading holds it.
+#[derive(Clone, Debug)]
+pub struct Held {
+    pub ins: Instance,
+    pub label: Vec<u8>,
+    pub publics: Vec<u32>,
+    pub queries: Vec<u32>,
+    pub equations: Vec<u32>,
+}
+
+/// How many words of output stores and scratch are lent.
+#[derive(Clone, Copy, Debug)]
+pub struct Room {
+    pub publics: usize,
+    pub queries: usize,
+    pub equations: usize,
+    pub scratch: usize,
+}
+
+impl Room {
+    /// More than any generated instance takes.
+    pub const AMPLE: Self = Self {
+        publics: 1 << 12,
+        queries: 1 << 12,
+        equations: 1 << 12,
+        scratch: 1 << 12,
+    };
+}
+
+/// The gate on a relation.
+pub fn gate(state: &State, label: &str, room: Room) -> (u32, Held) {
+    let mut publics = vec![DIRT; room.publics];
+    let answer = reading::compile(
+        state.rel,
+        label.as_bytes(),
+        &state.slots,
+        &state.queries,
+        &state.equations,
+        &mut publics,
+        &mut vec![DIRT; room.scratch],
+    );
+    let held = Held {
+        ins: answer.instance,
+        label: label.as_bytes().to_vec(),
+        publics,
+        queries: state.queries.clone(),
+        equations: state.equations.clone(),
+    };
+    (answer.number, held)
+}
+
+/// An SFRI read.
+pub fn read(width: u32, bytes: &[u8], room: Room) -> (u32, Held) {
+    let mut publics = vec![DIRT; room.publics];
+    let mut queries = vec![DIRT; room.queries];
+    let mut equations = vec![DIRT; room.equations];
+    let answer = reading::instance_from_bytes(
+        width,
+        bytes,
+        &mut publics,
+        &mut queries,
+        &mut equations,
+        &mut vec![DIRT; room.scratch],
+    );
+    let held = Held {
+        ins: answer.instance,
+        label: answer.label.to_vec(),
+        publics,
+        queries,
+        equations,
+    };
+    (answer.number, held)
+}
+
+/// An SFRW read: the number and the held words.
+pub fn read_witness(width: u32, bytes: &[u8], room: usize) -> (u32, Vec<u32>) {
+    let mut trace = vec![DIRT; room];
+    let answer = reading::witness_from_bytes(width, bytes, &mut trace);
+    let held = 2 * answer.trace.width as usize * answer.trace.steps as usize;
+    trace.truncate(held);
+    (answer.number, trace)
+}
+
+/// An SFRW write into so many bytes: the number and the bytes written.
+pub fn write_witness(rec: Trace, trace: &[u32], room: usize) -> (u32, Vec<u8>) {
+    let mut out = vec![0xEE; room];
+    let written = reading::witness_to_bytes(rec, trace, &mut out);
+    out.truncate(written.len);
+    (written.number, out)
+}
+
+impl Held {
+    /// The instance that these parts make, gated or not.
+    pub fn from_parts(width: u32, parts: &Parts) -> Self {
+        let equations = parts.equation_words();
+        let ins = Instance {
+            width,
+            vars_count: parts.vars_count,
+            queries: (parts.queries.len() / (2 * width as usize)) as u32,
+            equations: parts.equations.len() as u32,
+            words: equations.len() as u32,
+            publics: (parts.publics.len() / 2) as u32,
+        };
+        Self {
+            ins,
+            label: parts.label.clone().into_bytes(),
+            publics: parts.publics.clone(),
+            queries: parts.queries.clone(),
+            equations,
+        }
+    }
+
+    /// The held words of publics, queries and equations.
+    pub fn words(&self) -> (&[u32], &[u32], &[u32]) {
+        let cells = 2 * self.ins.width as usize * self.ins.queries as usize;
+        (
+            &self.publics[..2 * self.ins.publics as usize],
+            &self.queries[..cells],
+            &self.equations[..self.ins.words as usize],
+        )
+    }
+
+    /// An SFRI write into so many bytes: the number and the bytes written.
+    pub fn write(&self, room: usize) -> (u32, Vec<u8>) {
+        let mut out = vec![0xEE; room];
+        let written = reading::instance_to_bytes(
+            self.ins,
+            &self.label,
+            &self.publics,
+            &self.queries,
+            &self.equations,
+            &mut out,
+        );
+        out.truncate(written.len);
+        (written.number, out)
+    }
+
+    /// The check.
+    pub fn check(&self, trace: &[u32], sheet: &Sheet, scratch: usize) -> u32 {
+        reading::is_witness_valid(
+            self.ins,
+            &self.label,
+            &self.publics,
+            &self.queries,
+            &self.equations,
+            (trace.len() / (2 * self.ins.width as usize)) as u32,
+            trace,
+            sheet.reading(),
+            &mut vec![DIRT; scratch],
+        )
+    }
+}

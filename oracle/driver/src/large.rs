@@ -1,0 +1,180 @@
+//! Calls on stores of 2^30 words and of one more, where questions 2, 5 and 10 turn.
+//!
+//! Zeroed pages take no memory until somebody writes to them, so such a store costs little;
+//! only the words at its two ends are compared.
+
+use reading::{Relation, MAX_COUNT};
+
+use crate::{
+    calls::{Call, State},
+    compared::{same, Compared, Seen},
+    library,
+};
+
+const LIMIT: usize = MAX_COUNT as usize;
+
+/// A call on a relation of width 1 with zeroed stores of these lengths.
+struct Case {
+    rel: Relation,
+    lens: [usize; 3],
+    call: Call,
+}
+
+/// One wire, and stores of a few words.
+const REL: Relation = Relation {
+    width: 1,
+    vars_count: 1,
+    queries: 0,
+    equations: 0,
+    words: 0,
+};
+const FEW: usize = 8;
+
+pub fn run(seen: &mut Seen) -> Compared {
+    for cases in [slots(), queries(), equations(), lists()] {
+        for case in cases {
+            compare(case, seen)?;
+        }
+    }
+    for len in [LIMIT, LIMIT + 1] {
+        let (mut library, mut reading) = (zeroed([len, 0, 0]), zeroed([len, 0, 0]));
+        let answer = library::new_relation(&mut library, 1);
+        let number = reading.new_relation(1);
+        seen.answered("fresh", number);
+        let what = format!("fresh over {len} slots");
+        same(&what, ("library", answer.number), ("reading", number))?;
+        same(&what, ("library", library.rel), ("reading", reading.rel))?;
+    }
+    Ok(())
+}
+
+fn zeroed(lens: [usize; 3]) -> State {
+    let [slots, queries, equations] = lens.map(|len| vec![0; len]);
+    State {
+        rel: REL,
+        slots,
+        queries,
+        equations,
+    }
+}
+
+fn slots() -> Vec<Case> {
+    let mut cases = Vec::new();
+    let all = LIMIT as u32;
+    for (len, vars_count) in [(LIMIT + 1, 1), (LIMIT, all), (LIMIT, all - 1)] {
+        let calls = [
+            Call::Allocate(0),
+            Call::Allocate(1),
+            Call::Allocate(2),
+            Call::Set(all - 1, 0),
+            Call::Set(all - 1, 5),
+            Call::Set(all, 0),
+            Call::SetList(vec![0, all - 2], vec![0, 0]),
+            Call::Mint(vec![0]),
+            Call::Value(all - 1),
+            Call::IsAllocated(all - 1),
+        ];
+        cases.extend(calls.map(|call| Case {
+            rel: Relation { vars_count, ..REL },
+            lens: [len, FEW, FEW],
+            call,
+        }));
+    }
+    cases
+}
+
+fn queries() -> Vec<Case> {
+    let mut cases = Vec::new();
+    let all = LIMIT as u32 / 2;
+    for (len, queries) in [
+        (LIMIT + 1, 0),
+        (LIMIT, all + 1),
+        (LIMIT, all),
+        (LIMIT, all - 1),
+    ] {
+        let calls = [Call::Record(vec![3], vec![4]), Call::Mint(vec![5])];
+        cases.extend(calls.map(|call| Case {
+            rel: Relation { queries, ..REL },
+            lens: [FEW, len, FEW],
+            call,
+        }));
+    }
+    cases
+}
+
+fn equations() -> Vec<Case> {
+    let mut cases = Vec::new();
+    let all = LIMIT as u32;
+    let counts = [
+        (LIMIT + 1, 0, 0),
+        (LIMIT, all / 2, 0),
+        (LIMIT, all / 2 + 1, 0),
+        (LIMIT, 0, all),
+        (LIMIT, 0, all - 1),
+        (LIMIT, 0, all - 2),
+        (LIMIT, 0, all - 4),
+    ];
+    for (len, equations, words) in counts {
+        let calls = [Call::Equation(vec![], 7), Call::Equation(vec![(3, 4)], 7)];
+        cases.extend(calls.map(|call| Case {
+            rel: Relation {
+                equations,
+                words,
+                ..REL
+            },
+            lens: [FEW, FEW, len],
+            call,
+        }));
+    }
+    cases
+}
+
+/// Lists handed in are word stores too.
+fn lists() -> Vec<Case> {
+    let long = || vec![0; LIMIT + 1];
+    let calls = [
+        Call::SetList(long(), vec![]),
+        Call::SetList(vec![0], long()),
+        Call::Record(long(), vec![0]),
+        Call::Record(vec![0], long()),
+        Call::Mint(long()),
+    ];
+    let cases = calls.into_iter().map(|call| Case {
+        rel: REL,
+        lens: [FEW; 3],
+        call,
+    });
+    cases.collect()
+}
+
+fn compare(case: Case, seen: &mut Seen) -> Compared {
+    let (mut library, mut reading) = (zeroed(case.lens), zeroed(case.lens));
+    library.rel = case.rel;
+    reading.rel = case.rel;
+    let given = library::run(&mut library, &case.call);
+    let expected = reading.run(&case.call);
+    seen.answered(case.call.name(), expected.number);
+    let (name, lens) = (case.call.name(), case.lens);
+    let what = format!("{name} on {:?} with stores of {lens:?} words", case.rel);
+    same(&what, ("library", given), ("reading", expected))?;
+    same(&what, ("library", library.rel), ("reading", reading.rel))?;
+    let stores = [
+        (&library.slots, &reading.slots),
+        (&library.queries, &reading.queries),
+        (&library.equations, &reading.equations),
+    ];
+    for (library, reading) in stores {
+        same(
+            &what,
+            ("library", ends(library)),
+            ("reading", ends(reading)),
+        )?;
+    }
+    Ok(())
+}
+
+/// The first and the last words of a store.
+fn ends(store: &[u32]) -> (&[u32], &[u32]) {
+    let few = store.len().min(FEW);
+    (&store[..few], &store[store.len() - few..])
+}

@@ -1,0 +1,208 @@
+//! `leaves`: the proved library's leaves beside the standard library: units, UTF-8, words
+//! in bytes, and items read into a store.
+
+use crate::{
+    calls::DIRT,
+    compared::{same, Compared},
+    leaf::{self, Item, Kind, ROW_ENDS},
+    options::Options,
+    rng::{Rng, EDGES},
+};
+
+/// What was compared, for the last line.
+#[derive(Default)]
+struct Counts {
+    pairs: u64,
+    texts: u64,
+    words: u64,
+    items: u64,
+}
+
+/// A million random cases of each kind where no count is given.
+const COUNT: u64 = 1_000_000;
+
+pub fn run(options: &Options) -> bool {
+    let count = options.count.unwrap_or(COUNT);
+    let mut rng = Rng::new(options.seed);
+    let mut counts = Counts::default();
+    let compared = field(&mut rng, count, &mut counts)
+        .and_then(|()| utf8(&mut rng, count, &mut counts))
+        .and_then(|()| words(&mut rng, count, &mut counts))
+        .and_then(|()| items(&mut rng, count, &mut counts));
+    let seed = options.seed;
+    if let Err(difference) = compared {
+        println!("leaves: a difference, seed {seed}: {}", difference.0);
+        return false;
+    }
+    let Counts {
+        pairs,
+        texts,
+        words,
+        items,
+    } = counts;
+    println!(
+        "leaves: seed {seed}, {pairs} pairs of units added and multiplied, {texts} texts, \
+         {words} words read and written, {items} items, no difference"
+    );
+    true
+}
+
+/// Every two edges, and random pairs, of units and of any words.
+fn field(rng: &mut Rng, count: u64, counts: &mut Counts) -> Compared {
+    for a in EDGES {
+        for b in EDGES {
+            pair(a, b, counts)?;
+        }
+    }
+    for i in 0..count {
+        let (a, b) = match i % 4 {
+            0 => (rng.word(), rng.word()),
+            1 => (rng.edge(), rng.word()),
+            _ => (rng.unit(), rng.word() % reading::P),
+        };
+        pair(a, b, counts)?;
+    }
+    Ok(())
+}
+
+fn pair(a: u32, b: u32, counts: &mut Counts) -> Compared {
+    counts.pairs += 1;
+    let library = (sfr::add(a, b), sfr::mul(a, b));
+    let expected = (leaf::add(a, b), leaf::mul(a, b));
+    if library == expected {
+        return Ok(());
+    }
+    let what = format!("sum and product of {a} and {b}");
+    same(&what, ("library", library), ("standard", expected))
+}
+
+/// Every string of up to 3 bytes, every one of 4 row ends, and random longer ones.
+fn utf8(rng: &mut Rng, count: u64, counts: &mut Counts) -> Compared {
+    text(&[], counts)?;
+    for a in 0..=255 {
+        text(&[a], counts)?;
+        for b in 0..=255 {
+            text(&[a, b], counts)?;
+            for c in 0..=255 {
+                text(&[a, b, c], counts)?;
+            }
+        }
+    }
+    for a in ROW_ENDS {
+        for b in ROW_ENDS {
+            for c in ROW_ENDS {
+                for d in ROW_ENDS {
+                    text(&[a, b, c, d], counts)?;
+                }
+            }
+        }
+    }
+    for _ in 0..count {
+        text(&leaf::random_text(rng), counts)?;
+    }
+    Ok(())
+}
+
+fn text(bytes: &[u8], counts: &mut Counts) -> Compared {
+    counts.texts += 1;
+    let (library, expected) = (sfr::is_utf8(bytes), leaf::is_utf8(bytes));
+    if library == expected {
+        return Ok(());
+    }
+    let what = format!("UTF-8, {bytes:02X?}");
+    same(&what, ("library", library), ("standard", expected))
+}
+
+/// Places within, at the end of and far beyond short strings of bytes.
+fn words(rng: &mut Rng, count: u64, counts: &mut Counts) -> Compared {
+    for len in 0..=9 {
+        for at in (0..=12).chain(usize::MAX - 12..=usize::MAX) {
+            word(rng, len, at, counts)?;
+        }
+    }
+    for _ in 0..count {
+        let len = rng.below(20);
+        let at = rng.below(len + 3);
+        word(rng, len, at, counts)?;
+    }
+    Ok(())
+}
+
+fn word(rng: &mut Rng, len: usize, at: usize, counts: &mut Counts) -> Compared {
+    counts.words += 1;
+    let bytes: Vec<u8> = (0..len).map(|_| rng.byte()).collect();
+    let held = leaf::word_at(&bytes, at as u128);
+    let library = sfr::read_u32(&bytes, at);
+    let expected = match held {
+        None => (20, 0, at),
+        Some(word) => (0, word, at + 4),
+    };
+    let given = (library.number, library.value, library.next);
+    let what = format!("word at {at} of {bytes:02X?}");
+    same(&what, ("library", given), ("standard", expected))?;
+
+    let value = rng.edge();
+    let mut out = bytes.clone();
+    let library = sfr::put_u32(&mut out, at, value);
+    let mut left = bytes;
+    let expected = match held {
+        None => (10, at),
+        Some(_) => {
+            left[at..at + 4].copy_from_slice(&value.to_le_bytes());
+            (0, at + 4)
+        }
+    };
+    let given = (library.number, library.next);
+    let what = format!("{value} written at {at} of {len} bytes");
+    same(
+        &what,
+        ("library", (given, out)),
+        ("standard", (expected, left)),
+    )
+}
+
+/// Random items, and ones whose places or count no store has.
+fn items(rng: &mut Rng, count: u64, counts: &mut Counts) -> Compared {
+    let far = [0, 1, usize::MAX - 4, usize::MAX - 3, usize::MAX];
+    for kind in [Kind::Units, Kind::Vars] {
+        for at in far {
+            for place in far {
+                for n in [0, 1, 2, u32::MAX] {
+                    let item = Item {
+                        kind,
+                        bytes: vec![1, 0, 0, 0, 1, 0, 0, 0],
+                        at,
+                        out_len: 2,
+                        place,
+                        n,
+                    };
+                    self::item(&item, counts)?;
+                }
+            }
+        }
+    }
+    for _ in 0..count {
+        item(&Item::random(rng), counts)?;
+    }
+    Ok(())
+}
+
+fn item(item: &Item, counts: &mut Counts) -> Compared {
+    counts.items += 1;
+    let mut out = vec![DIRT; item.out_len];
+    let read = match item.kind {
+        Kind::Units => sfr::read_units,
+        Kind::Vars => sfr::read_vars,
+    };
+    let library = read(&item.bytes, item.at, &mut out, item.place, item.n);
+    let given = (library.number, library.next, out);
+    let expected = item.read(DIRT);
+    if given == expected {
+        return Ok(());
+    }
+    same(
+        &format!("{item:?}"),
+        ("library", given),
+        ("standard", expected),
+    )
+}

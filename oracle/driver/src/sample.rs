@@ -1,0 +1,168 @@
+//! `sample`: cases for a proved program to replay, written to standard output.
+//!
+//! The file is a stream of u32 words, little-endian. A case is its operation, what is
+//! handed in, and what is expected, which comes from the standard library (`leaf.rs`) and
+//! never from the proved one:
+//!
+//! ```text
+//! 1 add          a b  sum
+//! 2 multiply     a b  product
+//! 3 UTF-8        len bytes  0 or 1
+//! 4 read a word  len bytes at  number value
+//! 5 read an item kind len bytes at out_len place n  number next out
+//! 0 end of the file
+//! ```
+//!
+//! `bytes` is `len` bytes packed into words, the first byte lowest, the last word filled up
+//! with zeros. `kind` is 0 for units and 1 for wires. `next` is the byte after the item, or
+//! `at` after a refusal; `out` is all `out_len` words that the item leaves in a store that
+//! held 0xABABABAB throughout.
+
+use std::io::{self, Write};
+
+use crate::{
+    calls::DIRT,
+    leaf::{self, Item, Kind, ROW_ENDS},
+    options::Options,
+    rng::{Rng, EDGES},
+};
+
+/// Random cases where no count is given: with the fixed ones they stay below 200 KB.
+const COUNT: u64 = 2_500;
+
+pub fn run(options: &Options) -> bool {
+    let mut rng = Rng::new(options.seed);
+    let mut sample = Sample::default();
+    sample.fixed();
+    for _ in 0..options.count.unwrap_or(COUNT) {
+        sample.random(&mut rng);
+    }
+    sample.words.push(0);
+    let bytes: Vec<u8> = sample
+        .words
+        .iter()
+        .flat_map(|word| word.to_le_bytes())
+        .collect();
+    if let Err(error) = io::stdout().write_all(&bytes) {
+        eprintln!("sample: {error}");
+        return false;
+    }
+    let (cases, seed) = (sample.cases, options.seed);
+    eprintln!("sample: seed {seed}, {cases} cases, {} bytes", bytes.len());
+    true
+}
+
+#[derive(Default)]
+struct Sample {
+    words: Vec<u32>,
+    cases: u64,
+}
+
+impl Sample {
+    fn case(&mut self, operation: u32) {
+        self.cases += 1;
+        self.words.push(operation);
+    }
+
+    /// The length and the packed bytes.
+    fn bytes(&mut self, bytes: &[u8]) {
+        self.words.push(bytes.len() as u32);
+        for chunk in bytes.chunks(4) {
+            let mut packed = [0; 4];
+            packed[..chunk.len()].copy_from_slice(chunk);
+            self.words.push(u32::from_le_bytes(packed));
+        }
+    }
+
+    fn add(&mut self, a: u32, b: u32) {
+        self.case(1);
+        self.words.extend([a, b, leaf::add(a, b)]);
+    }
+
+    fn mul(&mut self, a: u32, b: u32) {
+        self.case(2);
+        self.words.extend([a, b, leaf::mul(a, b)]);
+    }
+
+    fn utf8(&mut self, bytes: &[u8]) {
+        self.case(3);
+        self.bytes(bytes);
+        self.words.push(u32::from(leaf::is_utf8(bytes)));
+    }
+
+    fn word(&mut self, bytes: &[u8], at: u32) {
+        self.case(4);
+        self.bytes(bytes);
+        let (number, value) = match leaf::word_at(bytes, u128::from(at)) {
+            None => (20, 0),
+            Some(value) => (0, value),
+        };
+        self.words.extend([at, number, value]);
+    }
+
+    fn item(&mut self, item: &Item) {
+        self.case(5);
+        self.words.push(match item.kind {
+            Kind::Units => 0,
+            Kind::Vars => 1,
+        });
+        self.bytes(&item.bytes);
+        let (at, out_len, place) = (item.at as u32, item.out_len as u32, item.place as u32);
+        self.words.extend([at, out_len, place, item.n]);
+        let (number, next, out) = item.read(DIRT);
+        self.words.extend([number, next as u32]);
+        self.words.extend(out);
+    }
+
+    /// The cases that every sample has: edges, rows, document 01's and RFC 3629's examples.
+    fn fixed(&mut self) {
+        for a in EDGES {
+            for b in EDGES {
+                if a <= b {
+                    self.add(a, b);
+                    self.mul(a, b);
+                }
+            }
+        }
+        self.utf8(&[]);
+        for a in ROW_ENDS {
+            self.utf8(&[a]);
+            for b in ROW_ENDS {
+                self.utf8(&[a, b]);
+            }
+        }
+        let texts: [&[u8]; 8] = [
+            b"\xF4\x8F\xBF\xBF",
+            b"\xED\xA0\x80",
+            b"\x41\xE2\x89\xA2\xCE\x91\x2E",
+            b"\xED\x95\x9C\xEA\xB5\xAD\xEC\x96\xB4",
+            b"\xE6\x97\xA5\xE6\x9C\xAC\xE8\xAA\x9E",
+            b"\xEF\xBB\xBF\xF0\xA3\x8E\xB4",
+            b"\xED\xA1\x8C\xED\xBE\xB4",
+            b"\x2F\xC0\xAE\x2E\x2F",
+        ];
+        for text in texts {
+            self.utf8(text);
+        }
+        let bytes = [0xFF, 0x01, 0x02, 0x80, 0x7F, 0x00, 0x10];
+        for len in 0..=bytes.len() {
+            for at in (0..9).chain([u32::MAX - 4, u32::MAX - 3, u32::MAX]) {
+                self.word(&bytes[..len], at);
+            }
+        }
+    }
+
+    fn random(&mut self, rng: &mut Rng) {
+        match rng.below(12) {
+            0 | 1 => self.add(rng.edge(), rng.word()),
+            2 | 3 => self.mul(rng.edge(), rng.word()),
+            4..=6 => self.utf8(&leaf::random_text(rng)),
+            7 => self.utf8(&[0; 3].map(|_: u8| *rng.pick(&ROW_ENDS))),
+            8 => {
+                let bytes: Vec<u8> = (0..rng.below(12)).map(|_| rng.byte()).collect();
+                self.word(&bytes, rng.below(bytes.len() + 3) as u32);
+            }
+            _ => self.item(&Item::random(rng)),
+        }
+    }
+}

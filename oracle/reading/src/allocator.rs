@@ -1,0 +1,131 @@
+//! Wires and their slots (the source's `allocator.rs`).
+
+use crate::{
+    questions::{
+        ask, ask_room_for_vars, ask_slots, has_vars, is_store, is_unit, is_var, is_width,
+        number_of, Asked,
+    },
+    Flag, Relation, RelationAnswer, Tally, Value, UNASSIGNED,
+};
+
+/// A relation with one wire, which has the value 0 (01: fresh). Questions 1, 2, 6.
+pub fn new(width: u32, slots: &mut [u32]) -> RelationAnswer {
+    match ask_new(width, slots) {
+        Err(number) => RelationAnswer {
+            number,
+            first: 0,
+            relation: Relation::default(),
+        },
+        Ok(()) => {
+            slots[0] = 0;
+            let relation = Relation {
+                width,
+                vars_count: 1,
+                ..Relation::default()
+            };
+            RelationAnswer {
+                number: 0,
+                first: 0,
+                relation,
+            }
+        }
+    }
+}
+
+fn ask_new(width: u32, slots: &[u32]) -> Asked {
+    ask(1, is_width(width))?;
+    ask(2, is_store(slots))?;
+    ask(6, !slots.is_empty())
+}
+
+/// The next `count` wires, unassigned (01: allocate). Questions 1, 2, 5, 6.
+pub fn allocate_vars(rel: Relation, slots: &mut [u32], count: u32) -> RelationAnswer {
+    let asked = ask_slots(&rel, slots).and_then(|()| ask_room_for_vars(&rel, slots, count));
+    if let Err(number) = asked {
+        return RelationAnswer {
+            number,
+            first: 0,
+            relation: rel,
+        };
+    }
+    let relation = Relation {
+        vars_count: rel.vars_count + count,
+        ..rel
+    };
+    slots[rel.vars_count as usize..relation.vars_count as usize].fill(UNASSIGNED);
+    RelationAnswer {
+        number: 0,
+        first: rel.vars_count,
+        relation,
+    }
+}
+
+/// Assigns a wire (01: set). Questions 1, 2, 3, 4, 7, 8.
+pub fn set_var(rel: Relation, slots: &mut [u32], var: u32, value: u32) -> u32 {
+    let asked = ask_slots(&rel, slots).and_then(|()| set_pair(rel, slots, var, value));
+    number_of(asked)
+}
+
+/// 3, 4, 7 and 8 put to one pair; its slot is written where all of them say yes.
+fn set_pair(rel: Relation, slots: &mut [u32], var: u32, value: u32) -> Asked {
+    ask(3, is_var(var))?;
+    ask(4, is_unit(value))?;
+    ask(7, var < rel.vars_count)?;
+    let slot = &mut slots[var as usize];
+    ask(8, *slot == UNASSIGNED || *slot == value)?;
+    *slot = value;
+    Ok(())
+}
+
+/// Assigns the common pairs of two lists in order, up to the first refused one, and then
+/// asks whether the lists have one length (01: set list).
+pub fn set_vars(rel: Relation, slots: &mut [u32], vars: &[u32], values: &[u32]) -> Tally {
+    let mut accepted = 0;
+    let number = number_of(set_pairs(rel, slots, vars, values, &mut accepted));
+    Tally { number, accepted }
+}
+
+fn set_pairs(
+    rel: Relation,
+    slots: &mut [u32],
+    vars: &[u32],
+    values: &[u32],
+    accepted: &mut u32,
+) -> Asked {
+    ask_slots(&rel, slots)?;
+    ask(2, is_store(vars) && is_store(values))?;
+    for (&var, &value) in vars.iter().zip(values) {
+        set_pair(rel, slots, var, value)?;
+        *accepted += 1;
+    }
+    ask(9, vars.len() == values.len())
+}
+
+/// The value of a wire: its slot, none at F or beyond the count. Questions 1, 2, 3; what
+/// the slot holds isn't judged, so it may be a word that is no unit.
+pub fn value(rel: Relation, slots: &[u32], var: u32) -> Value {
+    let asked = ask_slots(&rel, slots).and_then(|()| ask(3, is_var(var)));
+    let value = match asked {
+        Ok(()) if var < rel.vars_count => Some(slots[var as usize]),
+        _ => None,
+    };
+    Value {
+        number: number_of(asked),
+        value: value.filter(|&word| word != UNASSIGNED),
+    }
+}
+
+/// Whether a wire is allocated. Questions 1, 2, 3.
+pub fn is_allocated(rel: Relation, var: u32) -> Flag {
+    let number = number_of(ask_is_allocated(rel, var));
+    Flag {
+        number,
+        yes: number == 0 && var < rel.vars_count,
+    }
+}
+
+fn ask_is_allocated(rel: Relation, var: u32) -> Asked {
+    ask(1, is_width(rel.width))?;
+    ask(2, has_vars(&rel))?;
+    ask(3, is_var(var))
+}

@@ -1,0 +1,110 @@
+//! A second reading of document 01, call by call: what every call answers and what it
+//! leaves in each store it was lent, on every input, refused ones included.
+//!
+//! Written from the document alone, beside neither the source nor the proved code, and
+//! plain rather than fast: held words are decoded into lists of pairs, cells and terms,
+//! the questions are put in the document's order, and a call acts only after the last
+//! of them said yes. Where the document leaves a choice open, the comment at the place
+//! says which one is taken.
+//!
+//! Names are the source's where it has them. A call's answer carries its number, 0 for
+//! yes; what else an answer has is 0 (or empty, or the record handed in) after a refusal.
+
+mod allocator;
+mod encoding;
+mod field;
+mod held;
+mod instance;
+mod questions;
+mod relation;
+mod utf8;
+mod witness;
+
+#[cfg(test)]
+mod tests;
+
+pub use allocator::{allocate_vars, is_allocated, new, set_var, set_vars, value};
+pub use encoding::{
+    instance_from_bytes, instance_to_bytes, witness_from_bytes, witness_to_bytes, InstanceRead,
+    TraceAnswer, Written,
+};
+pub use field::{add, mul};
+pub use instance::{compile, heading, public_value, InstanceAnswer};
+pub use relation::{add_equation, add_permutation, allocate_permutation, scale};
+pub use utf8::is_utf8;
+pub use witness::{append_step, evaluate_step, is_witness_valid, permute, Sheet};
+
+/// The order of the field: a unit is a word below it.
+pub const P: u32 = 2_013_265_921;
+/// The mark of an unassigned wire in its slot (01: F).
+pub const UNASSIGNED: u32 = u32::MAX;
+/// How many wires a relation and how many words a lent store may have; a wire is a word
+/// below it.
+pub const MAX_COUNT: u32 = 1 << 30;
+
+/// A relation's record: its width and four counts.
+#[derive(Clone, Copy, Debug, Default, PartialEq, Eq)]
+pub struct Relation {
+    pub width: u32,
+    pub vars_count: u32,
+    pub queries: u32,
+    pub equations: u32,
+    /// The used words of the equation store.
+    pub words: u32,
+}
+
+/// An instance's record: a relation's, and the count of its publics.
+#[derive(Clone, Copy, Debug, Default, PartialEq, Eq)]
+pub struct Instance {
+    pub width: u32,
+    pub vars_count: u32,
+    pub queries: u32,
+    pub equations: u32,
+    pub words: u32,
+    pub publics: u32,
+}
+
+/// A trace's record.
+#[derive(Clone, Copy, Debug, Default, PartialEq, Eq)]
+pub struct Trace {
+    pub width: u32,
+    pub steps: u32,
+}
+
+/// A wire with its weight, one term of an equation.
+#[derive(Clone, Copy, Debug, Default, PartialEq, Eq)]
+pub struct Weighted {
+    pub var: u32,
+    pub weight: u32,
+}
+
+/// The answer of a call that returns a relation's record. `first` is the wire that an
+/// allocation answers.
+#[derive(Clone, Copy, Debug, PartialEq, Eq)]
+pub struct RelationAnswer {
+    pub number: u32,
+    pub first: u32,
+    pub relation: Relation,
+}
+
+/// The answer of a set list: how many of its first pairs were accepted stands beside the
+/// number, after a refusal too.
+#[derive(Clone, Copy, Debug, PartialEq, Eq)]
+pub struct Tally {
+    pub number: u32,
+    pub accepted: u32,
+}
+
+/// The answer to "which value has this wire".
+#[derive(Clone, Copy, Debug, PartialEq, Eq)]
+pub struct Value {
+    pub number: u32,
+    pub value: Option<u32>,
+}
+
+/// The answer to "is this wire allocated".
+#[derive(Clone, Copy, Debug, PartialEq, Eq)]
+pub struct Flag {
+    pub number: u32,
+    pub yes: bool,
+}

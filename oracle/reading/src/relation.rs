@@ -1,0 +1,161 @@
+//! Recording queries and equations (the source's `permutation.rs`, first half, and
+//! `expr.rs`).
+
+use crate::{
+    field::mul,
+    questions::{
+        are_vars, ask, ask_room_for_vars, ask_slots, equations_fit, fits, has_vars, is_list,
+        is_store, is_unit, is_var, is_width, Asked,
+    },
+    Relation, RelationAnswer, Weighted, UNASSIGNED,
+};
+
+fn refused(number: u32, relation: Relation) -> RelationAnswer {
+    RelationAnswer {
+        number,
+        first: 0,
+        relation,
+    }
+}
+
+/// Stores a query; its wires needn't be allocated (01: record). Questions 1, 2, 9, 3, 10.
+pub fn add_permutation(
+    rel: Relation,
+    queries: &mut [u32],
+    input: &[u32],
+    output: &[u32],
+) -> RelationAnswer {
+    if let Err(number) = ask_add_permutation(&rel, queries, input, output) {
+        return refused(number, rel);
+    }
+    push_query(&rel, queries, input, output);
+    RelationAnswer {
+        number: 0,
+        first: 0,
+        relation: Relation {
+            queries: rel.queries + 1,
+            ..rel
+        },
+    }
+}
+
+fn ask_add_permutation(rel: &Relation, queries: &[u32], input: &[u32], output: &[u32]) -> Asked {
+    ask(1, is_width(rel.width))?;
+    ask(2, is_store(queries) && is_store(input) && is_store(output))?;
+    ask(2, has_vars(rel) && queries_fit(rel, queries))?;
+    ask(9, is_list(rel.width, input) && is_list(rel.width, output))?;
+    ask(3, are_vars(input) && are_vars(output))?;
+    ask_room_for_query(rel, queries)
+}
+
+fn queries_fit(rel: &Relation, queries: &[u32]) -> bool {
+    fits(rel.queries, 2 * rel.width, queries)
+}
+
+/// 10: room for one query more. The count is at most 2^29 here, by question 2.
+fn ask_room_for_query(rel: &Relation, queries: &[u32]) -> Asked {
+    ask(10, fits(rel.queries + 1, 2 * rel.width, queries))
+}
+
+fn push_query(rel: &Relation, queries: &mut [u32], input: &[u32], output: &[u32]) {
+    let width = rel.width as usize;
+    let place = 2 * width * rel.queries as usize;
+    queries[place..place + width].copy_from_slice(input);
+    queries[place + width..place + 2 * width].copy_from_slice(output);
+}
+
+/// Allocates the outputs and stores the query, or does neither (01: mint). Questions 1, 2,
+/// 9, 3, 5, 6, 10.
+pub fn allocate_permutation(
+    rel: Relation,
+    slots: &mut [u32],
+    queries: &mut [u32],
+    input: &[u32],
+) -> RelationAnswer {
+    if let Err(number) = ask_allocate_permutation(&rel, slots, queries, input) {
+        return refused(number, rel);
+    }
+    let first = rel.vars_count;
+    let relation = Relation {
+        vars_count: first + rel.width,
+        queries: rel.queries + 1,
+        ..rel
+    };
+    let output: Vec<u32> = (first..relation.vars_count).collect();
+    slots[first as usize..relation.vars_count as usize].fill(UNASSIGNED);
+    push_query(&rel, queries, input, &output);
+    RelationAnswer {
+        number: 0,
+        first,
+        relation,
+    }
+}
+
+fn ask_allocate_permutation(
+    rel: &Relation,
+    slots: &[u32],
+    queries: &[u32],
+    input: &[u32],
+) -> Asked {
+    ask_slots(rel, slots)?;
+    ask(2, is_store(queries) && is_store(input))?;
+    ask(2, queries_fit(rel, queries))?;
+    ask(9, is_list(rel.width, input))?;
+    ask(3, are_vars(input))?;
+    ask_room_for_vars(rel, slots, rel.width)?;
+    ask_room_for_query(rel, queries)
+}
+
+/// Stores an equation, its terms in order, repeats and zero weights kept (01: equation).
+/// Questions 1, 2, 3, 4, 10: every wire is asked about before any unit is.
+pub fn add_equation(
+    rel: Relation,
+    equations: &mut [u32],
+    terms: &[Weighted],
+    image: u32,
+) -> RelationAnswer {
+    if let Err(number) = ask_add_equation(&rel, equations, terms, image) {
+        return refused(number, rel);
+    }
+    // The equation fits a store of at most 2^30 words, so its term count is a word.
+    let mut words = vec![terms.len() as u32];
+    words.extend(terms.iter().flat_map(|term| [term.var, term.weight]));
+    words.push(image);
+    let place = rel.words as usize;
+    equations[place..place + words.len()].copy_from_slice(&words);
+    RelationAnswer {
+        number: 0,
+        first: 0,
+        relation: Relation {
+            equations: rel.equations + 1,
+            words: rel.words + words.len() as u32,
+            ..rel
+        },
+    }
+}
+
+fn ask_add_equation(rel: &Relation, equations: &[u32], terms: &[Weighted], image: u32) -> Asked {
+    ask(1, is_width(rel.width))?;
+    ask(2, is_store(equations) && has_vars(rel))?;
+    ask(2, equations_fit(rel.equations, rel.words, equations))?;
+    ask(3, terms.iter().all(|term| is_var(term.var)))?;
+    ask(4, terms.iter().all(|term| is_unit(term.weight)))?;
+    ask(4, is_unit(image))?;
+    let used = u128::from(rel.words) + 2 + 2 * terms.len() as u128;
+    ask(10, used <= equations.len() as u128)
+}
+
+/// Multiplies every weight of a list (01: scaling). Questions 3, 4, each over the whole
+/// list; the factor is the last unit asked about.
+pub fn scale(terms: &mut [Weighted], factor: u32) -> u32 {
+    if !terms.iter().all(|term| is_var(term.var)) {
+        return 3;
+    }
+    if !terms.iter().all(|term| is_unit(term.weight)) || !is_unit(factor) {
+        return 4;
+    }
+    for term in terms {
+        term.weight = mul(term.weight, factor);
+    }
+    0
+}
