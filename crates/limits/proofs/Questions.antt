@@ -10,7 +10,7 @@ use mathlib.Core.Bool.{Bool, true, false, _&&_}
 use mathlib.Core.List.{List, [], _∷_, _++_}
 use lib.Dec.{T, ltb}
 use lib.ListN.{getD}
-use Rattle.limits.specs.Questions.{pick, ask, _▸_, Question, question, firstNo, onYes}
+use Rattle.limits.specs.Questions.{ask, _▸_, Question, question, firstNo, onYes}
 
 -- ---- one question
 pub ask-yes : (k : ℕ) (b : Bool) → b ≡ true → ask k b ≡ 0
