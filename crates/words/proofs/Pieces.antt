@@ -1,10 +1,10 @@
 -- Pieces of 2w words: whether a store holds them, by half of it; and the pieces that a store begins with.
 -- Assumes nothing.
-use Prim.Native.Nat.{ℕ, _+_, _*_, _/_, _≤_, _<_, _^_}
+use Prim.Native.Nat.{ℕ, zero, suc, _+_, _*_, _/_, _≤_, _<_, _^_}
 use mathlib.Core.Path.{_≡_, refl, sym, ap, _∙_}
 use mathlib.Core.Bool.{Bool, true, false}
 use native.Mathlib.Omega.{arith}
-use native.Mathlib.Nat.{mul-add, add-mul, mul-le-mul-right}
+use native.Mathlib.Nat.{not-suc-le-zero, mul-add, add-mul, mul-le-mul-right}
 use borrow.Author.Tests.{le-leb, lt-leb, leb-true, leb-false}
 use lib.Dec.{leb}
 use Rattle.words.specs.Pieces.{wordsOf}
@@ -35,3 +35,12 @@ one-more-below width n h k =
     let e : n * width + width ≡ (n + 1) * width = rw (add-mul n 1 width) (omega arith) in
     let a : (n + 1) * width ≤ 2 ^ 32 * width = mul-le-mul-right width (omega arith) in
     omega arith
+
+-- one piece more takes 2w words more
+pub wordsOf-suc : (width n : ℕ) → wordsOf width (n + 1) ≡ wordsOf width n + (width + width)
+wordsOf-suc width n = add-mul n 1 (width + width) ∙ omega arith
+
+-- there are no more pieces than words
+pub pieces-few : (width n len : ℕ) → 1 ≤ width → wordsOf width n ≤ len → n ≤ len
+pieces-few zero n len w h = absurd (not-suc-le-zero w)
+pieces-few (suc width) n len w h = omega arith

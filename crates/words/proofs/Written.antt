@@ -38,10 +38,10 @@ module _ (at : ℕ) (a b s : List ℕ) (h : at + (length a + length b) ≤ lengt
       let l = length-append a b in
       let joined : at + length a + length b ≡ at + length (a ++ b) = omega arith in
       let back : drop (at + length a + length b) (t ++ r) ≡ drop (at + length (a ++ b)) s =
-          ap (λ (n : ℕ). drop (n + length b) (t ++ r)) (sym head-length)
-          ∙ drop-append-add t r (length b)
-          ∙ drop-drop (length b) (at + length a) s
-          ∙ ap (λ (n : ℕ). drop n s) joined in
+      ap (λ (n : ℕ). drop (n + length b) (t ++ r)) (sym head-length)
+      ∙ drop-append-add t r (length b)
+      ∙ drop-drop (length b) (at + length a) s
+      ∙ ap (λ (n : ℕ). drop n s) joined in
       ap (putWords (at + length a) b) head
       ∙ ap₂ (λ (u v : List ℕ). u ++ (b ++ v)) (take-at t r (at + length a) head-length) back
       ∙ append-assoc (take at s) a (b ++ drop (at + length (a ++ b)) s)

@@ -74,6 +74,6 @@ pub fn asked_pieces(no: u32, width: u32, n: u32, len: usize, k: u32) -> u32
 pub fn asked_one_more(no: u32, width: u32, n: u32, len: usize, k: u32) -> u32
     ensures { λ r. ⌜ r ≡ no ▸ ask k (leb (wordsOf width (n + 1)) len) ⌝ }
 {
-    let half = n as u64 * width as u64 + width as u64;
-    limits::asked(no, half <= len as u64 / 2, k)
+    let wanted = n as u64 * width as u64 + width as u64;
+    limits::asked(no, wanted <= len as u64 / 2, k)
 }

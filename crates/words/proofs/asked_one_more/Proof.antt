@@ -6,11 +6,11 @@ use borrow.Author.Needs.{needs}
 use Rattle.words.proofs.asked_one_more.Statement.{statement}
 use Rattle.words.proofs.asked_one_more.Tie as tie
 
-mul-half : tie.Need-mul-half
-mul-half c = record { fits = below 32 (search needs) (search needs) }
+mul-wanted : tie.Need-mul-wanted
+mul-wanted c = record { fits = below 32 (search needs) (search needs) }
 
-add-half : tie.Need-add-half
-add-half c =
+add-wanted : tie.Need-add-wanted
+add-wanted c =
     let a = c .args in
     record { fits = one-more-below (a .width) (a .n) (search needs) (search needs) }
 
@@ -23,4 +23,4 @@ returns c =
     rw (c .asked .ensures, one-more-fits (a .width) (a .n) (a .len))
 
 pub asked-one-more-spec : {M : Type 1} → statement M
-asked-one-more-spec = tie.close (tie.spec mul-half add-half asked-requires returns)
+asked-one-more-spec = tie.close (tie.spec mul-wanted add-wanted asked-requires returns)
