@@ -1,0 +1,132 @@
+-- `allocator::set_pairs` meets its contract: what is left of the pairs, done to the slots as they are and
+-- counted from i, comes to the whole.
+-- Assumes nothing.
+use Prim.Native.Nat.{ℕ, _≤_, _-_, _+_}
+use mathlib.Core.Path.{_≡_, refl, sym, ap, _∙_}
+use mathlib.Core.List.{List}
+use mathlib.Core.Logic.{inl, inr}
+use native.Mathlib.Omega.{arith}
+use borrow.Author.Needs.{needs}
+use denote.Ref.{now}
+use lib.ListN.{length, drop, getD}
+use Rattle.allocator.specs.Slots.{pair, pairs, ran, setRun}
+use Rattle.allocator.specs.Assign.{assignedNo}
+use Rattle.allocator.proofs.Assign.{assigned-no}
+use Rattle.allocator.proofs.Run.{pairs-at, pairs-end, counted, from-none, run-ended, run-refused, run-accepted, assign-length, told}
+use Rattle.allocator.proofs.set_pairs.Statement.{statement}
+use Rattle.allocator.proofs.set_pairs.Tie as tie
+
+abbrev Inv-loop : tie.InvT-loop
+Inv-loop count slots₀ vars values i₀ slots i =
+    (i ≤ length vars)
+    × (counted i (setRun count slots (drop i (pairs vars values))) ≡ setRun count slots₀ (pairs vars values))
+    × (length slots ≡ length slots₀)
+
+abbrev μ-loop : tie.MeasureT-loop
+μ-loop count slots₀ vars values i₀ slots i = length vars - i
+
+loop-holds : tie.Need-loop-holds Inv-loop μ-loop
+loop-holds c = (omega arith, from-none _, refl)
+
+same-length : tie.Need-same-length Inv-loop μ-loop
+same-length c = search needs
+
+returns : tie.Need-returns Inv-loop μ-loop
+returns c =
+    let l = c .before .before .loop in
+    let a = c .before .before .before .before .before .before .args in
+    let e = run-ended (a .count) (l .slots) (l .i) _ _ (pairs-end (now (a .vars)) (now (a .values)) (l .i) (inr (c .if1 .taken))) (l .inv .1) in
+    told e
+
+mul-t7 : tie.Need-mul-t7 Inv-loop μ-loop
+mul-t7 c = search needs
+
+shared-slice-read-t13 : tie.Need-shared-slice-read-t13 Inv-loop μ-loop
+shared-slice-read-t13 c = search needs
+
+mul-t15 : tie.Need-mul-t15 Inv-loop μ-loop
+mul-t15 c = search needs
+
+shared-slice-read-t17 : tie.Need-shared-slice-read-t17 Inv-loop μ-loop
+shared-slice-read-t17 c = search needs
+
+assign-var-requires : tie.Need-assign-var-requires Inv-loop μ-loop
+assign-var-requires c κs = search needs
+
+assigned-no-requires : tie.Need-assigned-no-requires Inv-loop μ-loop
+assigned-no-requires c κs = search needs
+
+same-length-2 : tie.Need-same-length-2 Inv-loop μ-loop
+same-length-2 c =
+    let d = c .before .before .before .before in
+    let l = d .before .before .before .before .before .before .loop in
+    ap length (d .assign-var .ensures .1) ∙ assign-length _ (l .slots) _ ∙ l .inv .2
+
+returns-2 : tie.Need-returns-2 Inv-loop μ-loop
+returns-2 c =
+    let d = c .before .before .before .before in
+    let l = d .before .before .before .before .before .before .loop in
+    let a = d .before .before .before .before .before .before .before .before .before .before .args in
+    let vars = now (a .vars) in
+    let values = now (a .values) in
+    let p = pair (getD vars (l .i) 0) (getD values (l .i) 0) in
+    let split = pairs-at vars values (l .i) (d .before .before .before .before .before .loop-test .taken) (d .before .before .before .before .if1 .left) in
+    let answered = c .before .assigned-no .ensures ∙ ap assignedNo (d .assign-var .ensures .0) ∙ assigned-no (a .count) (l .slots) p in
+    told
+    (ap (λ (t : List ℕ). ran (c .before .assigned-no .result) (l .i) t) (d .assign-var .ensures .1)
+    ∙ run-refused (a .count) (l .slots) (l .i) _ p _ _ split (l .inv .1) _ answered (c .if2 .taken))
+
+add-i : tie.Need-add-i Inv-loop μ-loop
+add-i c = search needs
+
+loop-less : tie.Need-loop-less Inv-loop μ-loop
+loop-less c = search needs
+
+loop-again : tie.Need-loop-again Inv-loop μ-loop
+loop-again c =
+    let d = c .before .before .before .before in
+    let l = d .before .before .before .before .before .before .loop in
+    let a = d .before .before .before .before .before .before .before .before .before .before .args in
+    let vars = now (a .vars) in
+    let values = now (a .values) in
+    let p = pair (getD vars (l .i) 0) (getD values (l .i) 0) in
+    let split = pairs-at vars values (l .i) (d .before .before .before .before .before .loop-test .taken) (d .before .before .before .before .if1 .left) in
+    let answered = c .before .assigned-no .ensures ∙ ap assignedNo (d .assign-var .ensures .0) ∙ assigned-no (a .count) (l .slots) p in (
+      omega arith,
+      ap (λ (t : List ℕ). counted (l .i + 1) (setRun (a .count) t (drop (l .i + 1) (pairs vars values)))) (d .assign-var .ensures .1)
+          ∙ run-accepted (a .count) (l .slots) (l .i) _ p _ _ split (l .inv .1) (sym answered ∙ c .if2 .left),
+      ap length (d .assign-var .ensures .1) ∙ assign-length (a .count) (l .slots) p ∙ l .inv .2,
+    )
+
+same-length-3 : tie.Need-same-length-3 Inv-loop μ-loop
+same-length-3 c = search needs
+
+returns-3 : tie.Need-returns-3 Inv-loop μ-loop
+returns-3 c =
+    let l = c .before .loop in
+    let a = c .before .before .before .before .before .args in
+    let e = run-ended (a .count) (l .slots) (l .i) _ _ (pairs-end (now (a .vars)) (now (a .values)) (l .i) (inl (c .loop-test .left))) (l .inv .1) in
+    told e
+
+pub set-pairs-spec : {M : Type 1} → statement M
+set-pairs-spec =
+    tie.close
+    (tie.spec
+    Inv-loop
+    μ-loop
+    loop-holds
+    same-length
+    returns
+    mul-t7
+    shared-slice-read-t13
+    mul-t15
+    shared-slice-read-t17
+    assign-var-requires
+    assigned-no-requires
+    same-length-2
+    returns-2
+    add-i
+    loop-less
+    loop-again
+    same-length-3
+    returns-3)

@@ -1,0 +1,72 @@
+-- Wires and the slots that hold their values (the source's allocator.rs), over the wire count and the list
+-- of slots: a slot is a unit, or `unassigned` where the wire has no value yet. Assumes nothing.
+use Prim.Native.Nat.{ℕ, suc, _+_}
+use mathlib.Core.Bool.{Bool, _||_}
+use mathlib.Core.List.{List, [], _∷_, _++_}
+use lib.Dec.{eqb, ltb, leb}
+use lib.ListN.{take, drop, getD, set, replicate}
+use Rattle.limits.specs.Numbers.{prime, unassigned, maxCount}
+use Rattle.limits.specs.Questions.{Question, question, firstNo, onYes}
+use Rattle.limits.specs.Asks.{storeAsks, countAsks}
+
+-- a wire and the unit that it is set to
+pub record Pair : Type 0 where
+  pub var : ℕ
+  pub value : ℕ
+
+abbrev pub pair : ℕ → ℕ → Pair
+pair var value = record { var = var; value = value }
+
+-- the common pairs of two lists, in order
+abbrev pub pairs : List ℕ → List ℕ → List Pair
+pairs [] values = []
+pairs (x ∷ vars) [] = []
+pairs (x ∷ vars) (v ∷ values) = pair x v ∷ pairs vars values
+
+-- ---- questions, by the wire count and the length of the slot store
+-- 2: the store's size, the count, and that the count fits the store
+abbrev pub slotsAsks : ℕ → ℕ → List Question
+slotsAsks count len = storeAsks len ++ (countAsks count ++ (question 2 (leb count len) ∷ []))
+
+-- 5, 6: would there be at most 2^30 wires with n more, and does the store hold them?
+abbrev pub growAsks : ℕ → ℕ → ℕ → List Question
+growAsks count len n = question 5 (leb (count + n) maxCount) ∷ question 6 (leb (count + n) len) ∷ []
+
+-- the slot of a wire may take a value: it is unassigned, or holds that value
+abbrev pub slotTakes : List ℕ → Pair → Bool
+slotTakes slots p =
+    eqb (getD slots (p .var) unassigned) unassigned || eqb (getD slots (p .var) unassigned) (p .value)
+
+-- 3, 4, 7, 8 of one pair
+abbrev pub pairAsks : ℕ → List ℕ → Pair → List Question
+pairAsks count slots p =
+    question 3 (ltb (p .var) maxCount)
+    ∷ question 4 (ltb (p .value) prime)
+    ∷ question 7 (ltb (p .var) count)
+    ∷ question 8 (slotTakes slots p)
+    ∷ []
+
+unfoldable pub pairNo : ℕ → List ℕ → Pair → ℕ
+pairNo count slots p = firstNo (pairAsks count slots p)
+
+-- ---- what is left of the slots
+-- n more wires, their slots unassigned
+abbrev pub grownSlots : ℕ → ℕ → List ℕ → List ℕ
+grownSlots count n slots = take count slots ++ (replicate n unassigned ++ drop (count + n) slots)
+
+-- pairs set in turn, up to the first that is refused: its number, how many were accepted, the slots
+pub record SetRun : Type 0 where
+  pub number : ℕ
+  pub accepted : ℕ
+  pub slots : List ℕ
+
+abbrev pub ran : ℕ → ℕ → List ℕ → SetRun
+ran number accepted slots = record { number = number; accepted = accepted; slots = slots }
+
+unfoldable pub setRun : ℕ → List ℕ → List Pair → SetRun
+setRun count slots [] = ran 0 0 slots
+setRun count slots (p ∷ ps) =
+    let r = setRun count (set slots (p .var) (p .value)) ps in
+    onYes (pairNo count slots p)
+    (ran (r .number) (suc (r .accepted)) (r .slots))
+    (ran (pairNo count slots p) 0 slots)

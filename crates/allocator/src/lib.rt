@@ -1,0 +1,125 @@
+// Wires of a relation and the slots that hold their values (the source's allocator.rs).
+//
+// The wire count goes in by value and the slots are lent; a slot is a unit, or UNASSIGNED where the wire has
+// no value yet. The functions here are what the calls on a relation are made of: questions on count and
+// slots, one wire set, a list of wires set, more wires. Each answers on every input.
+
+ghost use mathlib.Core.Path.{_≡_};
+ghost use Rattle.limits.specs.Questions.{_▸_, firstNo};
+ghost use Rattle.allocator.specs.Slots.{slotsAsks, growAsks, pair, pairs, setRun};
+ghost use Rattle.allocator.specs.Assign.{assignVar, assignVarSlots, assignedNo, setPairs, growSlots};
+use baby_bear::BabyBearUnit;
+use limits::MAX_COUNT;
+use limits::P;
+use limits::UNASSIGNED;
+
+// A wire of a relation: a plain index. Wire 0 is the one that every relation assigns the value zero.
+pub struct FieldVar(pub u32);
+
+// What setting one wire answers.
+pub enum Assigned {
+    Fresh,
+    Repeated,
+    Refused(u32),
+}
+
+// How far a list of pairs was set: the number of the first refused pair, or 0, and the pairs accepted.
+pub struct SetPairs {
+    pub number: u32,
+    pub accepted: usize,
+}
+
+// Question 2 of the slots, by their wire count and the store's length.
+pub fn asked_slots(no: u32, count: u32, len: usize) -> u32
+    ensures { λ r. ⌜ r ≡ no ▸ firstNo (slotsAsks count len) ⌝ }
+{
+    let a = limits::asked_store(no, len);
+    let b = limits::asked_count(a, count);
+    limits::asked(b, count as usize <= len, 2)
+}
+
+// Questions 5 and 6: n more wires.
+pub fn asked_grow(no: u32, count: u32, len: usize, n: u32) -> u32
+    ensures { λ r. ⌜ r ≡ no ▸ firstNo (growAsks count len n) ⌝ }
+{
+    let total = count as usize + n as usize;
+    let a = limits::asked(no, total <= MAX_COUNT as usize, 5);
+    limits::asked(a, total <= len, 6)
+}
+
+// n more wires: their slots become unassigned. Where the store does not hold them, nothing is written.
+pub fn grow_slots(slots: &mut [u32], count: u32, n: u32)
+    ensures { λ _. ⌜ now (slots .exit) ≡ growSlots count n (now (slots .entry)) ⌝ }
+{
+    let start = count as usize;
+    let end = start + n as usize;
+    if slots.len() < end {
+        return;
+    }
+    words::fill(&mut slots[start..end], UNASSIGNED);
+}
+
+// One wire set: questions 3, 4, 7 and 8 (what the source's `set_var` does behind its lock).
+pub fn assign_var(count: u32, slots: &mut [u32], var: FieldVar, value: BabyBearUnit) -> Assigned
+    ensures { λ r. ⌜ (r ≡ assignVar count (now (slots .entry)) (pair (var .0) (value .0))) × (now (slots .exit) ≡ assignVarSlots count (now (slots .entry)) (pair (var .0) (value .0))) ⌝ }
+{
+    let x = var.0;
+    let v = value.0;
+    let at = x as usize;
+    let a = limits::asked(0, x < MAX_COUNT, 3);
+    let b = limits::asked(a, v < P, 4);
+    let no = limits::asked(b, x < count, 7);
+    if no != 0 {
+        return Assigned::Refused(no);
+    }
+    if slots.len() <= at {
+        return Assigned::Fresh;
+    }
+    let held = slots[at];
+    if held == UNASSIGNED {
+        slots[at] = v;
+        return Assigned::Fresh;
+    }
+    if held == v {
+        return Assigned::Repeated;
+    }
+    Assigned::Refused(8)
+}
+
+// Document 01's number of an answer.
+pub fn assigned_no(a: Assigned) -> u32
+    ensures { λ r. ⌜ r ≡ assignedNo a ⌝ }
+{
+    match a {
+        Assigned::Fresh => 0,
+        Assigned::Repeated => 0,
+        Assigned::Refused(k) => k,
+    }
+}
+
+// The common pairs of two lists set in turn, up to the first that is refused; earlier ones stay set.
+pub fn set_pairs(count: u32, slots: &mut [u32], vars: &[u32], values: &[u32]) -> SetPairs
+    ensures { λ r. ⌜ (r ≡ setPairs count (now (slots .entry)) (pairs (now (vars .entry)) (now (values .entry)))) × (now (slots .exit) ≡ setRun count (now (slots .entry)) (pairs (now (vars .entry)) (now (values .entry))) .slots) ⌝ }
+{
+    let mut i: usize = 0;
+    while i < vars.len() {
+        if values.len() <= i {
+            return SetPairs {
+                number: 0,
+                accepted: i,
+            };
+        }
+        let no = assigned_no(assign_var(count, slots, FieldVar(vars[i]), BabyBearUnit(values[i])));
+        if no != 0 {
+            return SetPairs {
+                number: no,
+                accepted: i,
+            };
+        }
+        i += 1;
+    }
+    SetPairs {
+        number: 0,
+        accepted: i,
+    }
+}
