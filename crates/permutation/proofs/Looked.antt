@@ -1,0 +1,46 @@
+-- The value of a wire, and whether it is allocated: the cases of the definitions, by facts on numbers.
+-- Assumes nothing.
+use Prim.Native.Nat.{ℕ, _≤_, _<_}
+use mathlib.Core.Path.{_≡_, sym, _∙_}
+use mathlib.Core.List.{List}
+use borrow.Author.Tests.{lt-ltb, le-ltb, eq-eqb, ne-eqb}
+use lib.ListN.{length, getD}
+use Rattle.limits.specs.Numbers.{unassigned}
+use Rattle.words.proofs.Lists.{getD-any}
+use Rattle.permutation.specs.Numbers.{valueNo, isAllocatedNo}
+use Rattle.permutation.specs.Answers.{valueOf, isAllocated}
+use Rattle.permutation.proofs.Answered.{stays-by}
+use Rattle.permutation.specs.declared.PermutationRelation.{PermutationRelation}
+use Rattle.permutation.specs.declared.VarValue.the-variants as varValue
+use Rattle.permutation.specs.declared.IsAllocated.the-variants as allocated
+
+-- k: what the questions answer
+module _ (rel : PermutationRelation) (slots : List ℕ) (x k : ℕ) (e : k ≡ valueNo rel (length slots) x) where
+  pub value-refused : (k ≡ 0 → ⊥) → varValue.Refused k ≡ valueOf rel slots x
+  value-refused h = rw (sym e) (stays-by k _ (varValue.Refused k) h)
+
+  module _ (z : k ≡ 0) where
+    asked : valueNo rel (length slots) x ≡ 0
+    asked = sym e ∙ z
+
+    pub value-beyond : rel .vars ≤ x → varValue.Nothing ≡ valueOf rel slots x
+    value-beyond h = rw (asked, le-ltb x (rel .vars) h)
+
+    module _ (h : x < rel .vars) (f : x < length slots) where
+      pub value-none : getD slots x 0 ≡ unassigned → varValue.Nothing ≡ valueOf rel slots x
+      value-none u = rw (asked, lt-ltb x (rel .vars) h, eq-eqb (getD slots x unassigned) unassigned (getD-any slots x unassigned 0 f ∙ u))
+
+      pub value-held : (getD slots x 0 ≡ unassigned → ⊥) → varValue.Value (getD slots x 0) ≡ valueOf rel slots x
+      value-held u =
+          let s : getD slots x unassigned ≡ getD slots x 0 = getD-any slots x unassigned 0 f in
+          rw (asked, lt-ltb x (rel .vars) h, s, ne-eqb (getD slots x 0) unassigned u)
+
+module _ (rel : PermutationRelation) (x k : ℕ) (e : k ≡ isAllocatedNo rel x) where
+  pub allocated-refused : (k ≡ 0 → ⊥) → allocated.Refused k ≡ isAllocated rel x
+  allocated-refused h = rw (sym e) (stays-by k _ (allocated.Refused k) h)
+
+  pub allocated-yes : k ≡ 0 → x < rel .vars → allocated.Yes ≡ isAllocated rel x
+  allocated-yes z h = let q : isAllocatedNo rel x ≡ 0 = sym e ∙ z in rw (q, lt-ltb x (rel .vars) h)
+
+  pub allocated-no : k ≡ 0 → rel .vars ≤ x → allocated.No ≡ isAllocated rel x
+  allocated-no z h = let q : isAllocatedNo rel x ≡ 0 = sym e ∙ z in rw (q, le-ltb x (rel .vars) h)

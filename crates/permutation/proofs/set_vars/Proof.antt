@@ -1,0 +1,73 @@
+-- `permutation::set_vars` meets its contract: 1 and 2 come first, then what the allocator answers for the pairs, then 9.
+-- Assumes nothing.
+use denote.Ref.{now}
+use mathlib.Core.Path.{sym, ap, _∙_}
+use native.Mathlib.Omega.{arith}
+use lib.ListN.{length}
+use Rattle.allocator.specs.Slots.{pairs}
+use Rattle.allocator.specs.declared.SetPairs.{SetPairs}
+use Rattle.allocator.proofs.Run.{pairs-within, accepted-within}
+use Rattle.permutation.proofs.Sets.{list-refused, pairs-refused, pairs-accepted}
+use Rattle.permutation.proofs.Accepted.{setVars-yes}
+use borrow.Author.Needs.{needs}
+use Rattle.permutation.proofs.set_vars.Statement.{statement}
+use Rattle.permutation.proofs.set_vars.Tie as tie
+
+set-vars-no-requires : tie.Need-set-vars-no-requires
+set-vars-no-requires c κs = search needs
+
+returns : tie.Need-returns
+returns c =
+    let a = c .before .before .before .before .before .args in
+    list-refused (a .rel) (now (a .slots)) (now (a .vars)) (now (a .values)) _ (c .before .set-vars-no .ensures) (c .if1 .taken)
+
+set-pairs-requires : tie.Need-set-pairs-requires
+set-pairs-requires c κs = search needs
+
+asked-requires : tie.Need-asked-requires
+asked-requires c κs = search needs
+
+cast-accepted : tie.Need-cast-accepted
+cast-accepted c =
+    let a = c .before .before .before .before .before .before .before .before .before .before .before .args in
+    let vars = now (a .vars) in
+    let values = now (a .values) in
+    let y = setVars-yes (a .rel) (length (now (a .slots))) vars values (sym (c .before .before .before .before .before .before .before .set-vars-no .ensures) ∙ c .before .before .before .before .before .before .if1 .left) in
+    let n = accepted-within (a .rel .vars) (now (a .slots)) (pairs vars values) in
+    let m = pairs-within vars values in
+    let d = c .before .before .before .before .set-pairs .ensures in
+    omega (arith, ap (λ (q : SetPairs). q .accepted) (d .0))
+
+same-length : tie.Need-same-length
+same-length c = search needs
+
+returns-2 : tie.Need-returns-2
+returns-2 c =
+    let a = c .before .before .before .before .before .before .before .before .before .before .before .before .args in
+    let d = c .before .before .before .before .before .set-pairs .ensures in
+    let r = pairs-refused (a .rel) (now (a .slots)) (now (a .vars)) (now (a .values)) _ (c .before .before .before .before .before .before .before .before .set-vars-no .ensures) (c .before .before .before .before .before .before .before .if1 .left) _ (d .0) _ (c .before .before .asked .ensures) (c .if2 .taken) in
+    (r .0, d .1 ∙ r .1)
+
+same-length-2 : tie.Need-same-length-2
+same-length-2 c = search needs
+
+returns-3 : tie.Need-returns-3
+returns-3 c =
+    let a = c .before .before .before .before .before .before .before .before .before .before .before .before .args in
+    let d = c .before .before .before .before .before .set-pairs .ensures in
+    let r = pairs-accepted (a .rel) (now (a .slots)) (now (a .vars)) (now (a .values)) _ (c .before .before .before .before .before .before .before .before .set-vars-no .ensures) (c .before .before .before .before .before .before .before .if1 .left) _ (d .0) _ (c .before .before .asked .ensures) (c .if2 .left) in
+    (r .0, d .1 ∙ r .1)
+
+pub set-vars-spec : {M : Type 1} → statement M
+set-vars-spec =
+    tie.close
+    (tie.spec
+    set-vars-no-requires
+    returns
+    set-pairs-requires
+    asked-requires
+    cast-accepted
+    same-length
+    returns-2
+    same-length-2
+    returns-3)

@@ -1,0 +1,179 @@
+-- What each call on a relation answers, and what it leaves of record and stores: by its number, which is 0
+-- where it is accepted. Assumes nothing.
+use Prim.Native.Nat.{ℕ, zero, suc, _+_}
+use mathlib.Core.List.{List, [], _∷_, _++_}
+use lib.Dec.{eqb, ltb, leb}
+use lib.ListN.{length, getD, set}
+use Rattle.limits.specs.Numbers.{unassigned, maxCount}
+use Rattle.limits.specs.Questions.{pick, ask, _▸_, onYes}
+use Rattle.words.specs.Store.{putWords, fitWords}
+use Rattle.words.specs.Pieces.{wordsOf}
+use Rattle.allocator.specs.Slots.{Pair, pairs, grownSlots, SetRun, ran, setRun}
+use Rattle.expr.specs.Equation.{Term, equation, equationWords, equationSize}
+use Rattle.permutation.specs.Numbers.{newNo, allocateVarsNo, setVarNo, setVarsNo, valueNo, isAllocatedNo, addPermutationNo, allocatePermutationNo, addEquationNo}
+use Rattle.permutation.specs.declared.PermutationRelation.{PermutationRelation}
+use Rattle.permutation.specs.declared.Outcome.{Outcome}
+use Rattle.permutation.specs.declared.Outcome.the-variants as outcome
+use Rattle.permutation.specs.declared.First.{First}
+use Rattle.permutation.specs.declared.First.the-variants as first
+use Rattle.permutation.specs.declared.Recorded.{Recorded}
+use Rattle.permutation.specs.declared.Allocated.{Allocated}
+use Rattle.permutation.specs.declared.SetVars.{SetVars}
+use Rattle.permutation.specs.declared.VarValue.{VarValue}
+use Rattle.permutation.specs.declared.VarValue.the-variants as varValue
+use Rattle.permutation.specs.declared.IsAllocated.{IsAllocated}
+use Rattle.permutation.specs.declared.IsAllocated.the-variants as isAllocated-is
+
+-- ---- answers by number
+-- accepted at 0, else refused with the number
+abbrev pub outcomeOf : ℕ → Outcome
+outcomeOf zero = outcome.Accepted
+outcomeOf (suc k) = outcome.Refused (suc k)
+
+-- the first new wire at 0, else refused with the number
+abbrev pub firstOf : ℕ → ℕ → First
+firstOf zero var = first.Var var
+firstOf (suc k) var = first.Refused (suc k)
+
+-- document 01's number of each answer: 0 is yes
+abbrev pub outcomeNumber : Outcome → ℕ
+outcomeNumber outcome.Accepted = 0
+outcomeNumber (outcome.Refused k) = k
+
+abbrev pub firstNumber : First → ℕ
+firstNumber (first.Var v) = 0
+firstNumber (first.Refused k) = k
+
+abbrev pub valueNumber : VarValue → ℕ
+valueNumber (varValue.Value v) = 0
+valueNumber varValue.Nothing = 0
+valueNumber (varValue.Refused k) = k
+
+abbrev pub isAllocatedNumber : IsAllocated → ℕ
+isAllocatedNumber isAllocated-is.Yes = 0
+isAllocatedNumber isAllocated-is.No = 0
+isAllocatedNumber (isAllocated-is.Refused k) = k
+
+-- the outcome with the record: the new one at 0, else the one that was given
+abbrev pub recordedOf : ℕ → PermutationRelation → PermutationRelation → Recorded
+recordedOf k new given = record { outcome = outcomeOf k; relation = onYes k new given }
+
+abbrev pub allocatedOf : ℕ → ℕ → PermutationRelation → PermutationRelation → Allocated
+allocatedOf k var new given = record { first = firstOf k var; relation = onYes k new given }
+
+-- ---- records
+abbrev pub relation : ℕ → ℕ → ℕ → ℕ → ℕ → PermutationRelation
+relation width vars queries equations words =
+    record { width = width; vars = vars; queries = queries; equations = equations; words = words }
+
+abbrev pub moreVars : PermutationRelation → ℕ → PermutationRelation
+moreVars rel n = relation (rel .width) (rel .vars + n) (rel .queries) (rel .equations) (rel .words)
+
+abbrev pub oneQuery : PermutationRelation → PermutationRelation
+oneQuery rel = relation (rel .width) (rel .vars) (rel .queries + 1) (rel .equations) (rel .words)
+
+abbrev pub oneEquation : PermutationRelation → ℕ → PermutationRelation
+oneEquation rel t = relation (rel .width) (rel .vars) (rel .queries) (rel .equations + 1) (rel .words + equationSize t)
+
+-- ---- fresh: one wire, slot 0 becomes 0; refused, a record of zeros
+abbrev pub newRelation : ℕ → List ℕ → Recorded
+newRelation width slots = recordedOf (newNo width (length slots)) (relation width 1 0 0 0) (relation 0 0 0 0 0)
+
+abbrev pub newSlots : ℕ → List ℕ → List ℕ
+newSlots width slots = onYes (newNo width (length slots)) (set slots 0 0) slots
+
+-- ---- allocate: the next n wires, all slots unassigned, answered by the wire count before the call
+abbrev pub allocateVars : PermutationRelation → List ℕ → ℕ → Allocated
+allocateVars rel slots n = allocatedOf (allocateVarsNo rel (length slots) n) (rel .vars) (moreVars rel n) rel
+
+abbrev pub allocateVarsSlots : PermutationRelation → List ℕ → ℕ → List ℕ
+allocateVarsSlots rel slots n = onYes (allocateVarsNo rel (length slots) n) (grownSlots (rel .vars) n slots) slots
+
+-- ---- set: the slot becomes the value
+abbrev pub setVar : PermutationRelation → List ℕ → Pair → Outcome
+setVar rel slots p = outcomeOf (setVarNo rel slots p)
+
+abbrev pub setVarSlots : PermutationRelation → List ℕ → Pair → List ℕ
+setVarSlots rel slots p = onYes (setVarNo rel slots p) (set slots (p .var) (p .value)) slots
+
+-- ---- set list: nothing is tried where 1 or 2 says no; 9 comes after the common pairs, which stay set
+unfoldable pub setVarsRun : PermutationRelation → List ℕ → List ℕ → List ℕ → SetRun
+setVarsRun rel slots vars values =
+    let r = setRun (rel .vars) slots (pairs vars values) in
+    onYes (setVarsNo rel (length slots) vars values)
+    (ran (r .number ▸ ask 9 (eqb (length vars) (length values))) (r .accepted) (r .slots))
+    (ran (setVarsNo rel (length slots) vars values) 0 slots)
+
+abbrev pub setVars : PermutationRelation → List ℕ → List ℕ → List ℕ → SetVars
+setVars rel slots vars values =
+    record {
+      outcome = outcomeOf (setVarsRun rel slots vars values .number);
+      accepted = setVarsRun rel slots vars values .accepted;
+    }
+
+abbrev pub setVarsSlots : PermutationRelation → List ℕ → List ℕ → List ℕ → List ℕ
+setVarsSlots rel slots vars values = setVarsRun rel slots vars values .slots
+
+-- ---- record: inputs then outputs at the end of the queries
+abbrev pub queriesWith : PermutationRelation → List ℕ → List ℕ → List ℕ
+queriesWith rel cells queries = putWords (wordsOf (rel .width) (rel .queries)) cells queries
+
+abbrev pub addPermutation : PermutationRelation → List ℕ → List ℕ → List ℕ → Recorded
+addPermutation rel queries input output =
+    recordedOf (addPermutationNo rel (length queries) input output) (oneQuery rel) rel
+
+abbrev pub addPermutationQueries : PermutationRelation → List ℕ → List ℕ → List ℕ → List ℕ
+addPermutationQueries rel queries input output =
+    onYes (addPermutationNo rel (length queries) input output) (queriesWith rel (input ++ output) queries) queries
+
+-- ---- mint: w more wires, and the query from the inputs to them; both or neither
+-- the k wires from n on
+abbrev pub upFrom : ℕ → ℕ → List ℕ
+upFrom n zero = []
+upFrom n (suc k) = n ∷ upFrom (suc n) k
+
+-- those as words at place `at` of a store, where they are wires and the store holds them, else the store as it is
+abbrev pub fitVars : ℕ → ℕ → ℕ → List ℕ → List ℕ
+fitVars at first n s = pick (leb (first + n) maxCount) (fitWords at (upFrom first n) s) s
+
+abbrev pub allocatePermutation : PermutationRelation → List ℕ → List ℕ → List ℕ → Allocated
+allocatePermutation rel slots queries input =
+    allocatedOf (allocatePermutationNo rel (length slots) (length queries) input) (rel .vars)
+    (oneQuery (moreVars rel (rel .width))) rel
+
+abbrev pub allocatePermutationSlots : PermutationRelation → List ℕ → List ℕ → List ℕ → List ℕ
+allocatePermutationSlots rel slots queries input =
+    onYes (allocatePermutationNo rel (length slots) (length queries) input)
+    (grownSlots (rel .vars) (rel .width) slots) slots
+
+abbrev pub allocatePermutationQueries : PermutationRelation → List ℕ → List ℕ → List ℕ → List ℕ
+allocatePermutationQueries rel slots queries input =
+    onYes (allocatePermutationNo rel (length slots) (length queries) input)
+    (queriesWith rel (input ++ upFrom (rel .vars) (rel .width)) queries) queries
+
+-- ---- equation: its words at the end of the used words
+abbrev pub addEquation : PermutationRelation → List ℕ → List Term → ℕ → Recorded
+addEquation rel equations terms image =
+    recordedOf (addEquationNo rel (length equations) terms image) (oneEquation rel (length terms)) rel
+
+abbrev pub addEquationEquations : PermutationRelation → List ℕ → List Term → ℕ → List ℕ
+addEquationEquations rel equations terms image =
+    onYes (addEquationNo rel (length equations) terms image)
+    (putWords (rel .words) (equationWords (equation terms image)) equations) equations
+
+-- ---- value of a wire: its slot, none where it is unassigned or beyond the count
+abbrev pub slotValue : ℕ → VarValue
+slotValue held = pick (eqb held unassigned) varValue.Nothing (varValue.Value held)
+
+abbrev pub valueOf : PermutationRelation → List ℕ → ℕ → VarValue
+valueOf rel slots var =
+    onYes (valueNo rel (length slots) var)
+    (pick (ltb var (rel .vars)) (slotValue (getD slots var unassigned)) varValue.Nothing)
+    (varValue.Refused (valueNo rel (length slots) var))
+
+-- ---- is it allocated: is it below the count?
+abbrev pub isAllocated : PermutationRelation → ℕ → IsAllocated
+isAllocated rel var =
+    onYes (isAllocatedNo rel var)
+    (pick (ltb var (rel .vars)) isAllocated-is.Yes isAllocated-is.No)
+    (isAllocated-is.Refused (isAllocatedNo rel var))

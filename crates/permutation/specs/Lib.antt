@@ -1,0 +1,4 @@
+pub mod Relation
+pub mod Numbers
+pub mod Answers
+pub mod State

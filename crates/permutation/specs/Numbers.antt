@@ -1,0 +1,36 @@
+-- The number that each call on a relation answers: the first no of its questions. Assumes nothing.
+use Prim.Native.Nat.{ℕ}
+use mathlib.Core.List.{List}
+use Rattle.limits.specs.Questions.{firstNo}
+use Rattle.allocator.specs.Slots.{Pair}
+use Rattle.expr.specs.Equation.{Term}
+use Rattle.permutation.specs.Relation.{newAsks, allocateVarsAsks, setVarAsks, setVarsAsks, valueAsks, isAllocatedAsks, addPermutationAsks, allocatePermutationAsks, addEquationAsks}
+use Rattle.permutation.specs.declared.PermutationRelation.{PermutationRelation}
+
+unfoldable pub newNo : ℕ → ℕ → ℕ
+newNo width len = firstNo (newAsks width len)
+
+unfoldable pub allocateVarsNo : PermutationRelation → ℕ → ℕ → ℕ
+allocateVarsNo rel len n = firstNo (allocateVarsAsks rel len n)
+
+unfoldable pub setVarNo : PermutationRelation → List ℕ → Pair → ℕ
+setVarNo rel slots p = firstNo (setVarAsks rel slots p)
+
+-- of the set list, what comes before the pairs
+unfoldable pub setVarsNo : PermutationRelation → ℕ → List ℕ → List ℕ → ℕ
+setVarsNo rel len vars values = firstNo (setVarsAsks rel len vars values)
+
+unfoldable pub valueNo : PermutationRelation → ℕ → ℕ → ℕ
+valueNo rel len var = firstNo (valueAsks rel len var)
+
+unfoldable pub isAllocatedNo : PermutationRelation → ℕ → ℕ
+isAllocatedNo rel var = firstNo (isAllocatedAsks rel var)
+
+unfoldable pub addPermutationNo : PermutationRelation → ℕ → List ℕ → List ℕ → ℕ
+addPermutationNo rel len input output = firstNo (addPermutationAsks rel len input output)
+
+unfoldable pub allocatePermutationNo : PermutationRelation → ℕ → ℕ → List ℕ → ℕ
+allocatePermutationNo rel slots len input = firstNo (allocatePermutationAsks rel slots len input)
+
+unfoldable pub addEquationNo : PermutationRelation → ℕ → List Term → ℕ → ℕ
+addEquationNo rel len terms image = firstNo (addEquationAsks rel len terms image)

@@ -1,0 +1,91 @@
+-- The questions of every call on a relation, in document 01's order, over the record and the lists that the
+-- lent stores hold. Assumes nothing.
+use Prim.Native.Nat.{ℕ, _+_, _*_}
+use mathlib.Core.List.{List, [], _∷_, _++_}
+use lib.Dec.{eqb, ltb, leb}
+use lib.ListN.{length}
+use Rattle.limits.specs.Numbers.{prime, maxCount}
+use Rattle.limits.specs.Questions.{Question, question}
+use Rattle.limits.specs.Asks.{widthAsks, storeAsks, countAsks}
+use Rattle.words.specs.Store.{allBelow}
+use Rattle.allocator.specs.Slots.{Pair, slotsAsks, growAsks, pairAsks}
+use Rattle.expr.specs.Equation.{Term, termVars, termWeights, equationSize}
+use Rattle.words.specs.Pieces.{wordsOf}
+use Rattle.permutation.specs.declared.PermutationRelation.{PermutationRelation}
+
+-- ---- 2: each count fits the store that is lent, counted by itself
+abbrev pub queriesAsks : PermutationRelation → ℕ → List Question
+queriesAsks rel len = storeAsks len ++ (question 2 (leb (wordsOf (rel .width) (rel .queries)) len) ∷ [])
+
+-- m equations take at least 2m words
+abbrev pub equationsAsks : PermutationRelation → ℕ → List Question
+equationsAsks rel len =
+    storeAsks len ++ (question 2 (leb (rel .words) len) ∷ question 2 (leb (2 * rel .equations) len) ∷ [])
+
+-- ---- 10: does the store hold one item more?
+abbrev pub queryRoom : PermutationRelation → ℕ → List Question
+queryRoom rel len = question 10 (leb (wordsOf (rel .width) (rel .queries + 1)) len) ∷ []
+
+abbrev pub equationRoom : PermutationRelation → ℕ → List Term → List Question
+equationRoom rel len terms = question 10 (leb (rel .words + equationSize (length terms)) len) ∷ []
+
+-- ---- each call's questions
+-- fresh: 1, 2, 6
+abbrev pub newAsks : ℕ → ℕ → List Question
+newAsks width len = widthAsks width ++ (storeAsks len ++ (question 6 (leb 1 len) ∷ []))
+
+-- every call that looks at the slots begins with 1 and 2
+abbrev pub relationAsks : PermutationRelation → ℕ → List Question
+relationAsks rel len = widthAsks (rel .width) ++ slotsAsks (rel .vars) len
+
+-- allocate: 1, 2, 5, 6
+abbrev pub allocateVarsAsks : PermutationRelation → ℕ → ℕ → List Question
+allocateVarsAsks rel len n = relationAsks rel len ++ growAsks (rel .vars) len n
+
+-- set: 1, 2, 3, 4, 7, 8
+abbrev pub setVarAsks : PermutationRelation → List ℕ → Pair → List Question
+setVarAsks rel slots p = relationAsks rel (length slots) ++ pairAsks (rel .vars) slots p
+
+-- set list: 1 and 2 come first, of the two lists too; then 3, 4, 7, 8 pair by pair; then 9
+abbrev pub setVarsAsks : PermutationRelation → ℕ → List ℕ → List ℕ → List Question
+setVarsAsks rel len vars values =
+    relationAsks rel len ++ (storeAsks (length vars) ++ storeAsks (length values))
+
+-- record: 1, 2, 9, 3, 10
+abbrev pub addPermutationAsks : PermutationRelation → ℕ → List ℕ → List ℕ → List Question
+addPermutationAsks rel len input output =
+    widthAsks (rel .width)
+    ++ (queriesAsks rel len ++ (countAsks (rel .vars) ++ (storeAsks (length input) ++ (storeAsks (length output)
+    ++ (question 9 (eqb (length input) (rel .width))
+    ∷ question 9 (eqb (length output) (rel .width))
+    ∷ question 3 (allBelow maxCount input)
+    ∷ question 3 (allBelow maxCount output)
+    ∷ queryRoom rel len)))))
+
+-- mint: 1, 2, 9, 3, 5, 6, 10
+abbrev pub allocatePermutationAsks : PermutationRelation → ℕ → ℕ → List ℕ → List Question
+allocatePermutationAsks rel slots len input =
+    relationAsks rel slots
+    ++ (queriesAsks rel len ++ (storeAsks (length input)
+    ++ (question 9 (eqb (length input) (rel .width))
+    ∷ question 3 (allBelow maxCount input)
+    ∷ (growAsks (rel .vars) slots (rel .width) ++ queryRoom rel len))))
+
+-- equation: 1, 2, 3 over all wires, 4 over all weights and the image, 10
+abbrev pub addEquationAsks : PermutationRelation → ℕ → List Term → ℕ → List Question
+addEquationAsks rel len terms image =
+    widthAsks (rel .width)
+    ++ (equationsAsks rel len ++ (countAsks (rel .vars)
+    ++ (question 3 (allBelow maxCount (termVars terms))
+    ∷ question 4 (allBelow prime (termWeights terms))
+    ∷ question 4 (ltb image prime)
+    ∷ equationRoom rel len terms)))
+
+-- value of a wire on slots: 1, 2, 3
+abbrev pub valueAsks : PermutationRelation → ℕ → ℕ → List Question
+valueAsks rel len var = relationAsks rel len ++ (question 3 (ltb var maxCount) ∷ [])
+
+-- is it allocated: 1, 2, 3
+abbrev pub isAllocatedAsks : PermutationRelation → ℕ → List Question
+isAllocatedAsks rel var =
+    widthAsks (rel .width) ++ (countAsks (rel .vars) ++ (question 3 (ltb var maxCount) ∷ []))
