@@ -126,6 +126,114 @@ sfr_flag sfr_is_allocated(sfr_relation rel, uint32_t var);
 
 #endif /* SFR_RELATION */
 
+/* ---- Permutations by their parameters (rounds and words), and traces. Proposed; from the witness landing on. ---- */
+#ifdef SFR_WITNESS
+
+typedef struct {
+    uint32_t width;
+    uint32_t steps;
+} sfr_trace;
+
+/* A refused call gives back the record it was given, a refused read a record of zeros. */
+typedef struct {
+    uint32_t number;
+    sfr_trace trace;
+} sfr_trace_answer;
+
+/* How many bytes were written, 0 after a refusal. */
+typedef struct {
+    uint32_t number;
+    size_t len;
+} sfr_written;
+
+uint32_t sfr_permute(uint32_t width, uint32_t rounds, const uint32_t *words, size_t words_len,
+                     const uint32_t *input, size_t input_len,
+                     uint32_t *output, size_t output_len);
+
+sfr_trace_answer sfr_evaluate_step(sfr_trace rec, uint32_t *trace, size_t trace_len,
+                                   const uint32_t *input, size_t input_len,
+                                   uint32_t rounds, const uint32_t *words, size_t words_len);
+
+sfr_trace_answer sfr_append_step(sfr_trace rec, uint32_t *trace, size_t trace_len,
+                                 const uint32_t *input, size_t input_len,
+                                 const uint32_t *output, size_t output_len);
+
+sfr_written sfr_witness_to_bytes(sfr_trace rec, const uint32_t *trace, size_t trace_len,
+                                 uint8_t *out, size_t out_len);
+
+/* The trace is all 0 after a refusal, and 0 past the steps read. */
+sfr_trace_answer sfr_witness_from_bytes(uint32_t width, const uint8_t *bytes, size_t len,
+                                        uint32_t *trace, size_t trace_len);
+
+#endif /* SFR_WITNESS */
+
+/* ---- Instances. Proposed; from the instance landing on, after relation and witness. ---- */
+#ifdef SFR_INSTANCE
+
+typedef struct {
+    uint32_t width;
+    uint32_t vars_count;
+    uint32_t queries;
+    uint32_t equations;
+    uint32_t words;
+    uint32_t publics;
+} sfr_instance;
+
+/* A record of zeros after a refusal. */
+typedef struct {
+    uint32_t number;
+    sfr_instance instance;
+} sfr_instance_answer;
+
+/* The label is the label_len bytes of the input from byte 17 on; none after a refusal. */
+typedef struct {
+    uint32_t number;
+    sfr_instance instance;
+    size_t label_len;
+} sfr_instance_read;
+
+/* The publics are all 0 after a refusal, and 0 past the pairs held; scratch is all 0 after every call. */
+sfr_instance_answer sfr_compile(sfr_relation rel,
+                                const uint8_t *label, size_t label_len,
+                                const uint32_t *slots, size_t slots_len,
+                                const uint32_t *queries, size_t queries_len,
+                                const uint32_t *equations, size_t equations_len,
+                                uint32_t *publics, size_t publics_len,
+                                uint32_t *scratch, size_t scratch_len);
+
+sfr_written sfr_instance_to_bytes(sfr_instance ins,
+                                  const uint8_t *label, size_t label_len,
+                                  const uint32_t *publics, size_t publics_len,
+                                  const uint32_t *queries, size_t queries_len,
+                                  const uint32_t *equations, size_t equations_len,
+                                  uint8_t *out, size_t out_len);
+
+/* The three stores are all 0 after a refusal, and 0 past the words held; scratch is all 0 after every call. */
+sfr_instance_read sfr_instance_from_bytes(uint32_t width, const uint8_t *bytes, size_t len,
+                                          uint32_t *publics, size_t publics_len,
+                                          uint32_t *queries, size_t queries_len,
+                                          uint32_t *equations, size_t equations_len,
+                                          uint32_t *scratch, size_t scratch_len);
+
+sfr_value sfr_public_value(sfr_instance ins, const uint32_t *publics, size_t publics_len, uint32_t var);
+
+#endif /* SFR_INSTANCE */
+
+/* ---- The check. Proposed; from the check landing on, after instance. ---- */
+#ifdef SFR_CHECK
+
+/* The trace has the instance's width. Scratch is all 0 after every call. */
+uint32_t sfr_is_witness_valid(sfr_instance ins,
+                              const uint8_t *label, size_t label_len,
+                              const uint32_t *publics, size_t publics_len,
+                              const uint32_t *queries, size_t queries_len,
+                              const uint32_t *equations, size_t equations_len,
+                              uint32_t steps, const uint32_t *trace, size_t trace_len,
+                              uint32_t rounds, const uint32_t *words, size_t words_len,
+                              uint32_t *scratch, size_t scratch_len);
+
+#endif /* SFR_CHECK */
+
 #ifdef __cplusplus
 }
 #endif

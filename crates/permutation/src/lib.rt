@@ -21,6 +21,7 @@ use limits::P;
 use limits::UNASSIGNED;
 
 // The relation's record: its width, and the counts of wires, queries, equations and used equation words.
+#[repr(C)]
 pub struct PermutationRelation {
     pub width: u32,
     pub vars: u32,

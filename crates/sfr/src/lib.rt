@@ -20,6 +20,8 @@ use narg::Item;
 use narg::Put;
 use narg::Word;
 
+mod relation;
+
 // A word that was read: number 0 and the place after it, or 20, value 0 and the place that was given.
 #[repr(C)]
 pub struct SfrWord {

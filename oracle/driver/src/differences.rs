@@ -1,9 +1,8 @@
 //! Where document 01 and the sources part, each with the smallest input that shows it.
 
-use crate::{
-    held::{self, Held, Room},
-    source::{self, Parts},
-};
+use source::Parts;
+
+use crate::held::{self, Held, Room};
 
 /// SFRI of width 1 without a label whose words after that are these.
 fn file(words: &[u32]) -> Vec<u8> {

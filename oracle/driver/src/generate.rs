@@ -3,11 +3,13 @@
 use std::collections::BTreeSet;
 
 use reading::{MAX_COUNT, P};
+use source::{Parts, Sheet};
 
+#[cfg(feature = "check")]
+use crate::held::Held;
 use crate::{
     calls::{Answer, Call, State},
     rng::Rng,
-    source::Sheet,
 };
 
 /// How a list's calls are chosen.
@@ -127,7 +129,7 @@ impl Generator {
                 self.known.extend(output);
             }
             Call::Mint(input) => {
-                let values: Vec<u32> = input.iter().map(|&var| self.table[var as usize]).collect();
+                let values = self.values(input);
                 let first = self.table.len() as u32;
                 self.known.extend(input);
                 self.known.extend(first..first + self.width);
@@ -135,6 +137,25 @@ impl Generator {
             }
             Call::Equation(..) | Call::Value(_) | Call::IsAllocated(_) => {}
         }
+    }
+
+    /// What the wires carry by the table; 1 where it has none.
+    pub fn values(&self, vars: &[u32]) -> Vec<u32> {
+        let value = |var: &u32| self.table.get(*var as usize).copied();
+        vars.iter().map(|var| value(var).unwrap_or(1)).collect()
+    }
+
+    /// A step for each query, its inputs by the table: a witness, in an honest list.
+    #[cfg(feature = "check")]
+    pub fn trace(&self, held: &Held) -> Vec<u32> {
+        let width = self.width as usize;
+        let (_, queries, _) = held.words();
+        let step = |query: &[u32]| {
+            let input = self.values(&query[..width]);
+            let output = self.sheet.permute(&input);
+            [input, output].concat()
+        };
+        queries.chunks(2 * width).flat_map(step).collect()
     }
 
     fn count(&mut self, state: &State) -> u32 {
@@ -365,4 +386,69 @@ fn damage(rng: &mut Rng, bytes: &mut Vec<u8>, fields: &[usize]) {
             }
         }
     }
+}
+
+/// Parts that no gate has seen, of few wires and values, so that these meet.
+pub fn ungated(rng: &mut Rng, width: u32) -> Parts {
+    let vars_count = rng.below(6) as u32;
+    let var = |rng: &mut Rng| match rng.below(40) {
+        0 => rng.word() % MAX_COUNT,
+        1 => vars_count,
+        _ => rng.below(vars_count.max(1) as usize) as u32,
+    };
+    let mut publics = Vec::new();
+    for _ in 0..rng.below(4) {
+        publics.extend([var(rng), rng.below(2) as u32]);
+    }
+    let cells = 2 * width as usize * rng.below(3);
+    let queries = (0..cells).map(|_| var(rng)).collect();
+    let mut equations = Vec::new();
+    for _ in 0..rng.below(3) {
+        let terms = (0..rng.below(3)).map(|_| (var(rng), rng.below(3) as u32));
+        equations.push((terms.collect(), rng.below(3) as u32));
+    }
+    Parts {
+        label: label(rng),
+        vars_count,
+        publics,
+        queries,
+        equations,
+    }
+}
+
+/// A trace for such parts, with one value for each wire, and the sheet to go with it: every
+/// second time one without rounds, under which equal halves are an evaluation.
+pub fn ungated_trace(rng: &mut Rng, width: u32, parts: &Parts, sheet: &Sheet) -> (Vec<u32>, Sheet) {
+    let values: [u32; 4] = std::array::from_fn(|_| rng.below(2) as u32);
+    let cells = parts.queries.iter();
+    let trace = cells.map(|&var| values[var as usize % 4]).collect();
+    if rng.once_in(2) {
+        return (trace, sheet.clone());
+    }
+    let words = vec![1; (width * width) as usize];
+    (trace, Sheet { rounds: 0, words })
+}
+
+/// A trace with one fault.
+pub fn damaged_trace(rng: &mut Rng, width: u32, trace: &[u32], sheet: &Sheet) -> Vec<u32> {
+    let width = width as usize;
+    let mut trace = trace.to_vec();
+    match rng.below(6) {
+        0 => trace.truncate(trace.len().saturating_sub(2 * width)),
+        1 => trace.extend((0..2 * width).map(|_| rng.unit())),
+        2 | 3 if !trace.is_empty() => {
+            let at = rng.below(trace.len());
+            trace[at] = rng.unit();
+        }
+        _ if !trace.is_empty() => {
+            // Another input, evaluated: only what its wires carry is wrong.
+            let at = rng.below(trace.len() / (2 * width)) * 2 * width;
+            let place = at + rng.below(width);
+            trace[place] = rng.unit();
+            let output = sheet.permute(&trace[at..at + width]);
+            trace[at + width..at + 2 * width].copy_from_slice(&output);
+        }
+        _ => {}
+    }
+    trace
 }

@@ -1,11 +1,17 @@
 //! An instance's record and its stores, with the second reading's calls on them.
 
 use reading::{Instance, Trace};
+use source::{Parts, Sheet};
 
-use crate::{
-    calls::{State, DIRT},
-    source::{Parts, Sheet},
-};
+use crate::calls::{State, DIRT};
+
+/// A sheet as the second reading is lent it.
+pub fn lent(sheet: &Sheet) -> reading::Sheet<'_> {
+    reading::Sheet {
+        rounds: sheet.rounds,
+        words: &sheet.words,
+    }
+}
 
 /// An instance as the second reading holds it.
 #[derive(Clone, Debug)]
@@ -154,7 +160,7 @@ impl Held {
             &self.equations,
             (trace.len() / (2 * self.ins.width as usize)) as u32,
             trace,
-            sheet.reading(),
+            lent(sheet),
             &mut vec![DIRT; scratch],
         )
     }

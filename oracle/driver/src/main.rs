@@ -7,47 +7,44 @@ mod compared;
 mod differences;
 mod generate;
 mod held;
-#[cfg(feature = "relation")]
-mod large;
 mod leaf;
 #[cfg(feature = "leaves")]
-mod leaves;
-#[cfg(feature = "relation")]
 mod library;
+mod lists;
 mod options;
-#[cfg(feature = "relation")]
-mod relation;
 mod rng;
 mod sample;
-mod source;
 
 use std::process::ExitCode;
 
 use options::Options;
 
+/// A command, and whether everything it compared agreed.
+type Command = (&'static str, fn(&Options) -> bool);
+
 /// The commands of this build.
-const COMMANDS: &[&str] = &[
-    "self",
-    "sample",
+const COMMANDS: &[Command] = &[
+    ("self", against_source::run),
+    ("sample", sample::run),
     #[cfg(feature = "leaves")]
-    "leaves",
+    ("leaves", library::leaves::run),
     #[cfg(feature = "relation")]
-    "relation",
+    ("relation", library::relation::run),
+    #[cfg(feature = "witness")]
+    ("witness", library::witness::run),
+    #[cfg(feature = "instance")]
+    ("instance", library::instance::run),
+    #[cfg(feature = "check")]
+    ("check", library::check::run),
 ];
 
 fn main() -> ExitCode {
-    let options = Options::parse(COMMANDS);
+    let names: Vec<&str> = COMMANDS.iter().map(|(name, _)| *name).collect();
+    let options = Options::parse(&names);
     eprintln!("seed {}", options.seed);
-    let agreed = match options.command.as_str() {
-        "self" => against_source::run(&options),
-        "sample" => sample::run(&options),
-        #[cfg(feature = "leaves")]
-        "leaves" => leaves::run(&options),
-        #[cfg(feature = "relation")]
-        "relation" => relation::run(&options),
-        _ => unreachable!("the options name no other command"),
-    };
-    if agreed {
+    let command = COMMANDS.iter().find(|(name, _)| *name == options.command);
+    let (_, run) = command.expect("the options name one of them");
+    if run(&options) {
         ExitCode::SUCCESS
     } else {
         ExitCode::FAILURE

@@ -8,10 +8,23 @@ mod sys;
 
 pub use sys::{Place, Word};
 
+#[cfg(feature = "check")]
+mod check;
+#[cfg(feature = "instance")]
+mod instance;
 #[cfg(feature = "relation")]
 mod relation;
+#[cfg(feature = "witness")]
+mod witness;
+
+#[cfg(feature = "check")]
+pub use check::*;
+#[cfg(feature = "instance")]
+pub use instance::*;
 #[cfg(feature = "relation")]
 pub use relation::*;
+#[cfg(feature = "witness")]
+pub use witness::*;
 
 pub fn add(a: u32, b: u32) -> u32 {
     sys::sfr_add(a, b)

@@ -149,3 +149,196 @@ mod relation {
         pub safe fn sfr_is_allocated(rel: Relation, var: u32) -> Flag;
     }
 }
+
+#[cfg(feature = "witness")]
+pub use witness::*;
+
+#[cfg(feature = "witness")]
+mod witness {
+    /// A trace's record.
+    #[repr(C)]
+    #[derive(Clone, Copy, Debug, Default, PartialEq, Eq)]
+    pub struct Trace {
+        pub width: u32,
+        pub steps: u32,
+    }
+
+    /// The answer of a call that returns a trace's record.
+    #[repr(C)]
+    #[derive(Clone, Copy, Debug, PartialEq, Eq)]
+    pub struct TraceAnswer {
+        pub number: u32,
+        pub trace: Trace,
+    }
+
+    /// The answer of a write.
+    #[repr(C)]
+    #[derive(Clone, Copy, Debug, PartialEq, Eq)]
+    pub struct Written {
+        pub number: u32,
+        pub len: usize,
+    }
+
+    unsafe extern "C" {
+        pub fn sfr_permute(
+            width: u32,
+            rounds: u32,
+            words: *const u32,
+            words_len: usize,
+            input: *const u32,
+            input_len: usize,
+            output: *mut u32,
+            output_len: usize,
+        ) -> u32;
+        pub fn sfr_evaluate_step(
+            rec: Trace,
+            trace: *mut u32,
+            trace_len: usize,
+            input: *const u32,
+            input_len: usize,
+            rounds: u32,
+            words: *const u32,
+            words_len: usize,
+        ) -> TraceAnswer;
+        pub fn sfr_append_step(
+            rec: Trace,
+            trace: *mut u32,
+            trace_len: usize,
+            input: *const u32,
+            input_len: usize,
+            output: *const u32,
+            output_len: usize,
+        ) -> TraceAnswer;
+        pub fn sfr_witness_to_bytes(
+            rec: Trace,
+            trace: *const u32,
+            trace_len: usize,
+            out: *mut u8,
+            out_len: usize,
+        ) -> Written;
+        pub fn sfr_witness_from_bytes(
+            width: u32,
+            bytes: *const u8,
+            len: usize,
+            trace: *mut u32,
+            trace_len: usize,
+        ) -> TraceAnswer;
+    }
+}
+
+#[cfg(feature = "instance")]
+pub use instance::*;
+
+#[cfg(feature = "instance")]
+mod instance {
+    use super::{Relation, Value, Written};
+
+    /// An instance's record.
+    #[repr(C)]
+    #[derive(Clone, Copy, Debug, Default, PartialEq, Eq)]
+    pub struct Instance {
+        pub width: u32,
+        pub vars_count: u32,
+        pub queries: u32,
+        pub equations: u32,
+        pub words: u32,
+        pub publics: u32,
+    }
+
+    /// The answer of the gate.
+    #[repr(C)]
+    #[derive(Clone, Copy, Debug, PartialEq, Eq)]
+    pub struct InstanceAnswer {
+        pub number: u32,
+        pub instance: Instance,
+    }
+
+    /// The answer of an SFRI read.
+    #[repr(C)]
+    #[derive(Clone, Copy, Debug, PartialEq, Eq)]
+    pub struct InstanceRead {
+        pub number: u32,
+        pub instance: Instance,
+        pub label_len: usize,
+    }
+
+    unsafe extern "C" {
+        pub fn sfr_compile(
+            rel: Relation,
+            label: *const u8,
+            label_len: usize,
+            slots: *const u32,
+            slots_len: usize,
+            queries: *const u32,
+            queries_len: usize,
+            equations: *const u32,
+            equations_len: usize,
+            publics: *mut u32,
+            publics_len: usize,
+            scratch: *mut u32,
+            scratch_len: usize,
+        ) -> InstanceAnswer;
+        pub fn sfr_instance_to_bytes(
+            ins: Instance,
+            label: *const u8,
+            label_len: usize,
+            publics: *const u32,
+            publics_len: usize,
+            queries: *const u32,
+            queries_len: usize,
+            equations: *const u32,
+            equations_len: usize,
+            out: *mut u8,
+            out_len: usize,
+        ) -> Written;
+        pub fn sfr_instance_from_bytes(
+            width: u32,
+            bytes: *const u8,
+            len: usize,
+            publics: *mut u32,
+            publics_len: usize,
+            queries: *mut u32,
+            queries_len: usize,
+            equations: *mut u32,
+            equations_len: usize,
+            scratch: *mut u32,
+            scratch_len: usize,
+        ) -> InstanceRead;
+        pub fn sfr_public_value(
+            ins: Instance,
+            publics: *const u32,
+            publics_len: usize,
+            var: u32,
+        ) -> Value;
+    }
+}
+
+#[cfg(feature = "check")]
+pub use check::*;
+
+#[cfg(feature = "check")]
+mod check {
+    use super::Instance;
+
+    unsafe extern "C" {
+        pub fn sfr_is_witness_valid(
+            ins: Instance,
+            label: *const u8,
+            label_len: usize,
+            publics: *const u32,
+            publics_len: usize,
+            queries: *const u32,
+            queries_len: usize,
+            equations: *const u32,
+            equations_len: usize,
+            steps: u32,
+            trace: *const u32,
+            trace_len: usize,
+            rounds: u32,
+            words: *const u32,
+            words_len: usize,
+            scratch: *mut u32,
+            scratch_len: usize,
+        ) -> u32;
+    }
+}

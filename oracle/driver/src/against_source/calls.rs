@@ -1,13 +1,13 @@
 //! The calls on a relation, put to the sources after the second reading has answered.
 
 use reading::{MAX_COUNT, P};
+use source::Relation;
 
 use super::Run;
 use crate::{
     calls::{weighted, Answer, Call, State},
     compared::{holds, same, Compared, Outcome},
     rng::Rng,
-    source::{self, Relation},
 };
 
 fn are_vars(words: &[u32]) -> bool {

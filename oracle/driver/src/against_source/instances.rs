@@ -1,5 +1,7 @@
 //! The gate, an instance's bytes, and what it answers about its publics.
 
+use source::{Instance, Relation};
+
 use super::Run;
 use crate::{
     calls::State,
@@ -7,7 +9,6 @@ use crate::{
     generate::{self, Generator},
     held::{self, Held, Room},
     rng::Rng,
-    source::{self, Instance, Parts, Relation, Sheet},
 };
 
 /// One instance on both sides.
@@ -149,24 +150,16 @@ impl Run<'_> {
         Ok(())
     }
 
-    /// Parts that no gate has seen, of few wires and values, so that these meet.
+    /// Parts that no gate has seen.
     pub fn ungated(&mut self, generator: &mut Generator) -> Compared {
         let width = generator.width;
-        let parts = ungated_parts(&mut generator.rng, width);
+        let parts = generate::ungated(&mut generator.rng, width);
         self.log.say(|| format!("Ungated {parts:?}"));
         let held = Held::from_parts(width, &parts);
         let instance = source::ungated(width, &parts);
-        // One value for each wire, and every second time a sheet without rounds, under
-        // which a step is an evaluation where its halves are equal.
-        let values: [u32; 4] = std::array::from_fn(|_| generator.rng.below(2) as u32);
-        let cells = parts.queries.iter();
-        let trace: Vec<u32> = cells.map(|&var| values[var as usize % 4]).collect();
-        if generator.rng.once_in(2) {
-            generator.sheet = Sheet {
-                rounds: 0,
-                words: vec![1; (width * width) as usize],
-            };
-        }
+        let (trace, sheet) =
+            generate::ungated_trace(&mut generator.rng, width, &parts, &generator.sheet);
+        generator.sheet = sheet;
         self.instance(generator, &held, &*instance, &trace)
     }
 }
@@ -214,31 +207,4 @@ fn compare_instances(held: &Held, instance: &dyn Instance) -> Compared {
         ("reading", equations),
         ("source", &parts.equation_words()),
     )
-}
-
-fn ungated_parts(rng: &mut Rng, width: u32) -> Parts {
-    let vars_count = rng.below(6) as u32;
-    let var = |rng: &mut Rng| match rng.below(40) {
-        0 => rng.word() % reading::MAX_COUNT,
-        1 => vars_count,
-        _ => rng.below(vars_count.max(1) as usize) as u32,
-    };
-    let mut publics = Vec::new();
-    for _ in 0..rng.below(4) {
-        publics.extend([var(rng), rng.below(2) as u32]);
-    }
-    let cells = 2 * width as usize * rng.below(3);
-    let queries = (0..cells).map(|_| var(rng)).collect();
-    let mut equations = Vec::new();
-    for _ in 0..rng.below(3) {
-        let terms = (0..rng.below(3)).map(|_| (var(rng), rng.below(3) as u32));
-        equations.push((terms.collect(), rng.below(3) as u32));
-    }
-    Parts {
-        label: generate::label(rng),
-        vars_count,
-        publics,
-        queries,
-        equations,
-    }
 }

@@ -15,9 +15,9 @@ use crate::{
     compared::{same, Compared, Log, Seen},
     generate::{self, Generator, Mood},
     held::Room,
+    lists,
     options::Options,
     rng::Rng,
-    source,
 };
 
 /// What the sources answer otherwise, or cannot answer at all, counted.
@@ -31,48 +31,29 @@ struct Apart {
     room: u64,
 }
 
-/// One run, list by list.
+/// One list's run.
 struct Run<'a> {
     seen: &'a mut Seen,
     apart: &'a mut Apart,
-    log: Log,
+    log: &'a Log,
 }
 
-/// Commands compared where no count is given.
-const COUNT: u64 = 1_000_000;
-
-/// Lists of calls until the commands asked for have been compared. The list that shows a
-/// difference is run again, told call by call.
 pub fn run(options: &Options) -> bool {
     source::silence_panics();
-    let (mut seen, mut apart) = (Seen::default(), Apart::default());
-    let count = options.count.unwrap_or(COUNT);
-    let mut lists = 0;
-    while seen.total < count {
-        let seed = options.seed.wrapping_add(lists);
-        let mut run = Run {
-            seen: &mut seen,
-            apart: &mut apart,
-            log: Log(false),
-        };
-        if run.list(seed).is_err() {
-            println!("self: a difference; again with: self --seed {seed} --count 1");
-            run.log = Log(true);
-            if let Err(difference) = run.list(seed) {
-                println!("{}", difference.0);
-            }
-            return false;
-        }
-        lists += 1;
-    }
-    seen.print();
+    let mut apart = Apart::default();
+    let line = lists::compare(options, |seed, seen, log| {
+        let apart = &mut apart;
+        Run { seen, apart, log }.list(seed)
+    });
+    let Some(line) = line else {
+        return false;
+    };
     println!(
         "  apart from the source: {} values in publics that don't increase, {} reads of more \
          wires than scratch, {} short stores",
         apart.unsorted_value, apart.too_many_wires, apart.room
     );
-    let (total, seed) = (seen.total, options.seed);
-    println!("self: seed {seed}, {lists} lists, {total} commands, no difference");
+    println!("{line}");
     true
 }
 

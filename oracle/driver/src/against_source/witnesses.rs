@@ -1,6 +1,7 @@
 //! The builder's calls, a trace's bytes, and the check.
 
 use reading::Trace;
+use source::{Instance, Sheet};
 
 use super::Run;
 use crate::{
@@ -8,8 +9,6 @@ use crate::{
     compared::{holds, same, Compared, Outcome},
     generate::{self, Generator, Mood},
     held::{self, Held},
-    rng::Rng,
-    source::{self, Instance, Sheet},
 };
 
 /// The sources' check makes a list of all wires, and a damaged count may be any word: up
@@ -28,9 +27,8 @@ impl Run<'_> {
         let (_, queries, _) = held.words();
         let mut trace = vec![DIRT; queries.len()];
         for query in queries.chunks(2 * width) {
-            let value = |var: &u32| *generator.table.get(*var as usize).unwrap_or(&1);
-            let input: Vec<u32> = query[..width].iter().map(value).collect();
-            let output: Vec<u32> = query[width..].iter().map(value).collect();
+            let input = generator.values(&query[..width]);
+            let output = generator.values(&query[width..]);
             // Only an honest list's table knows the outputs.
             let answer = if generator.mood == Mood::Honest && generator.rng.once_in(3) {
                 self.log
@@ -40,7 +38,7 @@ impl Run<'_> {
             } else {
                 self.log.say(|| format!("EvaluateStep({input:?})"));
                 builder.allocate_permutation(&input);
-                reading::evaluate_step(rec, &mut trace, &input, generator.sheet.reading())
+                reading::evaluate_step(rec, &mut trace, &input, held::lent(&generator.sheet))
             };
             self.seen.answered("builder's steps", answer.number);
             rec = answer.trace;
@@ -95,7 +93,8 @@ impl Run<'_> {
         let sheet = generator.sheet.clone();
         self.check(held, instance, trace, &sheet)?;
         for _ in 0..2 {
-            let damaged = damaged_trace(&mut generator.rng, generator.width, trace, &sheet);
+            let damaged =
+                generate::damaged_trace(&mut generator.rng, generator.width, trace, &sheet);
             self.check(held, instance, &damaged, &sheet)?;
         }
         if generator.rng.once_in(4) {
@@ -122,28 +121,4 @@ impl Run<'_> {
         let expected = instance.is_witness_valid(sheet, trace);
         same("check", ("reading", number == 0), ("source", expected))
     }
-}
-
-/// A trace with one fault.
-fn damaged_trace(rng: &mut Rng, width: u32, trace: &[u32], sheet: &Sheet) -> Vec<u32> {
-    let width = width as usize;
-    let mut trace = trace.to_vec();
-    match rng.below(6) {
-        0 => trace.truncate(trace.len().saturating_sub(2 * width)),
-        1 => trace.extend((0..2 * width).map(|_| rng.unit())),
-        2 | 3 if !trace.is_empty() => {
-            let at = rng.below(trace.len());
-            trace[at] = rng.unit();
-        }
-        _ if !trace.is_empty() => {
-            // Another input, evaluated: only what its wires carry is wrong.
-            let at = rng.below(trace.len() / (2 * width)) * 2 * width;
-            let place = at + rng.below(width);
-            trace[place] = rng.unit();
-            let output = sheet.permute(&trace[at..at + width]);
-            trace[at + width..at + 2 * width].copy_from_slice(&output);
-        }
-        _ => {}
-    }
-    trace
 }

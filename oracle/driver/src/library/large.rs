@@ -5,10 +5,10 @@
 
 use reading::{Relation, MAX_COUNT};
 
+use super::side;
 use crate::{
     calls::{Call, State},
-    compared::{same, Compared, Seen},
-    library,
+    compared::{same, Compared},
 };
 
 const LIMIT: usize = MAX_COUNT as usize;
@@ -30,17 +30,16 @@ const REL: Relation = Relation {
 };
 const FEW: usize = 8;
 
-pub fn run(seen: &mut Seen) -> Compared {
+pub fn compare() -> Compared {
     for cases in [slots(), queries(), equations(), lists()] {
         for case in cases {
-            compare(case, seen)?;
+            compare_case(case)?;
         }
     }
     for len in [LIMIT, LIMIT + 1] {
         let (mut library, mut reading) = (zeroed([len, 0, 0]), zeroed([len, 0, 0]));
-        let answer = library::new_relation(&mut library, 1);
+        let answer = side::new_relation(&mut library, 1);
         let number = reading.new_relation(1);
-        seen.answered("fresh", number);
         let what = format!("fresh over {len} slots");
         same(&what, ("library", answer.number), ("reading", number))?;
         same(&what, ("library", library.rel), ("reading", reading.rel))?;
@@ -147,13 +146,12 @@ fn lists() -> Vec<Case> {
     cases.collect()
 }
 
-fn compare(case: Case, seen: &mut Seen) -> Compared {
+fn compare_case(case: Case) -> Compared {
     let (mut library, mut reading) = (zeroed(case.lens), zeroed(case.lens));
     library.rel = case.rel;
     reading.rel = case.rel;
-    let given = library::run(&mut library, &case.call);
+    let given = side::run(&mut library, &case.call);
     let expected = reading.run(&case.call);
-    seen.answered(case.call.name(), expected.number);
     let (name, lens) = (case.call.name(), case.lens);
     let what = format!("{name} on {:?} with stores of {lens:?} words", case.rel);
     same(&what, ("library", given), ("reading", expected))?;

@@ -15,8 +15,12 @@ use circuit::{
     PermutationRelation, PermutationWitness, PermutationWitnessBuilder, QueryAnswerPair,
 };
 use p3_baby_bear::BabyBear;
-use p3_field::{integers::QuotientMap, PrimeCharacteristicRing};
+use p3_field::integers::QuotientMap;
 use spongefish::Permutation;
+
+pub use sheet::Sheet;
+
+mod sheet;
 
 /// Makes something of a width that is only known when the program runs.
 macro_rules! at_width {
@@ -140,58 +144,6 @@ pub fn scale(terms: &[(u32, u32)], factor: u32) -> Vec<(u32, u32)> {
     scaled
         .map(|term| (index(&term.var), word(&term.weight)))
         .collect()
-}
-
-/// A permutation by its parameters, document 01's sheet: written for the sources, apart
-/// from the second reading's.
-#[derive(Clone, Debug)]
-pub struct Sheet {
-    pub rounds: u32,
-    pub words: Vec<u32>,
-}
-
-impl Sheet {
-    pub fn reading(&self) -> reading::Sheet<'_> {
-        reading::Sheet {
-            rounds: self.rounds,
-            words: &self.words,
-        }
-    }
-
-    /// What the sheet turns `input` into.
-    pub fn permute(&self, input: &[u32]) -> Vec<u32> {
-        let mut state: Vec<BabyBearUnit> = input.iter().copied().map(to_unit).collect();
-        let width = state.len();
-        let matrix = &self.words[self.words.len() - width * width..];
-        for round in 0..self.rounds as usize {
-            let at = round * (width + 1);
-            let raised = if self.words[at] == 0 { width } else { 1 };
-            for (i, element) in state.iter_mut().enumerate() {
-                *element = *element + to_unit(self.words[at + 1 + i]);
-                if i < raised {
-                    let square = *element * *element;
-                    *element = *element * square * (square * square);
-                }
-            }
-            let mut next = vec![BabyBearUnit(BabyBear::ZERO); width];
-            for (j, element) in state.iter().enumerate() {
-                for (i, sum) in next.iter_mut().enumerate() {
-                    *sum = *sum + to_unit(matrix[i * width + j]) * *element;
-                }
-            }
-            state = next;
-        }
-        state.iter().map(word).collect()
-    }
-}
-
-impl<const W: usize> Permutation<W> for Sheet {
-    type U = BabyBearUnit;
-
-    fn permute(&self, state: &[BabyBearUnit; W]) -> [BabyBearUnit; W] {
-        let input: Vec<u32> = state.iter().map(word).collect();
-        to_units(&Sheet::permute(self, &input))
-    }
 }
 
 /// What an instance holds, as words.

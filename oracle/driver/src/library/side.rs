@@ -2,7 +2,7 @@
 
 use crate::calls::{Answer, Call, State};
 
-fn to_library(rel: reading::Relation) -> sfr::Relation {
+pub fn to_library(rel: reading::Relation) -> sfr::Relation {
     sfr::Relation {
         width: rel.width,
         vars_count: rel.vars_count,

@@ -5,48 +5,27 @@
 //! held or not. Now and then a list goes astray for some calls: with a record, stores or
 //! held words that no list of calls makes.
 
-use reading::MAX_COUNT;
+use source::Relation;
 
+use super::{astray, large, side};
 use crate::{
     against_source::calls,
-    calls::{Answer, Call, State, DIRT},
+    calls::{Answer, Call, State},
     compared::{same, Compared, Log, Outcome, Seen},
     generate::Generator,
-    large, library,
+    lists,
     options::Options,
     rng::Rng,
-    source::{self, Relation},
 };
 
-/// Commands compared where no count is given.
-const COUNT: u64 = 1_000_000;
-
-/// Lists of calls until the commands asked for have been compared. The list that shows a
-/// difference is run again, told call by call.
 pub fn run(options: &Options) -> bool {
     source::silence_panics();
-    let mut seen = Seen::default();
-    if let Err(difference) = large::run(&mut seen) {
+    if let Err(difference) = large::compare() {
         println!("relation: a difference: {}", difference.0);
         return false;
     }
-    let count = options.count.unwrap_or(COUNT);
-    let mut lists = 0;
-    while seen.total < count {
-        let seed = options.seed.wrapping_add(lists);
-        if list(seed, &mut seen, &Log(false)).is_err() {
-            println!("relation: a difference; again with: relation --seed {seed} --count 1");
-            if let Err(difference) = list(seed, &mut seen, &Log(true)) {
-                println!("{}", difference.0);
-            }
-            return false;
-        }
-        lists += 1;
-    }
-    seen.print();
-    let (total, seed) = (seen.total, options.seed);
-    println!("relation: seed {seed}, {lists} lists, {total} commands, no difference");
-    true
+    let line = lists::compare(options, list);
+    line.inspect(|line| println!("{line}")).is_some()
 }
 
 /// One relation on the library's side and on the second reading's.
@@ -60,7 +39,7 @@ impl Pair {
     /// Runs a call on both sides.
     fn call(&mut self, call: &Call, seen: &mut Seen, log: &Log) -> Outcome<Answer> {
         log.say(|| format!("{call:?} on {:?}", self.reading.rel));
-        let library = library::run(&mut self.library, call);
+        let library = side::run(&mut self.library, call);
         let reading = self.reading.run(call);
         seen.answered(call.name(), reading.number);
         same("answer", ("library", library), ("reading", reading))?;
@@ -92,7 +71,7 @@ impl Pair {
     fn change(&mut self, rng: &mut Rng) {
         let mut changed = self.reading.clone();
         for _ in 0..rng.between(1, 2) {
-            astray(rng, &mut changed);
+            astray::state(rng, &mut changed);
         }
         self.library = changed.clone();
         self.reading = changed;
@@ -142,7 +121,7 @@ fn compare_source(
 /// A new relation on both sides.
 fn fresh(pair: &mut Pair, width: u32, seen: &mut Seen, log: &Log) -> Compared {
     log.say(|| format!("New({width}) over {} slots", pair.reading.slots.len()));
-    let library = library::new_relation(&mut pair.library, width);
+    let library = side::new_relation(&mut pair.library, width);
     let number = pair.reading.new_relation(width);
     seen.answered("fresh", number);
     let reading = Answer {
@@ -167,48 +146,4 @@ fn fresh_astray(rng: &mut Rng, pair: &Pair, seen: &mut Seen, log: &Log) -> Compa
         other.reading.slots.clear();
     }
     fresh(&mut other, width, seen, log)
-}
-
-/// A record or stores that calls alone don't make.
-fn astray(rng: &mut Rng, state: &mut State) {
-    let (slots, queries) = (state.slots.len() as u32, state.queries.len() as u32);
-    let equations = state.equations.len() as u32;
-    let near = |rng: &mut Rng, word: u32| match rng.below(4) {
-        0 => word,
-        1 => word.wrapping_add(1),
-        2 => word.wrapping_sub(1),
-        _ => rng.edge(),
-    };
-    let rel = &mut state.rel;
-    match rng.below(10) {
-        0 => {
-            rel.width = if rng.once_in(2) {
-                rng.edge()
-            } else {
-                rng.width()
-            }
-        }
-        1 => rel.vars_count = near(rng, slots),
-        2 => rel.vars_count = near(rng, MAX_COUNT),
-        3 => rel.queries = near(rng, queries / (2 * rel.width.clamp(1, 24))),
-        4 => rel.equations = near(rng, equations / 2),
-        5 => rel.words = near(rng, equations),
-        6 => rel.words = rng.below(equations as usize + 1) as u32,
-        7 => {
-            let store = match rng.below(3) {
-                0 => &mut state.slots,
-                1 => &mut state.queries,
-                _ => &mut state.equations,
-            };
-            let len = rng.below(store.len() + 3);
-            store.resize(len, DIRT);
-        }
-        _ => {
-            for slot in &mut state.slots {
-                if rng.once_in(3) {
-                    *slot = rng.edge();
-                }
-            }
-        }
-    }
 }

@@ -1,0 +1,50 @@
+-- The answers of calls on a relation as structs for C: document 01's number, and the values of each case.
+-- Assumes nothing.
+use Prim.Native.Nat.{ℕ}
+use mathlib.Core.Bool.{true, false}
+use Rattle.permutation.specs.declared.Outcome.{Outcome}
+use Rattle.permutation.specs.declared.Outcome.the-variants as outcome
+use Rattle.permutation.specs.declared.First.{First}
+use Rattle.permutation.specs.declared.First.the-variants as first
+use Rattle.permutation.specs.declared.Recorded.{Recorded}
+use Rattle.permutation.specs.declared.Allocated.{Allocated}
+use Rattle.permutation.specs.declared.SetVars.{SetVars}
+use Rattle.permutation.specs.declared.VarValue.{VarValue}
+use Rattle.permutation.specs.declared.VarValue.the-variants as varValue
+use Rattle.permutation.specs.declared.IsAllocated.{IsAllocated}
+use Rattle.permutation.specs.declared.IsAllocated.the-variants as allocated
+use Rattle.sfr.specs.declared.relation.SfrRelationAnswer.{SfrRelationAnswer}
+use Rattle.sfr.specs.declared.relation.SfrTally.{SfrTally}
+use Rattle.sfr.specs.declared.relation.SfrValue.{SfrValue}
+use Rattle.sfr.specs.declared.relation.SfrFlag.{SfrFlag}
+
+abbrev pub outcomeNo : Outcome → ℕ
+outcomeNo outcome.Accepted = 0
+outcomeNo (outcome.Refused k) = k
+
+abbrev pub firstNo : First → ℕ
+firstNo (first.Var x) = 0
+firstNo (first.Refused k) = k
+
+abbrev pub firstVar : First → ℕ
+firstVar (first.Var x) = x
+firstVar (first.Refused k) = 0
+
+abbrev pub recordedAnswer : Recorded → SfrRelationAnswer
+recordedAnswer r = record { number = outcomeNo (r .outcome); first = 0; relation = r .relation }
+
+abbrev pub allocatedAnswer : Allocated → SfrRelationAnswer
+allocatedAnswer r = record { number = firstNo (r .first); first = firstVar (r .first); relation = r .relation }
+
+abbrev pub tallyOf : SetVars → SfrTally
+tallyOf r = record { number = outcomeNo (r .outcome); accepted = r .accepted }
+
+abbrev pub valueAnswer : VarValue → SfrValue
+valueAnswer (varValue.Value v) = record { number = 0; some = true; value = v }
+valueAnswer varValue.Nothing = record { number = 0; some = false; value = 0 }
+valueAnswer (varValue.Refused k) = record { number = k; some = false; value = 0 }
+
+abbrev pub flagOf : IsAllocated → SfrFlag
+flagOf allocated.Yes = record { number = 0; yes = true }
+flagOf allocated.No = record { number = 0; yes = false }
+flagOf (allocated.Refused k) = record { number = k; yes = false }

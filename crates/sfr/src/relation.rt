@@ -1,0 +1,192 @@
+// Calls on a relation, for C. The record is handed in and back by value; a refused call gives it back as it was.
+
+ghost use mathlib.Core.Path.{_≡_};
+ghost use Rattle.allocator.specs.Slots.{pair};
+ghost use Rattle.expr.specs.Equation.{termsOf};
+ghost use Rattle.permutation.specs.Answers.{newRelation, newSlots, allocateVars, allocateVarsSlots, setVar, setVarSlots, setVars, setVarsSlots, valueOf, isAllocated};
+ghost use Rattle.permutation.specs.Answers.{addPermutation, addPermutationQueries, allocatePermutation, allocatePermutationSlots, allocatePermutationQueries, addEquation, addEquationEquations};
+ghost use Rattle.sfr.specs.Relation.{outcomeNo, recordedAnswer, allocatedAnswer, tallyOf, valueAnswer, flagOf};
+use allocator::FieldVar;
+use baby_bear::BabyBearUnit;
+use permutation::Allocated;
+use permutation::First;
+use permutation::IsAllocated;
+use permutation::Outcome;
+use permutation::PermutationRelation;
+use permutation::Recorded;
+use permutation::VarValue;
+
+// A call's number with the record beside it; `first` is the first wire that an allocation answers, else 0.
+#[repr(C)]
+pub struct SfrRelationAnswer {
+    pub number: u32,
+    pub first: u32,
+    pub relation: PermutationRelation,
+}
+
+// A set list's number, and how many of its first pairs were accepted.
+#[repr(C)]
+pub struct SfrTally {
+    pub number: u32,
+    pub accepted: u32,
+}
+
+// A value, where there is one.
+#[repr(C)]
+pub struct SfrValue {
+    pub number: u32,
+    pub some: bool,
+    pub value: u32,
+}
+
+#[repr(C)]
+pub struct SfrFlag {
+    pub number: u32,
+    pub yes: bool,
+}
+
+// Document 01's number of an outcome.
+pub(crate) fn outcome_no(o: Outcome) -> u32
+    ensures { λ r. ⌜ r ≡ outcomeNo o ⌝ }
+{
+    match o {
+        Outcome::Accepted => 0,
+        Outcome::Refused(k) => k,
+    }
+}
+
+fn recorded_answer(r: Recorded) -> SfrRelationAnswer
+    ensures { λ a. ⌜ a ≡ recordedAnswer r ⌝ }
+{
+    let o = r.outcome;
+    let relation = r.relation;
+    SfrRelationAnswer {
+        number: outcome_no(o),
+        first: 0,
+        relation,
+    }
+}
+
+fn allocated_answer(r: Allocated) -> SfrRelationAnswer
+    ensures { λ a. ⌜ a ≡ allocatedAnswer r ⌝ }
+{
+    let first = r.first;
+    let relation = r.relation;
+    match first {
+        First::Var(x) => SfrRelationAnswer {
+            number: 0,
+            first: x,
+            relation,
+        },
+        First::Refused(k) => SfrRelationAnswer {
+            number: k,
+            first: 0,
+            relation,
+        },
+    }
+}
+
+#[no_mangle]
+pub extern "C" fn sfr_new(width: u32, slots: &mut [u32]) -> SfrRelationAnswer
+    ensures { λ r. ⌜ (r ≡ recordedAnswer (newRelation width (now (slots .entry)))) × (now (slots .exit) ≡ newSlots width (now (slots .entry))) ⌝ }
+{
+    recorded_answer(permutation::new(width, slots))
+}
+
+#[no_mangle]
+pub extern "C" fn sfr_allocate_vars(rel: PermutationRelation, slots: &mut [u32], n: u32) -> SfrRelationAnswer
+    ensures { λ r. ⌜ (r ≡ allocatedAnswer (allocateVars rel (now (slots .entry)) n)) × (now (slots .exit) ≡ allocateVarsSlots rel (now (slots .entry)) n) ⌝ }
+{
+    allocated_answer(permutation::allocate_vars(rel, slots, n))
+}
+
+#[no_mangle]
+pub extern "C" fn sfr_set_var(rel: PermutationRelation, slots: &mut [u32], var: u32, value: u32) -> u32
+    ensures { λ r. ⌜ (r ≡ outcomeNo (setVar rel (now (slots .entry)) (pair var value))) × (now (slots .exit) ≡ setVarSlots rel (now (slots .entry)) (pair var value)) ⌝ }
+{
+    outcome_no(permutation::set_var(rel, slots, FieldVar(var), BabyBearUnit(value)))
+}
+
+#[no_mangle]
+pub extern "C" fn sfr_set_vars(rel: PermutationRelation, slots: &mut [u32], vars: &[u32], values: &[u32]) -> SfrTally
+    ensures { λ r. ⌜ (r ≡ tallyOf (setVars rel (now (slots .entry)) (now (vars .entry)) (now (values .entry)))) × (now (slots .exit) ≡ setVarsSlots rel (now (slots .entry)) (now (vars .entry)) (now (values .entry))) ⌝ }
+{
+    let r = permutation::set_vars(rel, slots, vars, values);
+    let o = r.outcome;
+    let accepted = r.accepted;
+    SfrTally {
+        number: outcome_no(o),
+        accepted,
+    }
+}
+
+#[no_mangle]
+pub extern "C" fn sfr_add_permutation(rel: PermutationRelation, queries: &mut [u32], input: &[u32], output: &[u32]) -> SfrRelationAnswer
+    ensures { λ r. ⌜ (r ≡ recordedAnswer (addPermutation rel (now (queries .entry)) (now (input .entry)) (now (output .entry)))) × (now (queries .exit) ≡ addPermutationQueries rel (now (queries .entry)) (now (input .entry)) (now (output .entry))) ⌝ }
+{
+    recorded_answer(permutation::add_permutation(rel, queries, input, output))
+}
+
+#[no_mangle]
+pub extern "C" fn sfr_allocate_permutation(rel: PermutationRelation, slots: &mut [u32], queries: &mut [u32], input: &[u32]) -> SfrRelationAnswer
+    ensures { λ r. ⌜ (r ≡ allocatedAnswer (allocatePermutation rel (now (slots .entry)) (now (queries .entry)) (now (input .entry)))) × (now (slots .exit) ≡ allocatePermutationSlots rel (now (slots .entry)) (now (queries .entry)) (now (input .entry))) × (now (queries .exit) ≡ allocatePermutationQueries rel (now (slots .entry)) (now (queries .entry)) (now (input .entry))) ⌝ }
+{
+    allocated_answer(permutation::allocate_permutation(rel, slots, queries, input))
+}
+
+#[no_mangle]
+pub extern "C" fn sfr_add_equation(rel: PermutationRelation, equations: &mut [u32], vars: &[u32], weights: &[u32], image: u32) -> SfrRelationAnswer
+    ensures { λ r. ⌜ (r ≡ recordedAnswer (addEquation rel (now (equations .entry)) (termsOf (now (vars .entry)) (now (weights .entry))) image)) × (now (equations .exit) ≡ addEquationEquations rel (now (equations .entry)) (termsOf (now (vars .entry)) (now (weights .entry))) image) ⌝ }
+{
+    recorded_answer(permutation::add_equation(rel, equations, vars, weights, BabyBearUnit(image)))
+}
+
+// What a look at a value answers, for C.
+pub(crate) fn value_answer(v: VarValue) -> SfrValue
+    ensures { λ r. ⌜ r ≡ valueAnswer v ⌝ }
+{
+    match v {
+        VarValue::Value(value) => SfrValue {
+            number: 0,
+            some: true,
+            value,
+        },
+        VarValue::Nothing => SfrValue {
+            number: 0,
+            some: false,
+            value: 0,
+        },
+        VarValue::Refused(k) => SfrValue {
+            number: k,
+            some: false,
+            value: 0,
+        },
+    }
+}
+
+#[no_mangle]
+pub extern "C" fn sfr_value_of(rel: PermutationRelation, slots: &[u32], var: u32) -> SfrValue
+    ensures { λ r. ⌜ r ≡ valueAnswer (valueOf rel (now (slots .entry)) var) ⌝ }
+{
+    value_answer(permutation::value(rel, slots, FieldVar(var)))
+}
+
+#[no_mangle]
+pub extern "C" fn sfr_is_allocated(rel: PermutationRelation, var: u32) -> SfrFlag
+    ensures { λ r. ⌜ r ≡ flagOf (isAllocated rel var) ⌝ }
+{
+    match permutation::is_allocated(rel, FieldVar(var)) {
+        IsAllocated::Yes => SfrFlag {
+            number: 0,
+            yes: true,
+        },
+        IsAllocated::No => SfrFlag {
+            number: 0,
+            yes: false,
+        },
+        IsAllocated::Refused(k) => SfrFlag {
+            number: k,
+            yes: false,
+        },
+    }
+}

@@ -1,0 +1,160 @@
+//! Inputs led astray: records, stores, sheets and labels that lie beside the sound ones.
+
+#[cfg(feature = "relation")]
+use reading::MAX_COUNT;
+#[cfg(feature = "witness")]
+use source::Sheet;
+
+#[cfg(feature = "relation")]
+use crate::calls::{State, DIRT};
+#[cfg(feature = "witness")]
+use crate::generate;
+#[cfg(feature = "instance")]
+use crate::held::Held;
+use crate::rng::Rng;
+
+/// A word at a bound or beside it, or any.
+pub fn near(rng: &mut Rng, word: u32) -> u32 {
+    match rng.below(4) {
+        0 => word,
+        1 => word.wrapping_add(1),
+        2 => word.wrapping_sub(1),
+        _ => rng.edge(),
+    }
+}
+
+/// A length at a bound or beside it, or shorter.
+#[cfg(feature = "witness")]
+pub fn near_len(rng: &mut Rng, len: usize) -> usize {
+    match rng.below(4) {
+        0 => len,
+        1 => len + 1,
+        2 => len.saturating_sub(1),
+        _ => rng.below(len + 4),
+    }
+}
+
+/// Some word of a store becomes another.
+pub fn word(rng: &mut Rng, store: &mut [u32]) {
+    if !store.is_empty() {
+        let at = rng.below(store.len());
+        store[at] = rng.edge();
+    }
+}
+
+/// A width, or any word.
+pub fn width(rng: &mut Rng) -> u32 {
+    if rng.once_in(2) {
+        rng.edge()
+    } else {
+        rng.width()
+    }
+}
+
+/// A record or stores that calls alone don't make.
+#[cfg(feature = "relation")]
+pub fn state(rng: &mut Rng, state: &mut State) {
+    let (slots, queries) = (state.slots.len() as u32, state.queries.len() as u32);
+    let equations = state.equations.len() as u32;
+    let rel = &mut state.rel;
+    match rng.below(12) {
+        0 => rel.width = width(rng),
+        1 => rel.vars_count = near(rng, slots),
+        2 => rel.vars_count = near(rng, MAX_COUNT),
+        3 => rel.queries = near(rng, queries / (2 * rel.width.clamp(1, 24))),
+        4 => rel.equations = near(rng, equations / 2),
+        5 => rel.equations = near(rng, rel.equations),
+        6 => rel.words = near(rng, equations),
+        7 => rel.words = rng.below(equations as usize + 1) as u32,
+        8 => {
+            let store = match rng.below(3) {
+                0 => &mut state.slots,
+                1 => &mut state.queries,
+                _ => &mut state.equations,
+            };
+            let len = rng.below(store.len() + 3);
+            store.resize(len, DIRT);
+        }
+        9 => word(rng, &mut state.queries),
+        10 => word(rng, &mut state.equations),
+        _ => {
+            for slot in &mut state.slots {
+                if rng.once_in(3) {
+                    *slot = rng.edge();
+                }
+            }
+        }
+    }
+}
+
+/// A sheet, sound or nearly so.
+#[cfg(feature = "witness")]
+pub fn sheet(rng: &mut Rng, width: u32) -> Sheet {
+    let mut sheet = generate::sheet(rng, width);
+    match rng.below(12) {
+        0 => sheet.rounds = near(rng, sheet.rounds),
+        1 => {
+            sheet.rounds = near(rng, 128).min(200);
+            let words = sheet.rounds * (width + 1) + width * width;
+            sheet.words = vec![1; words as usize];
+        }
+        2 => {
+            let len = near_len(rng, sheet.words.len());
+            sheet.words.resize(len, 1);
+        }
+        3 if sheet.rounds > 0 => {
+            let round = rng.below(sheet.rounds as usize);
+            sheet.words[round * (width as usize + 1)] = near(rng, 1);
+        }
+        4 | 5 => word(rng, &mut sheet.words),
+        _ => {}
+    }
+    sheet
+}
+
+/// A label whose bytes may be no text.
+#[cfg(feature = "instance")]
+pub fn label(rng: &mut Rng, label: &[u8]) -> Vec<u8> {
+    let mut label = label.to_vec();
+    if !label.is_empty() && rng.once_in(3) {
+        let at = rng.below(label.len());
+        label[at] = rng.byte();
+    } else if rng.once_in(6) {
+        label.extend([*rng.pick(&[0x80, 0xC2, 0xED, 0xF4, 0xFF])]);
+    }
+    label
+}
+
+/// A record or held words that no gate makes.
+#[cfg(feature = "instance")]
+pub fn held(rng: &mut Rng, held: &mut Held) {
+    let (publics, queries) = (held.publics.len() as u32, held.queries.len() as u32);
+    let equations = held.equations.len() as u32;
+    let ins = &mut held.ins;
+    match rng.below(16) {
+        0 => ins.width = width(rng),
+        1 => ins.vars_count = rng.edge(),
+        2 => ins.vars_count = near(rng, ins.vars_count),
+        3 => ins.queries = near(rng, queries / (2 * ins.width.clamp(1, 24))),
+        4 => ins.queries = near(rng, ins.queries),
+        5 => ins.equations = near(rng, equations / 2),
+        6 => ins.equations = near(rng, ins.equations),
+        7 => ins.words = near(rng, equations),
+        8 => ins.words = near(rng, ins.words),
+        9 => ins.publics = near(rng, publics / 2),
+        10 => ins.publics = near(rng, ins.publics),
+        11 => word(rng, &mut held.publics),
+        12 => word(rng, &mut held.queries),
+        13 => word(rng, &mut held.equations),
+        14 => held.label = label(rng, &held.label),
+        _ => {
+            let store = match rng.below(3) {
+                0 => &mut held.publics,
+                1 => &mut held.queries,
+                _ => &mut held.equations,
+            };
+            let len = near_len(rng, store.len());
+            store.resize(len, 0);
+        }
+    }
+}

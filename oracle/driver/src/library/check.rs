@@ -1,0 +1,132 @@
+//! `check`: whether a trace is a witness, on gated parts and on others.
+
+use source::Sheet;
+
+use super::{
+    astray,
+    instance::{self, to_library},
+};
+use crate::{
+    calls::DIRT,
+    compared::{same, Compared, Log, Seen},
+    generate::{self, Generator},
+    held::{self, Held, Room},
+    lists,
+    options::Options,
+    rng::Rng,
+};
+
+pub fn run(options: &Options) -> bool {
+    let line = lists::compare(options, list);
+    line.inspect(|line| println!("{line}")).is_some()
+}
+
+fn list(seed: u64, seen: &mut Seen, log: &Log) -> Compared {
+    let mut generator = Generator::new(Rng::new(seed));
+    let width = generator.width;
+    let state = instance::relation(&mut generator);
+    let (number, gated) = held::gate(&state, "", Room::AMPLE);
+    if number == 0 {
+        let trace = generator.trace(&gated);
+        checks(
+            &mut generator.rng,
+            &gated,
+            &trace,
+            &generator.sheet,
+            seen,
+            log,
+        )?;
+    }
+    let rng = &mut generator.rng;
+    let parts = generate::ungated(rng, width);
+    let (trace, sheet) = generate::ungated_trace(rng, width, &parts, &generator.sheet);
+    checks(
+        rng,
+        &Held::from_parts(width, &parts),
+        &trace,
+        &sheet,
+        seen,
+        log,
+    )
+}
+
+/// A trace as it is, damaged, and with everything else led astray.
+fn checks(
+    rng: &mut Rng,
+    held: &Held,
+    trace: &[u32],
+    sheet: &Sheet,
+    seen: &mut Seen,
+    log: &Log,
+) -> Compared {
+    let width = held.ins.width;
+    let steps = |trace: &[u32]| trace.len() as u32 / (2 * width);
+    check(rng, held, steps(trace), trace, sheet, seen, log)?;
+    for _ in 0..4 {
+        let mut damaged = generate::damaged_trace(rng, width, trace, sheet);
+        check(rng, held, steps(&damaged), &damaged, sheet, seen, log)?;
+
+        let mut other = held.clone();
+        if rng.once_in(2) {
+            astray::held(rng, &mut other);
+        }
+        let mut count = steps(&damaged);
+        match rng.below(8) {
+            0 => count = astray::near(rng, count),
+            1 => astray::word(rng, &mut damaged),
+            _ => {}
+        }
+        let other_sheet = match rng.below(6) {
+            0 => astray::sheet(rng, width),
+            _ => sheet.clone(),
+        };
+        check(rng, &other, count, &damaged, &other_sheet, seen, log)?;
+    }
+    Ok(())
+}
+
+fn check(
+    rng: &mut Rng,
+    held: &Held,
+    steps: u32,
+    trace: &[u32],
+    sheet: &Sheet,
+    seen: &mut Seen,
+    log: &Log,
+) -> Compared {
+    let scratch = match rng.below(4) {
+        0 => astray::near_len(rng, held.ins.vars_count.min(999) as usize),
+        _ => Room::AMPLE.scratch / 8,
+    };
+    log.say(|| format!("Check({held:?}, {steps}, {trace:?}, {sheet:?}), {scratch} scratch"));
+    let (mut given, mut expected) = (vec![DIRT; scratch], vec![DIRT; scratch]);
+    let library = sfr::is_witness_valid(
+        to_library(held.ins),
+        &held.label,
+        &held.publics,
+        &held.queries,
+        &held.equations,
+        steps,
+        trace,
+        sheet.rounds,
+        &sheet.words,
+        &mut given,
+    );
+    let reading = reading::is_witness_valid(
+        held.ins,
+        &held.label,
+        &held.publics,
+        &held.queries,
+        &held.equations,
+        steps,
+        trace,
+        held::lent(sheet),
+        &mut expected,
+    );
+    seen.answered("check", reading);
+    same(
+        "check",
+        ("library", (library, given)),
+        ("reading", (reading, expected)),
+    )
+}

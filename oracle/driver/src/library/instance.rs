@@ -1,0 +1,239 @@
+//! `instance`: the gate, an instance's bytes both ways, and values in held publics.
+
+use reading::Instance;
+
+use super::{astray, side::to_library as to_relation};
+use crate::{
+    calls::{State, DIRT},
+    compared::{same, Compared, Log, Outcome, Seen},
+    generate::{self, Generator},
+    held::{Held, Room},
+    lists,
+    options::Options,
+    rng::Rng,
+};
+
+pub fn run(options: &Options) -> bool {
+    let line = lists::compare(options, list);
+    line.inspect(|line| println!("{line}")).is_some()
+}
+
+pub fn to_library(ins: Instance) -> sfr::Instance {
+    sfr::Instance {
+        width: ins.width,
+        vars_count: ins.vars_count,
+        queries: ins.queries,
+        equations: ins.equations,
+        words: ins.words,
+        publics: ins.publics,
+    }
+}
+
+fn from_library(ins: sfr::Instance) -> Instance {
+    Instance {
+        width: ins.width,
+        vars_count: ins.vars_count,
+        queries: ins.queries,
+        equations: ins.equations,
+        words: ins.words,
+        publics: ins.publics,
+    }
+}
+
+/// The relation that a list of calls makes, by the second reading.
+pub fn relation(generator: &mut Generator) -> State {
+    let mut state = generator.state();
+    state.new_relation(generator.width);
+    for _ in 0..generator.rng.below(30) {
+        let call = generator.call(&state);
+        let answer = state.run(&call);
+        generator.note(&call, &answer);
+    }
+    state
+}
+
+fn list(seed: u64, seen: &mut Seen, log: &Log) -> Compared {
+    let mut generator = Generator::new(Rng::new(seed));
+    let state = relation(&mut generator);
+    let rng = &mut generator.rng;
+    let label = generate::label(rng).into_bytes();
+    for _ in 0..8 {
+        let (mut other, mut text) = (state.clone(), label.clone());
+        if rng.once_in(2) {
+            astray::state(rng, &mut other);
+            text = astray::label(rng, &label);
+        }
+        let held = match gate(rng, &other, &text, seen, log)? {
+            Some(held) => held,
+            None => Held::from_parts(generator.width, &generate::ungated(rng, generator.width)),
+        };
+        instance(rng, &held, seen, log)?;
+    }
+    Ok(())
+}
+
+/// The gate; the instance where it accepts.
+pub fn gate(
+    rng: &mut Rng,
+    state: &State,
+    label: &[u8],
+    seen: &mut Seen,
+    log: &Log,
+) -> Outcome<Option<Held>> {
+    let assigned = state.slots.iter().filter(|&&slot| slot != u32::MAX).count();
+    let (mut publics, mut scratch) = (Room::AMPLE.publics / 8, Room::AMPLE.scratch / 8);
+    if rng.once_in(3) {
+        publics = astray::near_len(rng, 2 * assigned);
+        scratch = astray::near_len(rng, state.rel.vars_count.min(999) as usize);
+    }
+    log.say(|| format!("Gate({state:?}, {label:?}), {publics} publics, {scratch} scratch"));
+    let mut given = (vec![DIRT; publics], vec![DIRT; scratch]);
+    let mut expected = given.clone();
+    let library = sfr::compile(
+        to_relation(state.rel),
+        label,
+        &state.slots,
+        &state.queries,
+        &state.equations,
+        &mut given.0,
+        &mut given.1,
+    );
+    let reading = reading::compile(
+        state.rel,
+        label,
+        &state.slots,
+        &state.queries,
+        &state.equations,
+        &mut expected.0,
+        &mut expected.1,
+    );
+    seen.answered("gate", reading.number);
+    let library = (library.number, from_library(library.instance), given);
+    let answer = (reading.number, reading.instance, expected);
+    same("gate", ("library", &library), ("reading", &answer))?;
+    let held = Held {
+        ins: reading.instance,
+        label: label.to_vec(),
+        publics: answer.2 .0,
+        queries: state.queries.clone(),
+        equations: state.equations.clone(),
+    };
+    Ok((reading.number == 0).then_some(held))
+}
+
+/// Values, a write, and reads of what was written, whole and damaged.
+fn instance(rng: &mut Rng, held: &Held, seen: &mut Seen, log: &Log) -> Compared {
+    let bytes = write(rng, held, seen, log)?;
+    for _ in 0..2 {
+        let mut other = held.clone();
+        astray::held(rng, &mut other);
+        value(rng, &other, seen, log)?;
+        write(rng, &other, seen, log)?;
+    }
+    let later = (17 + held.label.len()..bytes.len()).step_by(4);
+    let fields: Vec<usize> = [5, 9, 13].into_iter().chain(later).collect();
+    for i in 0..4 {
+        let damaged = generate::damaged(rng, &bytes, &fields);
+        let bytes = if i == 0 { &bytes } else { &damaged };
+        read(rng, held, bytes, seen, log)?;
+    }
+    Ok(())
+}
+
+fn value(rng: &mut Rng, held: &Held, seen: &mut Seen, log: &Log) -> Compared {
+    let var = match held.publics.len() {
+        0 => rng.edge(),
+        _ if rng.once_in(4) => rng.edge(),
+        len => held.publics[rng.below(len)],
+    };
+    log.say(|| format!("PublicValue({:?}, {:?}, {var})", held.ins, held.publics));
+    let library = sfr::public_value(to_library(held.ins), &held.publics, var);
+    let reading = reading::public_value(held.ins, &held.publics, var);
+    seen.answered("value in held publics", reading.number);
+    let given = (library.number, library.some, library.value);
+    let (some, word) = (reading.value.is_some(), reading.value.unwrap_or(0));
+    let expected = (reading.number, some, word);
+    same("value", ("library", given), ("reading", expected))
+}
+
+/// The bytes written; none after a refusal.
+fn write(rng: &mut Rng, held: &Held, seen: &mut Seen, log: &Log) -> Outcome<Vec<u8>> {
+    let words = held.publics.len() + held.queries.len() + held.equations.len();
+    let mut room = 33 + held.label.len() + 4 * words;
+    if rng.once_in(3) {
+        // Just what it takes, or one byte less or more.
+        let (_, exact) = held.write(room);
+        room = astray::near_len(rng, exact.len());
+    }
+    log.say(|| format!("Write({held:?}) into {room} bytes"));
+    let (mut given, mut expected) = (vec![0xEE; room], vec![0xEE; room]);
+    let library = sfr::instance_to_bytes(
+        to_library(held.ins),
+        &held.label,
+        &held.publics,
+        &held.queries,
+        &held.equations,
+        &mut given,
+    );
+    let reading = reading::instance_to_bytes(
+        held.ins,
+        &held.label,
+        &held.publics,
+        &held.queries,
+        &held.equations,
+        &mut expected,
+    );
+    seen.answered("write SFRI", reading.number);
+    let library = (library.number, library.len, &given);
+    let answer = (reading.number, reading.len, &expected);
+    same("write SFRI", ("library", library), ("reading", answer))?;
+    expected.truncate(reading.len);
+    Ok(expected)
+}
+
+/// A read into stores that are ample, or near what the instance takes.
+fn read(rng: &mut Rng, held: &Held, bytes: &[u8], seen: &mut Seen, log: &Log) -> Compared {
+    let ins = held.ins;
+    let width = if rng.once_in(10) {
+        astray::width(rng)
+    } else {
+        ins.width
+    };
+    let mut lens = [Room::AMPLE.publics / 8; 4];
+    if rng.once_in(3) {
+        let (publics, queries, equations) = held.words();
+        let exact = [
+            publics.len(),
+            queries.len(),
+            equations.len(),
+            ins.vars_count.min(999) as usize,
+        ];
+        lens = exact.map(|len| {
+            if rng.once_in(2) {
+                len
+            } else {
+                astray::near_len(rng, len)
+            }
+        });
+    }
+    log.say(|| format!("Read({width}, {bytes:?}) into {lens:?} words"));
+    let mut given = lens.map(|len| vec![DIRT; len]);
+    let mut expected = given.clone();
+    let [publics, queries, equations, scratch] = &mut given;
+    let library = sfr::instance_from_bytes(width, bytes, publics, queries, equations, scratch);
+    let [publics, queries, equations, scratch] = &mut expected;
+    let reading = reading::instance_from_bytes(width, bytes, publics, queries, equations, scratch);
+    seen.answered("read SFRI", reading.number);
+    let answer = (
+        library.number,
+        from_library(library.instance),
+        library.label_len,
+    );
+    let library = (answer, given);
+    let answer = (reading.number, reading.instance, reading.label.len());
+    same(
+        "read SFRI",
+        ("library", library),
+        ("reading", (answer, expected)),
+    )
+}
