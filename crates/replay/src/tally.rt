@@ -1,0 +1,137 @@
+// Cases counted by their operation, and what is printed of them.
+
+use crate::sample::Found;
+use libc::STDOUT_FILENO;
+
+// An operation's number is below this; 0 is none.
+const KINDS: usize = 6;
+
+// How many differences are told.
+const TOLD: u64 = 10;
+
+// How many cases were replayed, how many of each operation agree, and how many differences there are: cases that
+// do not agree, and faults of the sample.
+pub struct Tally {
+    pub replayed: u64,
+    pub different: u64,
+    pub agree: [u64; KINDS],
+}
+
+pub fn nothing() -> Tally {
+    Tally {
+        replayed: 0,
+        different: 0,
+        agree: [0; KINDS],
+    }
+}
+
+fn one_more(n: u64) -> u64 {
+    std::num::wrapping_add_u64(n, 1)
+}
+
+// One case more, of an operation, and what was found in it.
+pub fn counted(tally: Tally, op: u32, found: Found) -> Tally {
+    let mut now = tally;
+    now.replayed = one_more(now.replayed);
+    let Found::Same = found else {
+        tell_case(now, op, found);
+        now.different = one_more(now.different);
+        return now;
+    };
+    let kind = op as usize;
+    if kind < KINDS {
+        now.agree[kind] = one_more(now.agree[kind]);
+    }
+    now
+}
+
+// A fault of the sample itself.
+pub fn faulty(tally: Tally, what: &[u8]) -> Tally {
+    let mut now = tally;
+    io::write_all(STDOUT_FILENO, what);
+    io::write_all(STDOUT_FILENO, b"\n");
+    now.different = one_more(now.different);
+    now
+}
+
+// What the cases of an operation are.
+fn print_kind(op: u64) -> bool {
+    match op {
+        1 => io::write_all(STDOUT_FILENO, b"sums"),
+        2 => io::write_all(STDOUT_FILENO, b"products"),
+        3 => io::write_all(STDOUT_FILENO, b"texts"),
+        4 => io::write_all(STDOUT_FILENO, b"words"),
+        5 => io::write_all(STDOUT_FILENO, b"items"),
+        _ => io::write_all(STDOUT_FILENO, b"unknown"),
+    }
+}
+
+// A word of an answer that differs.
+fn print_word(word: u64, here: u32, expected: u32) -> bool {
+    io::write_all(STDOUT_FILENO, b"word ");
+    io::print_decimal(STDOUT_FILENO, word);
+    io::write_all(STDOUT_FILENO, b" of the answer is ");
+    io::print_decimal(STDOUT_FILENO, here as u64);
+    io::write_all(STDOUT_FILENO, b" here, ");
+    io::print_decimal(STDOUT_FILENO, expected as u64);
+    io::write_all(STDOUT_FILENO, b" in the sample")
+}
+
+// What was found in a case.
+fn print_found(found: Found) -> bool {
+    match found {
+        Found::Same => io::write_all(STDOUT_FILENO, b"agrees"),
+        Found::Different {
+            word,
+            here,
+            expected,
+        } => print_word(word, here, expected),
+        Found::CutOff => io::write_all(STDOUT_FILENO, b"the sample ends before the case does"),
+        Found::TooLong => io::write_all(STDOUT_FILENO, b"a store is longer than this program's"),
+        Found::Unknown => io::write_all(STDOUT_FILENO, b"no operation has this number"),
+    }
+}
+
+// The line of a case that does not agree, for the first few.
+fn tell_case(tally: Tally, op: u32, found: Found) {
+    if tally.different < TOLD {
+        io::write_all(STDOUT_FILENO, b"case ");
+        io::print_decimal(STDOUT_FILENO, tally.replayed);
+        io::write_all(STDOUT_FILENO, b", operation ");
+        io::print_decimal(STDOUT_FILENO, op as u64);
+        io::write_all(STDOUT_FILENO, b" (");
+        print_kind(op as u64);
+        io::write_all(STDOUT_FILENO, b"): ");
+        print_found(found);
+        io::write_all(STDOUT_FILENO, b"\n");
+    }
+}
+
+// A number in ten columns.
+fn print_column(n: u64) {
+    let mut digits = [0u8; 20];
+    let k = io::decimal(n, &mut digits);
+    let blanks = [b' '; 10];
+    let all = &blanks[..];
+    if k < 10 {
+        io::write_all(STDOUT_FILENO, &all[k..]);
+    }
+    io::write_all(STDOUT_FILENO, &digits[..k]);
+}
+
+// A line for each operation, and the last line.
+pub fn print(tally: Tally) {
+    let agree = tally.agree;
+    let mut op = 1;
+    while op < KINDS {
+        print_column(agree[op]);
+        io::write_all(STDOUT_FILENO, b" ");
+        print_kind(op as u64);
+        io::write_all(STDOUT_FILENO, b" agree\n");
+        op += 1;
+    }
+    io::print_decimal(STDOUT_FILENO, tally.replayed);
+    io::write_all(STDOUT_FILENO, b" answers replayed, ");
+    io::print_decimal(STDOUT_FILENO, tally.different);
+    io::write_all(STDOUT_FILENO, b" different\n");
+}
