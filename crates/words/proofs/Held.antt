@@ -4,7 +4,7 @@ use Prim.Native.Nat.{ℕ, _+_, _*_, _≤_}
 use mathlib.Core.Path.{_≡_, refl, sym, ap, ap₂, _∙_}
 use mathlib.Core.List.{List, [], _∷_, _++_, append-assoc, append-nil}
 use native.Mathlib.Omega.{arith}
-use lib.ListN.{length, take, drop, length-append}
+use lib.ListN.{length, drop, length-append}
 use lib.Seq.{take-at, drop-at, take-append-seam, drop-append-add}
 use Rattle.words.specs.Store.{putWords, All, Begins}
 use Rattle.words.specs.Pieces.{pieces, flat}
@@ -21,10 +21,6 @@ begins-put l words store at e b = record {
 
 pub begins-fits : (l store : List ℕ) → Begins l store → length l ≤ length store
 begins-fits l store b = let e = ap length (b .is) ∙ length-append l (b .rest) in omega arith
-
--- the first words of the store are these
-pub begins-take : (l store : List ℕ) (n : ℕ) → n ≡ length l → Begins l store → take n store ≡ l
-begins-take l store n e b = ap (λ (s : List ℕ). take n s) (b .is) ∙ take-at l (b .rest) n (sym e)
 
 -- ---- pieces of k words
 pub flat-length : (k : ℕ) (qs : List (List ℕ)) → All (λ q. length q ≡ k) qs → length (flat qs) ≡ length qs * k

@@ -17,14 +17,6 @@ pub all-append : {A : Type 0} (P : A → Type 0) (k l : List A) → All P k → 
 all-append P [] l a b = b
 all-append P (x ∷ k) l a b = (a .0, all-append P k l (a .1) b)
 
-pub all-left : {A : Type 0} (P : A → Type 0) (k l : List A) → All P (k ++ l) → All P k
-all-left P [] l a = tt
-all-left P (x ∷ k) l a = (a .0, all-left P k l (a .1))
-
-pub all-right : {A : Type 0} (P : A → Type 0) (k l : List A) → All P (k ++ l) → All P l
-all-right P [] l a = a
-all-right P (x ∷ k) l a = all-right P k l (a .1)
-
 pub all-map : {A : Type 0} (P Q : A → Type 0) (l : List A) → ((x : A) → P x → Q x) → All P l → All Q l
 all-map P Q [] f a = tt
 all-map P Q (x ∷ l) f a = (f x (a .0), all-map P Q l f (a .1))
