@@ -3,9 +3,9 @@
 -- `Same n a b` is a record, so that n, a and b are found at each use. A chain of such steps, with
 -- `same (omega arith)` between them for what is equal as a polynomial, proves an equation modulo n.
 -- Assumes nothing.
-use Prim.Native.Nat.{ℕ, zero, suc, _+_, _*_, _/_, _%_, _^_, _<_}
+use Prim.Native.Nat.{ℕ, _+_, _*_, _/_, _%_, _<_}
 use mathlib.Core.Path.{_≡_, refl, sym, ap, _∙_}
-use native.Mathlib.Nat.{add-mul, add-comm, mul-comm, mul-right-comm, div-add-mod', add-mul-mod-self-right, mod-add-mod, add-mod-mod, mod-mod, mod-eq-of-lt, pow-suc, pow-zero}
+use native.Mathlib.Nat.{add-mul, add-comm, mul-comm, mul-right-comm, div-add-mod', add-mul-mod-self-right, mod-add-mod, add-mod-mod, mod-mod, mod-eq-of-lt}
 
 pub mod-mul-left : (a b n : ℕ) → (a % n) * b % n ≡ a * b % n
 mod-mul-left a b n =

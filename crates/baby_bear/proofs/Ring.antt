@@ -9,7 +9,7 @@ use native.Mathlib.Omega.{arith}
 use native.Mathlib.Nat.{mod-lt, mod-mod, pow-suc, pow-zero}
 use lib.Dec.{lit<}
 use Rattle.limits.specs.Numbers.{prime}
-use Rattle.baby_bear.specs.Field.{addUnit, mulUnit, powerUnit, seventh, sumUnits, productUnits, dotUnits, sum, dot}
+use Rattle.baby_bear.specs.Field.{addUnit, mulUnit, powerUnit, seventh, sumUnits, dotUnits, sum, dot}
 use Rattle.baby_bear.proofs.Mod.{Same, same, keep, back, _⟫_, rest, _⊗_, _⊕_}
 
 reduced : (a b : ℕ) → a ≡ b → a % prime ≡ b % prime

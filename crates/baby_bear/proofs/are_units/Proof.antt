@@ -1,6 +1,6 @@
 -- `baby_bear::are_units` meets its contract. The invariant: the largest so far is a unit and so are the words
 -- that are left, exactly where all words are. The measure is what is left of the length. Assumes nothing.
-use Prim.Native.Nat.{ℕ, _≤_, _-_}
+use Prim.Native.Nat.{_≤_, _-_}
 use mathlib.Core.Path.{_≡_, refl}
 use mathlib.Core.Bool.{_&&_}
 use native.Mathlib.Omega.{arith}
