@@ -10,7 +10,7 @@ use borrow.Author.Tests.{le-leb, lt-leb, leb-true, leb-false}
 use lib.Dec.{leb}
 use lib.ListN.{length, drop, length-append, length-drop}
 use lib.Seq.{drop-drop, drop-append-seam}
-use Rattle.narg.specs.All.{All}
+use Rattle.words.specs.Store.{All}
 use Rattle.narg.specs.Bytes.{IsBytes}
 use Rattle.narg.specs.Reader.{Got, got, stop, Reader, onGot, orStop, _>>=_, _>>_, give, need, times, items, each, sizes}
 use Rattle.narg.proofs.Fields.{never, isBytes-rest}

@@ -9,8 +9,7 @@ use borrow.Author.Tests.{lt-ltb, ltb-true}
 use lib.Dec.{ltb}
 use lib.ListN.{length, drop, getD, length-drop}
 use lib.Seq.{drop-drop, getD-drop}
-use Rattle.words.specs.Store.{allBelow}
-use Rattle.narg.specs.All.{All}
+use Rattle.words.specs.Store.{allBelow, All}
 use Rattle.narg.specs.Bytes.{wordEnd, IsBytes, u32Bytes, word4}
 use Rattle.narg.specs.Reader.{Got, got, onGot, give, word, below, times, each}
 use Rattle.narg.proofs.Fields.{length-u32Bytes, word-rest, word-long, below-law, below-back, below-rest, below-got, rest-at}

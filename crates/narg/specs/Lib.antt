@@ -1,4 +1,3 @@
-pub mod All
 pub mod Bytes
 pub mod Cursor
 pub mod Reader
