@@ -4,10 +4,19 @@ use Prim.Native.Nat.{ℕ, zero, suc}
 use mathlib.Core.Path.{_≡_, refl, sym, _∙_}
 use mathlib.Core.List.{List}
 use Rattle.limits.specs.Questions.{onYes}
-use Rattle.permutation.specs.Answers.{outcomeOf, firstOf, recordedOf, allocatedOf}
+use Rattle.permutation.specs.Answers.{outcomeOf, outcomeNumber, firstOf, firstNumber, recordedOf, allocatedOf}
 use Rattle.permutation.specs.declared.PermutationRelation.{PermutationRelation}
 use Rattle.permutation.specs.declared.Outcome.the-variants as outcome
 use Rattle.permutation.specs.declared.First.the-variants as first
+
+-- an answer's number is the one that it was made from
+pub outcome-number : (k : ℕ) → outcomeNumber (outcomeOf k) ≡ k
+outcome-number zero = refl
+outcome-number (suc k) = refl
+
+pub first-number : (k v : ℕ) → firstNumber (firstOf k v) ≡ k
+first-number zero v = refl
+first-number (suc k) v = refl
 
 pub outcome-refused : (k : ℕ) → (k ≡ 0 → ⊥) → outcome.Refused k ≡ outcomeOf k
 outcome-refused zero h = absurd (h refl)

@@ -9,3 +9,4 @@ pub mod Slots
 pub mod Stores
 pub mod Keeps
 pub mod Examples
+pub mod Left

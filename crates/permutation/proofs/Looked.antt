@@ -1,14 +1,17 @@
 -- The value of a wire, and whether it is allocated: the cases of the definitions, by facts on numbers.
 -- Assumes nothing.
-use Prim.Native.Nat.{ℕ, _≤_, _<_}
-use mathlib.Core.Path.{_≡_, sym, _∙_}
+use Prim.Native.Nat.{ℕ, zero, suc, _≤_, _<_}
+use mathlib.Core.Path.{_≡_, refl, sym, _∙_}
+use mathlib.Core.Bool.{Bool, true, false}
 use mathlib.Core.List.{List}
 use borrow.Author.Tests.{lt-ltb, le-ltb, eq-eqb, ne-eqb}
+use lib.Dec.{eqb, ltb}
 use lib.ListN.{length, getD}
 use Rattle.limits.specs.Numbers.{unassigned}
+use Rattle.limits.specs.Questions.{pick, onYes}
 use Rattle.words.proofs.Lists.{getD-any}
 use Rattle.permutation.specs.Numbers.{valueNo, isAllocatedNo}
-use Rattle.permutation.specs.Answers.{valueOf, isAllocated}
+use Rattle.permutation.specs.Answers.{valueNumber, isAllocatedNumber, valueOf, isAllocated}
 use Rattle.permutation.proofs.Answered.{stays-by}
 use Rattle.permutation.specs.declared.PermutationRelation.{PermutationRelation}
 use Rattle.permutation.specs.declared.VarValue.the-variants as varValue
@@ -44,3 +47,23 @@ module _ (rel : PermutationRelation) (x k : ℕ) (e : k ≡ isAllocatedNo rel x)
 
   pub allocated-no : k ≡ 0 → rel .vars ≤ x → allocated.No ≡ isAllocated rel x
   allocated-no z h = let q : isAllocatedNo rel x ≡ 0 = sym e ∙ z in rw (q, le-ltb x (rel .vars) h)
+
+-- ---- an answer's number is the first no of the questions
+pub value-number : (rel : PermutationRelation) (slots : List ℕ) (x : ℕ) → valueNumber (valueOf rel slots x) ≡ valueNo rel (length slots) x
+value-number rel slots x =
+    go (valueNo rel (length slots) x) (ltb x (rel .vars)) (eqb (getD slots x unassigned) unassigned) (getD slots x unassigned)
+  where
+    go : (k : ℕ) (b c : Bool) (h : ℕ)
+        → valueNumber (onYes k (pick b (pick c varValue.Nothing (varValue.Value h)) varValue.Nothing) (varValue.Refused k)) ≡ k
+    go zero true true h = refl
+    go zero true false h = refl
+    go zero false c h = refl
+    go (suc k) b c h = refl
+
+pub isAllocated-number : (rel : PermutationRelation) (x : ℕ) → isAllocatedNumber (isAllocated rel x) ≡ isAllocatedNo rel x
+isAllocated-number rel x = go (isAllocatedNo rel x) (ltb x (rel .vars))
+  where
+    go : (k : ℕ) (b : Bool) → isAllocatedNumber (onYes k (pick b allocated.Yes allocated.No) (allocated.Refused k)) ≡ k
+    go zero true = refl
+    go zero false = refl
+    go (suc k) b = refl

@@ -2,3 +2,4 @@ pub mod Relation
 pub mod Numbers
 pub mod Answers
 pub mod State
+pub mod Left

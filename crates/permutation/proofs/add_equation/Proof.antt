@@ -41,42 +41,47 @@ put-equation-requires c κs = search needs
 
 add-t17 : tie.Need-add-t17
 add-t17 c =
-    let a = c .before .before .before .before .before .before .before .before .before .before .before .before .args in
+    let d = c .before .before .before .before .before .before .before in
+    let a = d .before .before .before .before .before .args in
     let ts = termsOf (now (a .vars)) (now (a .weights)) in
     let n = c .before .before .before .before .before .before .terms-count .ensures in
-    let y = addEquation-yes (a .rel) (length (now (a .equations))) ts (a .image .0) (sym (c .before .before .before .before .before .before .before .before .add-equation-no .ensures) ∙ c .before .before .before .before .before .before .before .if1 .left) in
+    let y = addEquation-yes (a .rel) (length (now (a .equations))) ts (a .image .0) (sym (d .before .add-equation-no .ensures) ∙ d .if1 .left) in
     omega arith
 
 cast-t18 : tie.Need-cast-t18
 cast-t18 c =
-    let a = c .before .before .before .before .before .before .before .before .before .before .before .before .args in
+    let d = c .before .before .before .before .before .before .before in
+    let a = d .before .before .before .before .before .args in
     let ts = termsOf (now (a .vars)) (now (a .weights)) in
     let n = c .before .before .before .before .before .before .terms-count .ensures in
-    let y = addEquation-yes (a .rel) (length (now (a .equations))) ts (a .image .0) (sym (c .before .before .before .before .before .before .before .before .add-equation-no .ensures) ∙ c .before .before .before .before .before .before .before .if1 .left) in
+    let y = addEquation-yes (a .rel) (length (now (a .equations))) ts (a .image .0) (sym (d .before .add-equation-no .ensures) ∙ d .if1 .left) in
     omega arith
 
 mul-t19 : tie.Need-mul-t19
 mul-t19 c =
-    let a = c .before .before .before .before .before .before .before .before .before .before .before .before .args in
+    let d = c .before .before .before .before .before .before .before in
+    let a = d .before .before .before .before .before .args in
     let ts = termsOf (now (a .vars)) (now (a .weights)) in
     let n = c .before .before .before .before .before .before .terms-count .ensures in
-    let y = addEquation-yes (a .rel) (length (now (a .equations))) ts (a .image .0) (sym (c .before .before .before .before .before .before .before .before .add-equation-no .ensures) ∙ c .before .before .before .before .before .before .before .if1 .left) in
+    let y = addEquation-yes (a .rel) (length (now (a .equations))) ts (a .image .0) (sym (d .before .add-equation-no .ensures) ∙ d .if1 .left) in
     omega arith
 
 add-t20 : tie.Need-add-t20
 add-t20 c =
-    let a = c .before .before .before .before .before .before .before .before .before .before .before .before .args in
+    let d = c .before .before .before .before .before .before .before in
+    let a = d .before .before .before .before .before .args in
     let ts = termsOf (now (a .vars)) (now (a .weights)) in
     let n = c .before .before .before .before .before .before .terms-count .ensures in
-    let y = addEquation-yes (a .rel) (length (now (a .equations))) ts (a .image .0) (sym (c .before .before .before .before .before .before .before .before .add-equation-no .ensures) ∙ c .before .before .before .before .before .before .before .if1 .left) in
+    let y = addEquation-yes (a .rel) (length (now (a .equations))) ts (a .image .0) (sym (d .before .add-equation-no .ensures) ∙ d .if1 .left) in
     omega arith
 
 add-t21 : tie.Need-add-t21
 add-t21 c =
-    let a = c .before .before .before .before .before .before .before .before .before .before .before .before .before .args in
+    let d = c .before .before .before .before .before .before .before .before in
+    let a = d .before .before .before .before .before .args in
     let ts = termsOf (now (a .vars)) (now (a .weights)) in
     let n = c .before .before .before .before .before .before .before .terms-count .ensures in
-    let y = addEquation-yes (a .rel) (length (now (a .equations))) ts (a .image .0) (sym (c .before .before .before .before .before .before .before .before .before .add-equation-no .ensures) ∙ c .before .before .before .before .before .before .before .before .if1 .left) in
+    let y = addEquation-yes (a .rel) (length (now (a .equations))) ts (a .image .0) (sym (d .before .add-equation-no .ensures) ∙ d .if1 .left) in
     omega arith
 
 same-length : tie.Need-same-length
@@ -84,13 +89,14 @@ same-length c = search needs
 
 returns-2 : tie.Need-returns-2
 returns-2 c =
-    let a = c .before .before .before .before .before .before .before .before .before .before .before .before .before .args in
+    let d = c .before .before .before .before .before .before .before .before in
+    let a = d .before .before .before .before .before .args in
     let s = now (a .equations) in
     let ts = termsOf (now (a .vars)) (now (a .weights)) in
     let image = a .image .0 in
     let no = addEquationNo (a .rel) (length s) ts image in
-    let e = c .before .before .before .before .before .before .before .before .before .add-equation-no .ensures in
-    let z = c .before .before .before .before .before .before .before .before .if1 .left in
+    let e = d .before .add-equation-no .ensures in
+    let z = d .if1 .left in
     let y = addEquation-yes (a .rel) (length s) ts image (sym e ∙ z) in (
       (λ i. record { outcome = Accepted; relation = oneEquation (a .rel) (c .before .before .before .before .before .before .before .terms-count .ensures i) })
           ∙ recorded-accepted no _ e (oneEquation (a .rel) (length ts)) (a .rel) z,

@@ -41,8 +41,9 @@ add-at c = search needs
 
 mul-at : tie.Need-mul-at
 mul-at c =
-    let a = c .before .before .before .before .before .before .before .args in
-    let y = addPermutation-yes (a .rel) (length (now (a .queries))) (now (a .input)) (now (a .output)) (sym (c .before .before .before .add-permutation-no .ensures) ∙ c .before .before .if1 .left) in
+    let d = c .before .before in
+    let a = d .before .before .before .before .before .args in
+    let y = addPermutation-yes (a .rel) (length (now (a .queries))) (now (a .input)) (now (a .output)) (sym (d .before .add-permutation-no .ensures) ∙ d .if1 .left) in
     omega arith
 
 put-requires : tie.Need-put-requires
@@ -50,8 +51,9 @@ put-requires c κs = search needs
 
 add-put : tie.Need-add-put
 add-put c =
-    let a = c .before .before .before .before .before .before .before .before .before .before .before .before .args in
-    let y = addPermutation-yes (a .rel) (length (now (a .queries))) (now (a .input)) (now (a .output)) (sym (c .before .before .before .before .before .before .before .before .add-permutation-no .ensures) ∙ c .before .before .before .before .before .before .before .if1 .left) in
+    let d = c .before .before .before .before .before .before .before in
+    let a = d .before .before .before .before .before .args in
+    let y = addPermutation-yes (a .rel) (length (now (a .queries))) (now (a .input)) (now (a .output)) (sym (d .before .add-permutation-no .ensures) ∙ d .if1 .left) in
     omega arith
 
 put-requires-2 : tie.Need-put-requires-2
@@ -59,8 +61,9 @@ put-requires-2 c κs = search needs
 
 add-t18 : tie.Need-add-t18
 add-t18 c =
-    let a = c .before .before .before .before .before .before .before .before .before .before .before .before .before .before .before .before .args in
-    let y = addPermutation-yes (a .rel) (length (now (a .queries))) (now (a .input)) (now (a .output)) (sym (c .before .before .before .before .before .before .before .before .before .before .before .before .add-permutation-no .ensures) ∙ c .before .before .before .before .before .before .before .before .before .before .before .if1 .left) in
+    let d = c .before .before .before .before .before .before .before .before .before .before .before in
+    let a = d .before .before .before .before .before .args in
+    let y = addPermutation-yes (a .rel) (length (now (a .queries))) (now (a .input)) (now (a .output)) (sym (d .before .add-permutation-no .ensures) ∙ d .if1 .left) in
     let q = queries-few (a .rel) (length (now (a .queries))) (y .least) (y .room) in
     omega arith
 
@@ -69,14 +72,15 @@ same-length c = search needs
 
 returns-2 : tie.Need-returns-2
 returns-2 c =
-    let a = c .before .before .before .before .before .before .before .before .before .before .before .before .before .before .before .before .args in
+    let d = c .before .before .before .before .before .before .before .before .before .before .before in
+    let a = d .before .before .before .before .before .args in
     let s = now (a .queries) in
     let input = now (a .input) in
     let output = now (a .output) in
     let at = wordsOf (a .rel .width) (a .rel .queries) in
     let no = addPermutationNo (a .rel) (length s) input output in
-    let e = c .before .before .before .before .before .before .before .before .before .before .before .before .add-permutation-no .ensures in
-    let z = c .before .before .before .before .before .before .before .before .before .before .before .if1 .left in
+    let e = d .before .add-permutation-no .ensures in
+    let z = d .if1 .left in
     let y = addPermutation-yes (a .rel) (length s) input output (sym e ∙ z) in (
       recorded-accepted no _ e (oneQuery (a .rel)) (a .rel) z,
       c .before .before .before .put2 .ensures

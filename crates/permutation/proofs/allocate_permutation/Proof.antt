@@ -1,4 +1,5 @@
--- `permutation::allocate_permutation` meets its contract: both stores have room, so the slots grow, and two writes, one behind the other, are the query.
+-- `permutation::allocate_permutation` meets its contract: both stores have room, so the slots grow, and two
+-- writes, one behind the other, are the query.
 -- Assumes nothing.
 use mathlib.Core.Path.{_≡_, sym, ap, _∙_}
 use mathlib.Core.List.{_++_}
@@ -60,8 +61,9 @@ put-requires c κs = search needs
 
 add-put-vars : tie.Need-add-put-vars
 add-put-vars c =
-    let a = c .before .before .before .before .before .before .before .before .before .before .before .before .before .before .args in
-    let y = allocatePermutation-yes (a .rel) (length (now (a .slots))) (length (now (a .queries))) (now (a .input)) (sym (c .before .before .before .before .before .before .before .before .before .before .allocate-permutation-no .ensures) ∙ c .before .before .before .before .before .before .before .before .before .if1 .left) in
+    let d = c .before .before .before .before .before .before .before .before .before in
+    let a = d .before .before .before .before .before .args in
+    let y = allocatePermutation-yes (a .rel) (length (now (a .slots))) (length (now (a .queries))) (now (a .input)) (sym (d .before .allocate-permutation-no .ensures) ∙ d .if1 .left) in
     omega arith
 
 put-vars-requires : tie.Need-put-vars-requires
@@ -69,14 +71,16 @@ put-vars-requires c κs = search needs
 
 add-t23 : tie.Need-add-t23
 add-t23 c =
-    let a = c .before .before .before .before .before .before .before .before .before .before .before .before .before .before .before .before .before .args in
-    let y = allocatePermutation-yes (a .rel) (length (now (a .slots))) (length (now (a .queries))) (now (a .input)) (sym (c .before .before .before .before .before .before .before .before .before .before .before .before .before .allocate-permutation-no .ensures) ∙ c .before .before .before .before .before .before .before .before .before .before .before .before .if1 .left) in
+    let d = c .before .before .before .before .before .before .before .before .before .before .before .before in
+    let a = d .before .before .before .before .before .args in
+    let y = allocatePermutation-yes (a .rel) (length (now (a .slots))) (length (now (a .queries))) (now (a .input)) (sym (d .before .allocate-permutation-no .ensures) ∙ d .if1 .left) in
     omega arith
 
 add-t24 : tie.Need-add-t24
 add-t24 c =
-    let a = c .before .before .before .before .before .before .before .before .before .before .before .before .before .before .before .before .before .args in
-    let y = allocatePermutation-yes (a .rel) (length (now (a .slots))) (length (now (a .queries))) (now (a .input)) (sym (c .before .before .before .before .before .before .before .before .before .before .before .before .before .allocate-permutation-no .ensures) ∙ c .before .before .before .before .before .before .before .before .before .before .before .before .if1 .left) in
+    let d = c .before .before .before .before .before .before .before .before .before .before .before .before in
+    let a = d .before .before .before .before .before .args in
+    let y = allocatePermutation-yes (a .rel) (length (now (a .slots))) (length (now (a .queries))) (now (a .input)) (sym (d .before .allocate-permutation-no .ensures) ∙ d .if1 .left) in
     let q = queries-few (a .rel) (length (now (a .queries))) (y .least) (y .room) in
     omega arith
 
@@ -88,7 +92,8 @@ same-length-2 c = search needs
 
 returns-2 : tie.Need-returns-2
 returns-2 c =
-    let a = c .before .before .before .before .before .before .before .before .before .before .before .before .before .before .before .before .before .args in
+    let d = c .before .before .before .before .before .before .before .before .before .before .before .before in
+    let a = d .before .before .before .before .before .args in
     let s = now (a .slots) in
     let qs = now (a .queries) in
     let input = now (a .input) in
@@ -96,8 +101,8 @@ returns-2 c =
     let width = a .rel .width in
     let at = wordsOf width (a .rel .queries) in
     let no = allocatePermutationNo (a .rel) (length s) (length qs) input in
-    let e = c .before .before .before .before .before .before .before .before .before .before .before .before .before .allocate-permutation-no .ensures in
-    let z = c .before .before .before .before .before .before .before .before .before .before .before .before .if1 .left in
+    let e = d .before .allocate-permutation-no .ensures in
+    let z = d .if1 .left in
     let y = allocatePermutation-yes (a .rel) (length s) (length qs) input (sym e ∙ z) in
     let minted : fitVars (at + width) first width (fitWords at input qs) ≡ fitWords (at + width) (upFrom first width) (fitWords at input qs) =
     simp (le-leb (first + width) maxCount (y .most)) in (

@@ -33,8 +33,9 @@ grow-slots-requires c κs = search needs
 
 add-t13 : tie.Need-add-t13
 add-t13 c =
-    let a = c .before .before .before .before .before .before .before .args in
-    let y = allocateVars-yes (a .rel) (length (now (a .slots))) (a .n) (sym (c .before .before .before .before .before .allocate-vars-no .ensures) ∙ c .before .before .before .before .if1 .left) in
+    let d = c .before .before .before .before in
+    let a = d .before .before .before .args in
+    let y = allocateVars-yes (a .rel) (length (now (a .slots))) (a .n) (sym (d .before .allocate-vars-no .ensures) ∙ d .if1 .left) in
     omega arith
 
 same-length : tie.Need-same-length
@@ -42,11 +43,12 @@ same-length c = search needs
 
 returns-2 : tie.Need-returns-2
 returns-2 c =
-    let a = c .before .before .before .before .before .before .before .args in
+    let d = c .before .before .before .before in
+    let a = d .before .before .before .args in
     let s = now (a .slots) in
     let no = allocateVarsNo (a .rel) (length s) (a .n) in
-    let e = c .before .before .before .before .before .allocate-vars-no .ensures in
-    let z = c .before .before .before .before .if1 .left in
+    let e = d .before .allocate-vars-no .ensures in
+    let z = d .if1 .left in
     let y = allocateVars-yes (a .rel) (length s) (a .n) (sym e ∙ z) in (
       allocated-accepted no _ e (moreVars (a .rel) (a .n)) (a .rel) (a .rel .vars) z,
       c .before .before .grow-slots .ensures

@@ -29,12 +29,13 @@ same-length c = search needs
 
 returns-2 : tie.Need-returns-2
 returns-2 c =
-    let a = c .before .before .before .before .before .before .before .before .before .args in
+    let b = c .before .before .before .before .before .before in
+    let a = b .before .before .before .args in
     let s = now (a .slots) in
     let p = pair (a .var .0) (a .value .0) in
     let d = c .before .before .before .before .assign-var .ensures in
     let answered = c .before .assigned-no .ensures ∙ ap assignedNo (d .0) ∙ assigned-no (a .rel .vars) s p in
-    let r = pair-refused (a .rel) s p _ (c .before .before .before .before .before .before .before .asked-relation .ensures) (c .before .before .before .before .before .before .if1 .left) _ answered (c .if2 .taken) in
+    let r = pair-refused (a .rel) s p _ (b .before .asked-relation .ensures) (b .if1 .left) _ answered (c .if2 .taken) in
     (r .0, d .1 ∙ r .1)
 
 same-length-2 : tie.Need-same-length-2
@@ -42,12 +43,13 @@ same-length-2 c = search needs
 
 returns-3 : tie.Need-returns-3
 returns-3 c =
-    let a = c .before .before .before .before .before .before .before .before .before .args in
+    let b = c .before .before .before .before .before .before in
+    let a = b .before .before .before .args in
     let s = now (a .slots) in
     let p = pair (a .var .0) (a .value .0) in
     let d = c .before .before .before .before .assign-var .ensures in
     let answered = c .before .assigned-no .ensures ∙ ap assignedNo (d .0) ∙ assigned-no (a .rel .vars) s p in
-    let r = pair-accepted (a .rel) s p _ (c .before .before .before .before .before .before .before .asked-relation .ensures) (c .before .before .before .before .before .before .if1 .left) _ answered (c .if2 .left) in
+    let r = pair-accepted (a .rel) s p _ (b .before .asked-relation .ensures) (b .if1 .left) _ answered (c .if2 .left) in
     (r .0, d .1 ∙ r .1)
 
 pub set-var-spec : {M : Type 1} → statement M

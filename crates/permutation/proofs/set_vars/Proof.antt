@@ -29,10 +29,11 @@ asked-requires c κs = search needs
 
 cast-accepted : tie.Need-cast-accepted
 cast-accepted c =
-    let a = c .before .before .before .before .before .before .before .before .before .before .before .args in
+    let b = c .before .before .before .before .before .before in
+    let a = b .before .before .before .before .before .args in
     let vars = now (a .vars) in
     let values = now (a .values) in
-    let y = setVars-yes (a .rel) (length (now (a .slots))) vars values (sym (c .before .before .before .before .before .before .before .set-vars-no .ensures) ∙ c .before .before .before .before .before .before .if1 .left) in
+    let y = setVars-yes (a .rel) (length (now (a .slots))) vars values (sym (b .before .set-vars-no .ensures) ∙ b .if1 .left) in
     let n = accepted-within (a .rel .vars) (now (a .slots)) (pairs vars values) in
     let m = pairs-within vars values in
     let d = c .before .before .before .before .set-pairs .ensures in
@@ -43,9 +44,10 @@ same-length c = search needs
 
 returns-2 : tie.Need-returns-2
 returns-2 c =
-    let a = c .before .before .before .before .before .before .before .before .before .before .before .before .args in
+    let b = c .before .before .before .before .before .before .before in
+    let a = b .before .before .before .before .before .args in
     let d = c .before .before .before .before .before .set-pairs .ensures in
-    let r = pairs-refused (a .rel) (now (a .slots)) (now (a .vars)) (now (a .values)) _ (c .before .before .before .before .before .before .before .before .set-vars-no .ensures) (c .before .before .before .before .before .before .before .if1 .left) _ (d .0) _ (c .before .before .asked .ensures) (c .if2 .taken) in
+    let r = pairs-refused (a .rel) (now (a .slots)) (now (a .vars)) (now (a .values)) _ (b .before .set-vars-no .ensures) (b .if1 .left) _ (d .0) _ (c .before .before .asked .ensures) (c .if2 .taken) in
     (r .0, d .1 ∙ r .1)
 
 same-length-2 : tie.Need-same-length-2
@@ -53,9 +55,10 @@ same-length-2 c = search needs
 
 returns-3 : tie.Need-returns-3
 returns-3 c =
-    let a = c .before .before .before .before .before .before .before .before .before .before .before .before .args in
+    let b = c .before .before .before .before .before .before .before in
+    let a = b .before .before .before .before .before .args in
     let d = c .before .before .before .before .before .set-pairs .ensures in
-    let r = pairs-accepted (a .rel) (now (a .slots)) (now (a .vars)) (now (a .values)) _ (c .before .before .before .before .before .before .before .before .set-vars-no .ensures) (c .before .before .before .before .before .before .before .if1 .left) _ (d .0) _ (c .before .before .asked .ensures) (c .if2 .left) in
+    let r = pairs-accepted (a .rel) (now (a .slots)) (now (a .vars)) (now (a .values)) _ (b .before .set-vars-no .ensures) (b .if1 .left) _ (d .0) _ (c .before .before .asked .ensures) (c .if2 .left) in
     (r .0, d .1 ∙ r .1)
 
 pub set-vars-spec : {M : Type 1} → statement M

@@ -31,23 +31,26 @@ mul-held c = search needs
 
 shared-slice-read-held : tie.Need-shared-slice-read-held
 shared-slice-read-held c =
-    let a = c .before .before .before .before .before .args in
-    let y = value-yes (a .rel) (length (now (a .slots))) (a .var .0) (sym (c .before .before .before .value-no .ensures) ∙ c .before .before .if1 .left) in
+    let d = c .before .before in
+    let a = d .before .before .before .args in
+    let y = value-yes (a .rel) (length (now (a .slots))) (a .var .0) (sym (d .before .value-no .ensures) ∙ d .if1 .left) in
     omega arith
 
 returns-3 : tie.Need-returns-3
 returns-3 c =
-    let a = c .before .before .before .before .before .before .args in
-    let e = c .before .before .before .before .value-no .ensures in
-    let z = c .before .before .before .if1 .left in
+    let d = c .before .before .before in
+    let a = d .before .before .before .args in
+    let e = d .before .value-no .ensures in
+    let z = d .if1 .left in
     let y = value-yes (a .rel) (length (now (a .slots))) (a .var .0) (sym e ∙ z) in
     value-none (a .rel) (now (a .slots)) (a .var .0) _ e z (omega arith) (omega arith) (c .if3 .taken)
 
 returns-4 : tie.Need-returns-4
 returns-4 c =
-    let a = c .before .before .before .before .before .before .args in
-    let e = c .before .before .before .before .value-no .ensures in
-    let z = c .before .before .before .if1 .left in
+    let d = c .before .before .before in
+    let a = d .before .before .before .args in
+    let e = d .before .value-no .ensures in
+    let z = d .if1 .left in
     let y = value-yes (a .rel) (length (now (a .slots))) (a .var .0) (sym e ∙ z) in
     value-held (a .rel) (now (a .slots)) (a .var .0) _ e z (omega arith) (omega arith) (c .if3 .left)
 
