@@ -1,0 +1,10 @@
+pub mod Fill
+pub mod Dot
+pub mod Times
+pub mod Mix
+pub mod Keeps
+pub mod Parameters
+pub mod Run
+pub mod Words
+pub mod Laws
+pub mod Examples

@@ -1,0 +1,125 @@
+-- All rounds in place: one round, and one turn of the loop over the rounds.
+--
+-- `Running` says that the rounds left, from the state as it is, come to what all rounds make of the state at
+-- first; that the next round's words lie at `at`, with the matrix after the last one; and that the state is
+-- still w units. Assumes nothing.
+use Prim.Native.Nat.{ℕ, suc, _+_, _-_, _*_, _≤_, _<_}
+use mathlib.Core.Path.{_≡_, refl, sym, ap, _∙_}
+use mathlib.Core.Bool.{true}
+use mathlib.Core.List.{List}
+use native.Mathlib.Omega.{arith}
+use lib.ListN.{length, getD, take, drop, length-take, length-drop}
+use lib.Seq.{take-all}
+use Rattle.baby_bear.specs.Field.{areUnits}
+use Rattle.baby_bear.proofs.Units.{units-take, units-drop}
+use Rattle.permute.specs.Permute.{Round, roundOf, addConstants, raise, timesMatrix, runRound, runRounds, permute}
+use Rattle.permute.specs.Parameters.{roundsOf, rowsOf, parametersOf}
+use Rattle.permute.proofs.Keeps.{addConstants-length, addConstants-units, raise-length, raise-units, runRound-length, runRound-units, rowsOf-length}
+use Rattle.permute.proofs.Parameters.{Sound, round-at}
+
+-- ---- one round: what stands between its halves is as many units
+module _ (matrix cs state mixed : List ℕ) (kind : ℕ) (e : mixed ≡ raise kind (addConstants cs state)) where
+  mixed-length : length mixed ≡ length state
+  mixed-length = ap length e ∙ raise-length kind (addConstants cs state) ∙ addConstants-length cs state
+
+  pub times-asked : areUnits matrix ≡ true → areUnits state ≡ true → length matrix ≡ length state * length state
+      → length state ≤ 24
+      → (areUnits matrix ≡ true) × (areUnits mixed ≡ true) × (length matrix ≡ length mixed * length mixed)
+      × (length state ≡ length mixed) × (length mixed ≤ 24)
+  times-asked um us lm ls =
+      let l = mixed-length in (
+        um,
+        ap areUnits e ∙ raise-units kind (addConstants cs state) (addConstants-units cs state us),
+        rw l lm,
+        sym l,
+        omega (arith, l),
+      )
+
+  pub round-is : (out : List ℕ) → out ≡ timesMatrix (rowsOf (length mixed) (length mixed) matrix) mixed
+      → out ≡ runRound (rowsOf (length state) (length state) matrix) (roundOf kind cs) state
+  unfolding runRound
+  round-is out eo =
+      eo ∙ ap (λ (n : ℕ). timesMatrix (rowsOf n n matrix) mixed) mixed-length
+      ∙ ap (timesMatrix (rowsOf (length state) (length state) matrix)) e
+
+-- ---- all rounds
+pub record Running (words : List ℕ) (w rounds : ℕ) (first state : List ℕ) (i at : ℕ) : Type 0 where
+  pub rest : runRounds (rowsOf w w (drop (rounds * (w + 1)) words)) (roundsOf w (rounds - i) (drop at words)) state
+      ≡ permute (parametersOf w rounds words) first
+  pub place : at + (rounds - i) * (w + 1) + w * w ≡ length words
+  pub kept : length state ≡ w
+  pub units : areUnits state ≡ true
+  pub within : i ≤ rounds
+
+module _ (words : List ℕ) (w rounds : ℕ) (first : List ℕ) (s : Sound w rounds words) where
+  pub running-start : length first ≡ w → areUnits first ≡ true → Running words w rounds first first 0 0
+  running-start l u =
+      let z : rounds - 0 ≡ rounds = omega arith in
+      record {
+        rest = rw z;
+        place = rw z (omega (arith, s .size));
+        kept = l;
+        units = u;
+        within = omega arith;
+      }
+
+  module _ (state : List ℕ) (i at : ℕ) (r : Running words w rounds first state i at) where
+    next : i < rounds → (k : ℕ) → k ≡ rounds - (i + 1)
+        → (rounds - i ≡ suc k) × (at + (w + 1) + k * (w + 1) + w * w ≡ length words)
+    next h k e =
+        let q : rounds - i ≡ suc k = omega arith in
+        (q, omega (arith, rw q at (r .place)))
+
+    pub running-room : i < rounds → at + 1 + w ≤ length words
+    running-room h = omega (arith, next h (rounds - (i + 1)) refl .1)
+
+    -- the constants and the matrix as the code lends them
+    constants-are : take (at + 1 + w - (at + 1)) (drop (at + 1) words) ≡ take w (drop (at + 1) words)
+    constants-are = let z : at + 1 + w - (at + 1) ≡ w = omega arith in rw z
+
+    matrix-is : take (length words - rounds * (w + 1)) (drop (rounds * (w + 1)) words) ≡ drop (rounds * (w + 1)) words
+    matrix-is = take-all (length words - rounds * (w + 1)) (drop (rounds * (w + 1)) words) (simp length-drop (omega arith))
+
+    pub round-asked : (mixed : List ℕ) → i < rounds → 0 < w → w ≤ 24 → length mixed ≡ 24
+        → (areUnits (take (at + 1 + w - (at + 1)) (drop (at + 1) words)) ≡ true)
+        × (areUnits (take (length words - rounds * (w + 1)) (drop (rounds * (w + 1)) words)) ≡ true)
+        × (areUnits state ≡ true)
+        × (length (take (at + 1 + w - (at + 1)) (drop (at + 1) words)) ≡ length state)
+        × (length (take (length words - rounds * (w + 1)) (drop (rounds * (w + 1)) words)) ≡ length state * length state)
+        × (length (take (w - 0) mixed) ≡ length state) × (0 < length state) × (length state ≤ 24)
+    round-asked mixed h pos most l =
+        let f = running-room h in
+        let k = r .kept in (
+          units-take (at + 1 + w - (at + 1)) (drop (at + 1) words) (units-drop (at + 1) words (s .units)),
+          units-take (length words - rounds * (w + 1)) (drop (rounds * (w + 1)) words) (units-drop (rounds * (w + 1)) words (s .units)),
+          r .units,
+          simp (length-take, length-drop) (omega arith),
+          rw k (ap length matrix-is ∙ simp length-drop (omega (arith, s .size))),
+          simp length-take (omega arith),
+          omega arith,
+          omega arith,
+        )
+
+    pub running-turn : (state′ : List ℕ) → i < rounds
+        → state′ ≡ runRound (rowsOf (length state) (length state) (take (length words - rounds * (w + 1)) (drop (rounds * (w + 1)) words)))
+        (roundOf (getD words at 0) (take (at + 1 + w - (at + 1)) (drop (at + 1) words))) state
+        → Running words w rounds first state′ (i + 1) (at + 1 + w)
+    unfolding runRounds
+    running-turn state′ h e =
+        let n = next h (rounds - (i + 1)) refl in
+        let a : at + 1 + w ≡ at + (w + 1) = omega arith in
+        let m : List (List ℕ) = rowsOf w w (drop (rounds * (w + 1)) words) in
+        let q : Round = roundOf (getD words at 0) (take w (drop (at + 1) words)) in
+        let f : state′ ≡ runRound (rowsOf w w (drop (rounds * (w + 1)) words)) (roundOf (getD words at 0) (take w (drop (at + 1) words))) state =
+        e ∙ rw (r .kept, constants-are, matrix-is) in
+        record {
+          rest = rw (a, f) (rw (n .0, round-at w (rounds - (i + 1)) at words) at (r .rest));
+          place = rw a (n .1);
+          kept = ap length f ∙ runRound-length m q state ∙ rowsOf-length w w _;
+          units = ap areUnits f ∙ runRound-units m q state;
+          within = omega arith;
+        }
+
+    pub running-done : rounds ≤ i → state ≡ permute (parametersOf w rounds words) first
+    unfolding runRounds roundsOf
+    running-done h = let z : rounds - i ≡ 0 = omega arith in rw z at (r .rest)

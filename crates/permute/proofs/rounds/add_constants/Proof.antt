@@ -1,0 +1,88 @@
+-- `permute::rounds::add_constants` meets its contract. The invariant: the sums written and those left make
+-- the whole. The measure is what is left of the length. Assumes nothing.
+use Prim.Native.Nat.{_≤_, _-_}
+use mathlib.Core.Path.{_≡_, refl, _∙_}
+use mathlib.Core.List.{_++_}
+use native.Mathlib.Omega.{arith}
+use borrow.Author.Needs.{needs}
+use lib.ListN.{length, take, drop, length-set}
+use Rattle.baby_bear.proofs.Units.{units-at}
+use Rattle.permute.specs.Permute.{addConstants}
+use Rattle.permute.proofs.Mix.{add-turn, add-done}
+use Rattle.permute.proofs.rounds.add_constants.Statement.{statement}
+use Rattle.permute.proofs.rounds.add_constants.Tie as tie
+
+abbrev Inv-loop : tie.InvT-loop
+Inv-loop constants x out₀ i₀ out i = (take i out ++ addConstants (drop i constants) (drop i x) ≡ addConstants constants x) × (length out ≡ length x) × (i ≤ length x)
+
+abbrev μ-loop : tie.MeasureT-loop
+μ-loop constants x out₀ i₀ out i = length x - i
+
+loop-holds : tie.Need-loop-holds Inv-loop μ-loop
+loop-holds c = (refl, c .before .before .before .pre .3, search needs)
+
+mul-add-units : tie.Need-mul-add-units Inv-loop μ-loop
+mul-add-units c = search needs
+
+shared-slice-read-add-units : tie.Need-shared-slice-read-add-units Inv-loop μ-loop
+shared-slice-read-add-units c = search needs
+
+mul-add-units-2 : tie.Need-mul-add-units-2 Inv-loop μ-loop
+mul-add-units-2 c = search needs
+
+shared-slice-read-add-units-2 : tie.Need-shared-slice-read-add-units-2 Inv-loop μ-loop
+shared-slice-read-add-units-2 c = search needs
+
+add-units-requires : tie.Need-add-units-requires Inv-loop μ-loop
+add-units-requires c κs =
+    let g = c .before .before .before .before .before .before .before .args in
+    let p = c .before .before .before .before .before .before .before .pre in
+    let l = c .before .before .before .loop in
+    (units-at (g .x .now) (p .1) (l .i), units-at (g .constants .now) (p .0) (l .i))
+
+mul-out : tie.Need-mul-out Inv-loop μ-loop
+mul-out c = search needs
+
+slice-write-out : tie.Need-slice-write-out Inv-loop μ-loop
+slice-write-out c = search needs
+
+add-i : tie.Need-add-i Inv-loop μ-loop
+add-i c = search needs
+
+loop-less : tie.Need-loop-less Inv-loop μ-loop
+loop-less c = search needs
+
+loop-again : tie.Need-loop-again Inv-loop μ-loop
+loop-again c =
+    let l = c .before .before .before .before .loop in
+    let p = c .before .before .before .before .before .before .before .before .pre in (
+      add-turn _ _ (l .out) (l .i) (l .inv .0) (l .inv .1) _ (c .before .before .before .loop-test .taken) (p .2) (c .add-units .ensures),
+      length-set (l .out) (l .i) _ ∙ l .inv .1,
+      omega arith,
+    )
+
+same-length : tie.Need-same-length Inv-loop μ-loop
+same-length c = search needs
+
+returns : tie.Need-returns Inv-loop μ-loop
+returns c = add-done _ _ _ _ (c .before .loop .inv .0) (c .before .loop .inv .1) (c .loop-test .left)
+
+pub add-constants-spec : {M : Type 1} → statement M
+add-constants-spec =
+    tie.close
+    (tie.spec
+    Inv-loop
+    μ-loop
+    loop-holds
+    mul-add-units
+    shared-slice-read-add-units
+    mul-add-units-2
+    shared-slice-read-add-units-2
+    add-units-requires
+    mul-out
+    slice-write-out
+    add-i
+    loop-less
+    loop-again
+    same-length
+    returns)

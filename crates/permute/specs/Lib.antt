@@ -1,0 +1,2 @@
+pub mod Permute
+pub mod Parameters

@@ -1,0 +1,44 @@
+-- A permutation of units by its parameters (document 01 calls them the sheet, "R rounds, each a kind and w
+-- constants, then w·w matrix units row by row"), as maps on lists. Assumes nothing.
+use Prim.Native.Nat.{ℕ, zero, suc}
+use mathlib.Core.List.{List, [], _∷_, map}
+use Rattle.baby_bear.specs.Field.{addUnit, seventh, dotUnits}
+
+pub record Round : Type 0 where
+  pub kind : ℕ
+  pub constants : List ℕ
+
+abbrev pub roundOf : ℕ → List ℕ → Round
+roundOf kind constants = record { kind = kind; constants = constants }
+
+pub record Parameters : Type 0 where
+  pub rounds : List Round
+  pub matrix : List (List ℕ)
+
+-- "a round adds constant i to element i,"
+unfoldable pub addConstants : List ℕ → List ℕ → List ℕ
+addConstants cs [] = []
+addConstants [] (a ∷ x) = a ∷ x
+addConstants (c ∷ cs) (a ∷ x) = addUnit a c ∷ addConstants cs x
+
+-- "raises every element (kind 0) or only element 0 (kind 1) to the 7th power,"
+unfoldable pub raise : ℕ → List ℕ → List ℕ
+raise kind [] = []
+raise zero (a ∷ x) = seventh a ∷ map seventh x
+raise (suc k) (a ∷ x) = seventh a ∷ x
+
+-- "and replaces element i by the sum over j of M[i][j] times element j"
+unfoldable pub timesMatrix : List (List ℕ) → List ℕ → List ℕ
+timesMatrix [] x = []
+timesMatrix (row ∷ m) x = dotUnits row x ∷ timesMatrix m x
+
+unfoldable pub runRound : List (List ℕ) → Round → List ℕ → List ℕ
+runRound m r x = timesMatrix m (raise (r .kind) (addConstants (r .constants) x))
+
+-- one round after the other; "R = 0 returns its input"
+unfoldable pub runRounds : List (List ℕ) → List Round → List ℕ → List ℕ
+runRounds m [] x = x
+runRounds m (r ∷ rs) x = runRounds m rs (runRound m r x)
+
+abbrev pub permute : Parameters → List ℕ → List ℕ
+permute ps x = runRounds (ps .matrix) (ps .rounds) x

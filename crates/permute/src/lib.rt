@@ -1,0 +1,108 @@
+// A permutation of units by its parameters: question 17, a state turned in place, and whether a step is an
+// evaluation.
+//
+// The parameters (document 01's sheet, in place of the source's `Permutation`) are lent as words: R rounds,
+// each a kind and w constants, then the w·w words of the matrix, row by row. Every function answers on every
+// input; what it answers is a definition of specs/.
+
+ghost use mathlib.Core.Path.{_≡_};
+ghost use Prim.Native.Nat.{_≤_};
+ghost use lib.ListN.{length};
+ghost use Rattle.limits.specs.Questions.{_▸_, ask};
+ghost use Rattle.permute.specs.Parameters.{soundParameters, permuteNo, permuted, isEvaluation, sameWords};
+use limits::MAX_COUNT;
+use limits::MAX_WIDTH;
+
+mod matrix;
+mod rounds;
+mod sound;
+
+// Question 17, after the number answered so far.
+pub fn parameters_no(no: u32, width: u32, rounds: u32, params: &[u32]) -> u32
+    ensures { λ r. ⌜ r ≡ no ▸ ask 17 (soundParameters width rounds (now (params .entry))) ⌝ }
+{
+    limits::asked(no, sound::sound_parameters(width, rounds, params), 17)
+}
+
+// The questions of `permute`: 1, 2, 9, 4 and 17.
+fn permute_no(width: u32, rounds: u32, params: &[u32], state: &[u32]) -> u32
+    ensures { λ r. ⌜ r ≡ permuteNo width rounds (now (params .entry)) (now (state .entry)) ⌝ }
+{
+    let a = limits::asked(0, 1 <= width, 1);
+    let b = limits::asked(a, width <= MAX_WIDTH, 1);
+    let c = limits::asked(b, params.len() <= MAX_COUNT as usize, 2);
+    let d = limits::asked(c, state.len() <= MAX_COUNT as usize, 2);
+    let e = limits::asked(d, state.len() == width as usize, 9);
+    let f = limits::asked(e, baby_bear::are_units(state), 4);
+    parameters_no(f, width, rounds, params)
+}
+
+// The state's units turned by the permutation, in place (the source's `Permutation::permute`).
+pub fn permute(width: u32, rounds: u32, params: &[u32], state: &mut [u32]) -> u32
+    ensures { λ r. ⌜ (r ≡ permuteNo width rounds (now (params .entry)) (now (state .entry)))
+        × (now (state .exit) ≡ permuted width rounds (now (params .entry)) (now (state .entry))) ⌝ }
+{
+    let no = permute_no(width, rounds, params, state);
+    if no != 0 {
+        return no;
+    }
+    rounds::run_rounds(rounds as usize, params, state);
+    0
+}
+
+// Does the permutation turn the step's first w units into its last w?
+pub fn is_evaluation(width: u32, rounds: u32, params: &[u32], step: &[u32]) -> bool
+    ensures { λ r. ⌜ r ≡ isEvaluation width rounds (now (params .entry)) (now (step .entry)) ⌝ }
+{
+    let w = width as usize;
+    if MAX_WIDTH < width {
+        return false;
+    }
+    if step.len() < w {
+        return false;
+    }
+    let mut state = [0u32; 24];
+    evaluates(width, rounds, params, step, &mut state[0..w])
+}
+
+// The same, with room for the state.
+fn evaluates(width: u32, rounds: u32, params: &[u32], step: &[u32], state: &mut [u32]) -> bool
+    requires { ⌜ (length (now state) ≡ width) × (width ≤ length (now step)) ⌝ }
+    ensures { λ r. ⌜ r ≡ isEvaluation width rounds (now (params .entry)) (now (step .entry)) ⌝ }
+{
+    let w = width as usize;
+    copy(&step[0..w], &mut *state);
+    let no = permute(width, rounds, params, &mut *state);
+    if no != 0 {
+        return false;
+    }
+    same_words(state, &step[w..])
+}
+
+// The words of `from`, put over those of `to`, which has as many.
+fn copy(from: &[u32], to: &mut [u32])
+    requires { ⌜ length (now to) ≡ length (now from) ⌝ }
+    ensures { λ _. ⌜ now (to .exit) ≡ now (from .entry) ⌝ }
+{
+    let mut i = 0;
+    while i < from.len() {
+        to[i] = from[i];
+        i += 1;
+    }
+}
+
+fn same_words(a: &[u32], b: &[u32]) -> bool
+    ensures { λ r. ⌜ r ≡ sameWords (now (a .entry)) (now (b .entry)) ⌝ }
+{
+    if a.len() != b.len() {
+        return false;
+    }
+    let mut i = 0;
+    while i < a.len() {
+        if a[i] != b[i] {
+            return false;
+        }
+        i += 1;
+    }
+    true
+}

@@ -1,0 +1,103 @@
+// The rounds of a permutation: constants, 7th powers, and the matrix.
+//
+// A round goes from the state to a second array and back, so that nothing is copied.
+
+ghost use mathlib.Core.Path.{_≡_};
+ghost use mathlib.Core.Bool.{true};
+ghost use mathlib.Core.List.{map};
+ghost use Prim.Native.Nat.{_*_, _≤_, _<_};
+ghost use lib.ListN.{length};
+ghost use Rattle.limits.specs.Numbers.{prime};
+ghost use Rattle.baby_bear.specs.Field.{areUnits, addUnit, seventh};
+ghost use Rattle.permute.specs.Permute.{addConstants, raise, roundOf, runRound, permute};
+ghost use Rattle.permute.specs.Parameters.{rowsOf, parametersOf, soundParameters};
+use crate::matrix::times_matrix;
+use baby_bear::BabyBearUnit;
+use limits::P;
+
+// The sum of two units: one subtraction is enough.
+fn add_units(a: u32, b: u32) -> u32
+    requires { ⌜ (a < prime) × (b < prime) ⌝ }
+    ensures { λ r. ⌜ r ≡ addUnit a b ⌝ }
+{
+    let s = a + b;
+    if P <= s { s - P } else { s }
+}
+
+// Constant i added to element i, put into out.
+fn add_constants(constants: &[u32], x: &[u32], out: &mut [u32])
+    requires { ⌜ (areUnits (now constants) ≡ true) × (areUnits (now x) ≡ true)
+        × (length (now constants) ≡ length (now x)) × (length (now out) ≡ length (now x)) ⌝ }
+    ensures { λ _. ⌜ now (out .exit) ≡ addConstants (now (constants .entry)) (now (x .entry)) ⌝ }
+{
+    let mut i = 0;
+    while i < x.len() {
+        out[i] = add_units(x[i], constants[i]);
+        i += 1;
+    }
+}
+
+// Every element that is lent raised to the 7th power.
+fn raise_all(x: &mut [u32])
+    ensures { λ _. ⌜ now (x .exit) ≡ map seventh (now (x .entry)) ⌝ }
+{
+    let mut i = 0;
+    while i < x.len() {
+        x[i] = baby_bear::seventh(BabyBearUnit(x[i])).0;
+        i += 1;
+    }
+}
+
+// What a round does before the matrix.
+fn mix(kind: u32, constants: &[u32], x: &[u32], out: &mut [u32])
+    requires { ⌜ (areUnits (now constants) ≡ true) × (areUnits (now x) ≡ true)
+        × (length (now constants) ≡ length (now x)) × (length (now out) ≡ length (now x))
+        × (0 < length (now x)) ⌝ }
+    ensures { λ _. ⌜ now (out .exit) ≡ raise kind (addConstants (now (constants .entry)) (now (x .entry))) ⌝ }
+{
+    add_constants(constants, x, &mut *out);
+    if kind == 0 {
+        raise_all(out);
+    } else {
+        raise_all(&mut out[0..1]);
+    }
+}
+
+// One round, in place; `mixed` is for what stands between its halves.
+fn run_round(kind: u32, constants: &[u32], matrix: &[u32], state: &mut [u32], mixed: &mut [u32])
+    requires { ⌜ (areUnits (now constants) ≡ true) × (areUnits (now matrix) ≡ true) × (areUnits (now state) ≡ true)
+        × (length (now constants) ≡ length (now state)) × (length (now matrix) ≡ length (now state) * length (now state))
+        × (length (now mixed) ≡ length (now state)) × (0 < length (now state)) × (length (now state) ≤ 24) ⌝ }
+    ensures { λ _. ⌜ now (state .exit) ≡ runRound (rowsOf (length (now (state .entry))) (length (now (state .entry))) (now (matrix .entry)))
+        (roundOf kind (now (constants .entry))) (now (state .entry)) ⌝ }
+{
+    mix(kind, constants, state, &mut *mixed);
+    times_matrix(matrix, mixed, state);
+}
+
+// All rounds, in place.
+pub(crate) fn run_rounds(rounds: usize, params: &[u32], state: &mut [u32])
+    requires { ⌜ (soundParameters (length (now state)) rounds (now params) ≡ true)
+        × (areUnits (now state) ≡ true) × (0 < length (now state)) × (length (now state) ≤ 24) ⌝ }
+    ensures { λ _. ⌜ now (state .exit) ≡ permute (parametersOf (length (now (state .entry))) rounds (now (params .entry))) (now (state .entry)) ⌝ }
+{
+    let w = state.len();
+    let start = rounds * (w + 1);
+    let matrix = &params[start..];
+    let mut mixed = [0u32; 24];
+    let mut i = 0;
+    let mut at = 0;
+    while i < rounds {
+        let first = at + 1;
+        let end = first + w;
+        run_round(
+            params[at],
+            &params[first..end],
+            matrix,
+            &mut *state,
+            &mut mixed[0..w],
+        );
+        at = end;
+        i += 1;
+    }
+}
