@@ -1,0 +1,164 @@
+-- The gate: `validated` on marks, the parts that the gate judges, and what it answers. Assumes nothing.
+use Prim.Native.Nat.{ℕ, zero, suc, _+_, _*_, _-_, _≤_, _<_}
+use mathlib.Core.Path.{_≡_, refl, sym, ap, ap₂, _∙_, fun-ext}
+use mathlib.Core.Bool.{Bool, true, false, _||_, or-false, or-comm}
+use mathlib.Core.List.{List, _++_}
+use native.Mathlib.Omega.{arith}
+use borrow.Author.Tests.{le-leb, lt-leb, leb-true}
+use lib.ListN.{length, take, replicate, length-replicate}
+use Rattle.limits.specs.Questions.{Question, ask, _▸_, firstNo}
+use Rattle.limits.proofs.Questions.{ask-yes, ask-no, stays, goes-on, both, join, ▸-assoc, firstNo-append, accepted-says}
+use Rattle.words.specs.Store.{allBelow, putWords}
+use Rattle.words.specs.Pieces.{wordsOf, pieces, flat}
+use Rattle.expr.specs.Equation.{equationsAt}
+use Rattle.permutation.specs.Relation.{relationAsks}
+use Rattle.permutation.specs.declared.Outcome.the-variants as outcome
+use Rattle.permutation.specs.declared.PermutationRelation.{PermutationRelation}
+use Rattle.instance.specs.Parts.{Parts, pairVars, pairWords, has, partsOf}
+use Rattle.instance.specs.Marks.{isMarked, marked}
+use Rattle.instance.specs.Validated.{bound, termwiseAsks, gateAsks, gateNo}
+use Rattle.instance.specs.Gate.{publicsFrom, publicsOf, publicsStore, instanceOf, refusedBy, compiledParts, storesAsks, soundAsks, compileNo, compile, compilePublics}
+use Rattle.instance.proofs.Parts.{pairsAt-pairWords, pairsAt-take}
+use Rattle.instance.proofs.Publics.{put-zeros}
+use Rattle.instance.proofs.Marks.{marked-has, marked-length, unmarked}
+
+-- ---- 16 and 12 to 15, by their cases
+refuses : (k : ℕ) (b : Bool) (rest : ℕ) → b ≡ false → suc k ≡ ask (suc k) b ▸ rest
+refuses k b rest e = sym (ap (λ (n : ℕ). n ▸ rest) (ask-no (suc k) b e) ∙ stays (suc k) rest (λ z. omega arith))
+
+passes : (k : ℕ) (b : Bool) (rest : ℕ) → b ≡ true → rest ≡ ask k b ▸ rest
+passes k b rest e = sym (goes-on (ask k b) rest (ask-yes k b e))
+
+module _ (parts : Parts) (len : ℕ) where
+  pub gate-16 : len < parts .vars → 16 ≡ gateNo parts len
+  unfolding gateNo
+  gate-16 h = refuses 15 _ _ (lt-leb (parts .vars) len h)
+
+  module _ (h : parts .vars ≤ len) where
+    pub gate-12 : allBelow (parts .vars) (pairVars (parts .publics)) ≡ false → 12 ≡ gateNo parts len
+    unfolding gateNo
+    gate-12 p = refuses 11 _ _ p ∙ passes 16 _ _ (le-leb (parts .vars) len h)
+
+    module _ (p : allBelow (parts .vars) (pairVars (parts .publics)) ≡ true) where
+      pub gate-13 : allBelow (parts .vars) (flat (parts .queries)) ≡ false → 13 ≡ gateNo parts len
+      unfolding gateNo
+      gate-13 q = refuses 12 _ _ q ∙ passes 12 _ _ p ∙ passes 16 _ _ (le-leb (parts .vars) len h)
+
+      -- the terms are asked with any test that says what `bound` says
+      pub gate-terms : allBelow (parts .vars) (flat (parts .queries)) ≡ true
+          → (binds : ℕ → Bool) → ((x : ℕ) → binds x ≡ bound parts x)
+          → firstNo (termwiseAsks (parts .vars) binds (parts .equations)) ≡ gateNo parts len
+      unfolding gateNo
+      gate-terms q binds e =
+          ap (λ (b : ℕ → Bool). firstNo (termwiseAsks (parts .vars) b (parts .equations))) (fun-ext e)
+          ∙ passes 13 _ _ q
+          ∙ passes 12 _ _ p
+          ∙ passes 16 _ _ (le-leb (parts .vars) len h)
+
+-- after publics xs and queries ys, a wire has a mark exactly where it is bound
+pub marks-bind : (vars n : ℕ) (xs ys : List ℕ) → vars ≤ n → allBelow vars xs ≡ true → allBelow vars ys ≡ true
+    → (x : ℕ) → isMarked (marked vars ys (marked vars xs (replicate n 0))) x ≡ (has xs x || has ys x)
+marks-bind vars n xs ys h p q x =
+    let zeros : List ℕ = replicate n 0 in
+    let l : vars ≤ length zeros = rw (length-replicate {A = ℕ} n 0) h in
+    let k : vars ≤ length (marked vars xs zeros) = rw (marked-length vars xs zeros) l in
+    marked-has vars ys (marked vars xs zeros) q k x
+    ∙ ap (λ (b : Bool). has ys x || b) (marked-has vars xs zeros p l x ∙ ap (λ (b : Bool). has xs x || b) (unmarked n x) ∙ or-false (has xs x))
+    ∙ or-comm (has ys x) (has xs x)
+
+-- ---- the parts that the gate judges are those of the instance that it makes
+module _ (rel : PermutationRelation) (slots queries equations : List ℕ) where
+  pub compiled-parts : (len : ℕ)
+      → partsOf (instanceOf rel (length (publicsOf rel slots))) (publicsStore len (publicsOf rel slots)) queries equations
+      ≡ compiledParts rel slots queries equations
+  unfolding partsOf compiledParts
+  compiled-parts len =
+      let ps = publicsOf rel slots in
+      let e = pairsAt-take (length ps) (publicsStore len ps) ∙ pairsAt-pairWords ps (replicate (len - 2 * length ps) 0) in
+      λ j. record {
+        vars = rel .vars;
+        publics = e j;
+        queries = pieces (rel .width + rel .width) (rel .queries) (take (wordsOf (rel .width) (rel .queries)) queries);
+        equations = equationsAt (rel .equations) (take (rel .words) equations);
+      }
+
+-- ---- the answer
+module _ (rel : PermutationRelation) (label slots queries equations publics scratch : List ℕ) where
+  abbrev stores : List Question
+  stores = storesAsks rel (length label) (length queries) (length equations) (length publics) (length scratch)
+
+  abbrev sound : List Question
+  sound = soundAsks rel label slots queries equations (length publics)
+
+  -- what is asked before the publics are made
+  abbrev pub firstOf : ℕ
+  firstOf = (firstNo (relationAsks rel (length slots)) ▸ firstNo stores) ▸ firstNo sound
+
+  abbrev gateOf : ℕ
+  gateOf = gateNo (compiledParts rel slots queries equations) (length scratch)
+
+  abbrev number : ℕ
+  number = compileNo rel label slots queries equations (length publics) (length scratch)
+
+  number-is : number ≡ firstOf ▸ gateOf
+  unfolding compileNo gateNo
+  number-is =
+      let relation = relationAsks rel (length slots) in
+      let gate = gateAsks (compiledParts rel slots queries equations) (length scratch) in
+      firstNo-append relation (stores ++ (sound ++ gate))
+      ∙ ap (λ (n : ℕ). firstNo relation ▸ n) (firstNo-append stores (sound ++ gate) ∙ ap (λ (n : ℕ). firstNo stores ▸ n) (firstNo-append sound gate))
+      ∙ sym (▸-assoc (firstNo relation ▸ firstNo stores) (firstNo sound) (firstNo gate) ∙ ▸-assoc (firstNo relation) (firstNo stores) (firstNo sound ▸ firstNo gate))
+
+  -- a refusal answers its number and leaves zeros
+  abbrev pub Refuses : ℕ → Type 0
+  Refuses k =
+      (refusedBy k ≡ compile rel label slots queries equations publics scratch)
+      × (replicate (length publics) 0 ≡ compilePublics rel label slots queries equations publics scratch)
+
+  refuses-by : (k : ℕ) → number ≡ k → (k ≡ 0 → ⊥) → Refuses k
+  unfolding compile compilePublics
+  refuses-by zero e h = absurd (h refl)
+  refuses-by (suc k) e h = (rw e, rw e)
+
+  pub refuses-first : (k : ℕ) → k ≡ firstOf → (k ≡ 0 → ⊥) → Refuses k
+  refuses-first k e h = refuses-by k (number-is ∙ ap (λ (n : ℕ). n ▸ gateOf) (sym e) ∙ stays k gateOf h) h
+
+  module _ (z : firstOf ≡ 0) where
+    -- there are at most 2^30 wires
+    pub vars-fit : rel .vars ≤ 1073741824
+    vars-fit = leb-true _ _ (accepted-says (relationAsks rel (length slots)) tt (both _ _ (both _ _ z .0) .0) 4)
+
+    -- the store holds the publics
+    pub publics-fit : 2 * length (publicsFrom 0 (take (rel .vars) slots)) ≤ length publics
+    unfolding publicsOf
+    publics-fit = leb-true _ _ (accepted-says sound tt (both _ _ z .1) 4)
+
+    -- the count and the store that the gate makes, and what 16 and 12 to 15 answer on them
+    module _ (count : ℕ) (store : List ℕ) (k : ℕ)
+        (c : count ≡ length (publicsFrom 0 (take (rel .vars) slots)))
+        (s : store ≡ putWords 0 (pairWords (publicsFrom 0 (take (rel .vars) slots))) (replicate (length publics) 0))
+        (e : k ≡ gateNo (partsOf (instanceOf rel count) store queries equations) (length scratch)) where
+      count-is : count ≡ length (publicsOf rel slots)
+      unfolding publicsOf
+      count-is = c
+
+      store-is : store ≡ publicsStore (length publics) (publicsOf rel slots)
+      unfolding publicsOf
+      store-is = s ∙ put-zeros (length publics) (publicsFrom 0 (take (rel .vars) slots))
+
+      gate-is : k ≡ gateOf
+      gate-is =
+          e
+          ∙ ap₂ (λ (n : ℕ) (l : List ℕ). gateNo (partsOf (instanceOf rel n) l queries equations) (length scratch)) count-is store-is
+          ∙ ap (λ (p : Parts). gateNo p (length scratch)) (compiled-parts rel slots queries equations (length publics))
+
+      pub refuses-gate : (k ≡ 0 → ⊥) → Refuses k
+      refuses-gate h = refuses-by k (number-is ∙ goes-on firstOf gateOf z ∙ sym gate-is) h
+
+      pub accepts : k ≡ 0
+          → (record { outcome = outcome.Accepted; instance = instanceOf rel count } ≡ compile rel label slots queries equations publics scratch)
+          × (store ≡ compilePublics rel label slots queries equations publics scratch)
+      unfolding compile compilePublics
+      accepts g =
+          let n : number ≡ 0 = number-is ∙ join firstOf gateOf z (sym gate-is ∙ g) in
+          (rw (n, count-is), rw n store-is)

@@ -1,0 +1,8 @@
+pub mod Pairs
+pub mod Sound
+pub mod Parts
+pub mod Terms
+pub mod Marks
+pub mod Publics
+pub mod Values
+pub mod Gate

@@ -1,0 +1,97 @@
+-- The publics of a relation: the assigned wires in index order. Assumes nothing.
+use Prim.Native.Nat.{ℕ, zero, suc, _+_, _*_, _-_, _≤_, _<_}
+use mathlib.Core.Path.{_≡_, refl, ap, _∙_}
+use mathlib.Core.Bool.{Bool, true, false}
+use mathlib.Core.List.{List, [], _∷_, _++_, append-assoc}
+use native.Mathlib.Omega.{arith}
+use native.Mathlib.Numerals.{add-one}
+use native.Mathlib.Nat.{min-le-left, min-le-right}
+use borrow.Author.Tests.{eq-eqb, ne-eqb}
+use lib.Dec.{eqb}
+use lib.ListN.{length, take, drop, getD, set, replicate, length-take, drop-of-length-le}
+use lib.Seq.{drop-cons, sets, sets-eq}
+use Rattle.limits.specs.Numbers.{unassigned}
+use Rattle.limits.specs.Questions.{pick}
+use Rattle.words.specs.Store.{putWords}
+use Rattle.allocator.specs.Slots.{Pair, pair}
+use Rattle.instance.specs.Parts.{pairWords}
+use Rattle.instance.specs.Gate.{publicsFrom, publicsStore}
+use Rattle.instance.proofs.Parts.{pairWords-length}
+
+-- ---- from wire i on
+unfoldable pub publicsAt : List ℕ → ℕ → List Pair
+publicsAt slots i = publicsFrom i (drop i slots)
+
+module _ (slots : List ℕ) where
+  pub publics-whole : publicsAt slots 0 ≡ publicsFrom 0 slots
+  unfolding publicsAt
+  publics-whole = refl
+
+  module _ (i : ℕ) where
+    pub publics-done : length slots ≤ i → publicsAt slots i ≡ []
+    unfolding publicsAt
+    publics-done h = rw (drop-of-length-le slots h)
+
+    module _ (h : i < length slots) where
+      pub publics-skip : getD slots i 0 ≡ unassigned → publicsAt slots i ≡ publicsAt slots (i + 1)
+      unfolding publicsAt
+      publics-skip u = rw (drop-cons slots i 0 h, add-one) (simp (eq-eqb (getD slots i 0) unassigned u))
+
+      pub publics-take : (getD slots i 0 ≡ unassigned → ⊥) → publicsAt slots i ≡ pair i (getD slots i 0) ∷ publicsAt slots (i + 1)
+      unfolding publicsAt
+      publics-take u = rw (drop-cons slots i 0 h, add-one) (simp (ne-eqb (getD slots i 0) unassigned u))
+
+-- ---- no more than slots
+fewer : (i : ℕ) (s : List ℕ) → length (publicsFrom i s) ≤ length s
+fewer i [] = omega arith
+fewer i (x ∷ s) = go (eqb x unassigned) (fewer (suc i) s)
+  where
+    go : (b : Bool) → length (publicsFrom (suc i) s) ≤ length s
+        → length (pick b (publicsFrom (suc i) s) (pair i x ∷ publicsFrom (suc i) s)) ≤ suc (length s)
+    go true h = omega arith
+    go false h = omega arith
+
+pub take-few : (n : ℕ) (slots : List ℕ) → length (take n slots) ≤ n
+take-few n slots = simp length-take (min-le-left n (length slots))
+
+pub publics-few : (n : ℕ) (slots : List ℕ) → length (publicsFrom 0 (take n slots)) ≤ n
+publics-few n slots = omega (arith, fewer 0 (take n slots), take-few n slots)
+
+pub publics-fewer : (n : ℕ) (slots : List ℕ) → length (publicsFrom 0 (take n slots)) ≤ length slots
+publics-fewer n slots =
+    let h = fewer 0 (take n slots) in
+    let k : length (take n slots) ≤ length slots = simp length-take (min-le-right n (length slots)) in
+    omega arith
+
+-- ---- pairs stored one by one, from place `to` on
+unfoldable pub stored : List ℕ → ℕ → List Pair → List ℕ
+stored out to ps = sets out to (pairWords ps)
+
+pub store-pair : (out : List ℕ) (to : ℕ) (p : Pair) (ps : List Pair)
+    → stored (set (set out to (p .var)) (to + 1) (p .value)) (to + 2) ps ≡ stored out to (p ∷ ps)
+unfolding stored
+store-pair out to p ps =
+    let a : to + 1 ≡ suc to = omega arith in
+    let b : to + 2 ≡ suc (suc to) = omega arith in
+    rw (a, b)
+
+pub stored-none : (out : List ℕ) (to : ℕ) → stored out to [] ≡ out
+unfolding stored
+stored-none out to = refl
+
+pub stored-put : (out : List ℕ) (ps : List Pair) → 2 * length ps ≤ length out → stored out 0 ps ≡ putWords 0 (pairWords ps) out
+unfolding stored
+stored-put out ps h =
+    let n = pairWords-length ps in
+    sets-eq (pairWords ps) out 0 (omega arith) ∙ append-assoc (take 0 out) (pairWords ps) (drop (0 + length (pairWords ps)) out)
+
+-- ---- on a store of zeros
+drop-replicate : (n k v : ℕ) → drop k (replicate n v) ≡ replicate (n - k) v
+drop-replicate n zero v = let e : n - 0 ≡ n = omega arith in rw e
+drop-replicate zero (suc k) v = let e : 0 - suc k ≡ 0 = omega arith in rw e
+drop-replicate (suc n) (suc k) v = let e : suc n - suc k ≡ n - k = omega arith in rw e (drop-replicate n k v)
+
+pub put-zeros : (len : ℕ) (ps : List Pair) → putWords 0 (pairWords ps) (replicate len 0) ≡ publicsStore len ps
+put-zeros len ps =
+    let n : 0 + length (pairWords ps) ≡ 2 * length ps = omega (arith, pairWords-length ps) in
+    ap (λ (k : ℕ). pairWords ps ++ drop k (replicate len 0)) n ∙ ap (λ (l : List ℕ). pairWords ps ++ l) (drop-replicate len (2 * length ps) 0)

@@ -1,0 +1,5 @@
+pub mod Parts
+pub mod Held
+pub mod Marks
+pub mod Validated
+pub mod Gate

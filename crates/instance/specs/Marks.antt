@@ -1,0 +1,16 @@
+-- Scratch as marks, a word per wire: 0, or 1 where the wire is bound. Assumes nothing.
+use Prim.Native.Nat.{ℕ}
+use mathlib.Core.Bool.{Bool, not}
+use mathlib.Core.List.{List, [], _∷_}
+use lib.Dec.{eqb, ltb}
+use lib.ListN.{getD, set}
+use Rattle.limits.specs.Questions.{pick}
+
+-- the wire has a mark
+unfoldable pub isMarked : List ℕ → ℕ → Bool
+isMarked marks x = not (eqb (getD marks x 0) 0)
+
+-- wires marked in order, up to the first that is not below the count
+unfoldable pub marked : ℕ → List ℕ → List ℕ → List ℕ
+marked vars [] marks = marks
+marked vars (x ∷ xs) marks = pick (ltb x vars) (marked vars xs (set marks x 1)) marks
