@@ -38,6 +38,7 @@ pub use held::slots_sound;
 pub use validated::asked_validated;
 
 // An instance's record: a relation's, and the count of public pairs.
+#[repr(C)]
 pub struct PermutationInstance {
     pub width: u32,
     pub vars: u32,
