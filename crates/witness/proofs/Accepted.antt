@@ -1,0 +1,93 @@
+-- What an accepted call's questions say, as facts on numbers: one record a call. Assumes nothing.
+use Prim.Native.Nat.{ℕ, _+_, _≤_, _<_}
+use mathlib.Core.Path.{_≡_, sym, _∙_}
+use mathlib.Core.Bool.{true}
+use mathlib.Core.List.{List, _∷_}
+use native.Mathlib.Omega.{arith}
+use borrow.Author.Tests.{leb-true, eqb-true}
+use lib.ListN.{length}
+use Rattle.limits.specs.Numbers.{prime, maxCount, maxWidth}
+use Rattle.limits.specs.Questions.{question}
+use Rattle.limits.proofs.Questions.{both, firstNo-append, accepted-says}
+use Rattle.words.specs.Store.{allBelow}
+use Rattle.words.specs.Pieces.{wordsOf}
+use Rattle.words.proofs.Pieces.{pieces-few}
+use Rattle.permute.specs.Parameters.{soundParameters}
+use Rattle.witness.specs.Trace.{addPermutationAsks, inputAsks, stepRoom, allocatePermutationAsks, addPermutationNo, inputNo, allocatePermutationNo}
+use Rattle.witness.specs.declared.PermutationWitness.{PermutationWitness}
+
+-- the step count stays a small number
+pub steps-few : (wit : PermutationWitness) (len : ℕ) → 1 ≤ wit .width → len ≤ maxCount → wordsOf (wit .width) (wit .steps + 1) ≤ len
+    → wit .steps + 1 < 4294967296
+steps-few wit len w m h = omega (arith, pieces-few (wit .width) (wit .steps + 1) len w h)
+
+-- ---- a given step
+pub record AddPermutation (wit : PermutationWitness) (len : ℕ) (input output : List ℕ) : Type 0 where
+  pub held : wordsOf (wit .width) (wit .steps) ≤ len
+  pub inputs : length input ≡ wit .width
+  pub outputs : length output ≡ wit .width
+  pub inputUnits : allBelow prime input ≡ true
+  pub outputUnits : allBelow prime output ≡ true
+  pub room : wordsOf (wit .width) (wit .steps + 1) ≤ len
+  pub few : wit .steps + 1 < 4294967296
+
+pub addPermutation-yes : (wit : PermutationWitness) (len : ℕ) (input output : List ℕ) → addPermutationNo wit len input output ≡ 0
+    → AddPermutation wit len input output
+unfolding addPermutationNo
+addPermutation-yes wit len input output e =
+    let says = accepted-says (addPermutationAsks wit len input output) tt e in
+    record {
+      held = leb-true _ _ (says 3);
+      inputs = eqb-true _ _ (says 6);
+      outputs = eqb-true _ _ (says 7);
+      inputUnits = says 8;
+      outputUnits = says 9;
+      room = leb-true _ _ (says 10);
+      few = steps-few wit len (leb-true _ _ (says 0)) (leb-true _ _ (says 2)) (leb-true _ _ (says 10));
+    }
+
+-- ---- an evaluated step, up to the parameters
+pub record Input (wit : PermutationWitness) (len : ℕ) (input params : List ℕ) : Type 0 where
+  pub least : 1 ≤ wit .width
+  pub most : wit .width ≤ maxWidth
+  pub store : len ≤ maxCount
+  pub held : wordsOf (wit .width) (wit .steps) ≤ len
+  pub inputStore : length input ≤ maxCount
+  pub paramsStore : length params ≤ maxCount
+  pub inputs : length input ≡ wit .width
+  pub inputUnits : allBelow prime input ≡ true
+
+pub input-yes : (wit : PermutationWitness) (len : ℕ) (input params : List ℕ) → inputNo wit len input params ≡ 0
+    → Input wit len input params
+unfolding inputNo
+input-yes wit len input params e =
+    let says = accepted-says (inputAsks wit len input params) tt e in
+    record {
+      least = leb-true _ _ (says 0);
+      most = leb-true _ _ (says 1);
+      store = leb-true _ _ (says 2);
+      held = leb-true _ _ (says 3);
+      inputStore = leb-true _ _ (says 4);
+      paramsStore = leb-true _ _ (says 5);
+      inputs = eqb-true _ _ (says 6);
+      inputUnits = says 7;
+    }
+
+-- ---- and as a whole
+pub record AllocatePermutation (wit : PermutationWitness) (len : ℕ) (input : List ℕ) (rounds : ℕ) (params : List ℕ) : Type 0 where
+  pub asked : inputNo wit len input params ≡ 0
+  pub sound : soundParameters (wit .width) rounds params ≡ true
+  pub room : wordsOf (wit .width) (wit .steps + 1) ≤ len
+  pub few : wit .steps + 1 < 4294967296
+
+pub allocatePermutation-yes : (wit : PermutationWitness) (len : ℕ) (input : List ℕ) (rounds : ℕ) (params : List ℕ)
+    → allocatePermutationNo wit len input rounds params ≡ 0 → AllocatePermutation wit len input rounds params
+unfolding allocatePermutationNo inputNo
+allocatePermutation-yes wit len input rounds params e =
+    let says = accepted-says (allocatePermutationAsks wit len input rounds params) tt e in
+    record {
+      asked = both _ _ (sym (firstNo-append (inputAsks wit len input params) (question 17 (soundParameters (wit .width) rounds params) ∷ stepRoom wit len)) ∙ e) .0;
+      sound = says 8;
+      room = leb-true _ _ (says 9);
+      few = steps-few wit len (leb-true _ _ (says 0)) (leb-true _ _ (says 2)) (leb-true _ _ (says 9));
+    }

@@ -1,0 +1,97 @@
+-- The witness builder (the source's `PermutationWitnessBuilder`): a trace is steps of 2w units, inputs then
+-- outputs, one after the other in a lent store. Assumes nothing.
+use Prim.Native.Nat.{ℕ, _+_}
+use mathlib.Core.List.{List, [], _∷_, _++_}
+use lib.Dec.{eqb, leb}
+use lib.ListN.{length}
+use Rattle.limits.specs.Numbers.{prime}
+use Rattle.limits.specs.Questions.{Question, question, firstNo, onYes}
+use Rattle.limits.specs.Asks.{widthAsks, storeAsks}
+use Rattle.words.specs.Store.{allBelow, putWords}
+use Rattle.words.specs.Pieces.{wordsOf, pieces}
+use Rattle.permutation.specs.Answers.{outcomeOf}
+use Rattle.permute.specs.Permute.{permute}
+use Rattle.permute.specs.Parameters.{parametersOf, soundParameters}
+use Rattle.witness.specs.declared.PermutationWitness.{PermutationWitness}
+use Rattle.witness.specs.declared.Traced.{Traced}
+
+-- ---- questions
+-- 1, and 2 of the trace: its size, and that the steps fit it
+abbrev pub traceAsks : PermutationWitness → ℕ → List Question
+traceAsks wit len =
+    widthAsks (wit .width) ++ (storeAsks len ++ (question 2 (leb (wordsOf (wit .width) (wit .steps)) len) ∷ []))
+
+-- 10: does the trace hold one step more?
+abbrev pub stepRoom : PermutationWitness → ℕ → List Question
+stepRoom wit len = question 10 (leb (wordsOf (wit .width) (wit .steps + 1)) len) ∷ []
+
+-- a given step: 1, 2 (a lent list is a word store too), 9, 4, 10
+abbrev pub addPermutationAsks : PermutationWitness → ℕ → List ℕ → List ℕ → List Question
+addPermutationAsks wit len input output =
+    traceAsks wit len
+    ++ (storeAsks (length input) ++ (storeAsks (length output)
+    ++ (question 9 (eqb (length input) (wit .width))
+    ∷ question 9 (eqb (length output) (wit .width))
+    ∷ question 4 (allBelow prime input)
+    ∷ question 4 (allBelow prime output)
+    ∷ stepRoom wit len)))
+
+-- an evaluated step: 1, 2 (of the lists too), 9, 4 ..
+abbrev pub inputAsks : PermutationWitness → ℕ → List ℕ → List ℕ → List Question
+inputAsks wit len input params =
+    traceAsks wit len
+    ++ (storeAsks (length input) ++ (storeAsks (length params)
+    ++ (question 9 (eqb (length input) (wit .width))
+    ∷ question 4 (allBelow prime input)
+    ∷ [])))
+
+-- .. and then 17, 10
+abbrev pub allocatePermutationAsks : PermutationWitness → ℕ → List ℕ → ℕ → List ℕ → List Question
+allocatePermutationAsks wit len input rounds params =
+    inputAsks wit len input params ++ (question 17 (soundParameters (wit .width) rounds params) ∷ stepRoom wit len)
+
+-- each call's number: the first no of its questions
+unfoldable pub addPermutationNo : PermutationWitness → ℕ → List ℕ → List ℕ → ℕ
+addPermutationNo wit len input output = firstNo (addPermutationAsks wit len input output)
+
+-- of an evaluated step, the number before the parameters are looked at
+unfoldable pub inputNo : PermutationWitness → ℕ → List ℕ → List ℕ → ℕ
+inputNo wit len input params = firstNo (inputAsks wit len input params)
+
+unfoldable pub allocatePermutationNo : PermutationWitness → ℕ → List ℕ → ℕ → List ℕ → ℕ
+allocatePermutationNo wit len input rounds params = firstNo (allocatePermutationAsks wit len input rounds params)
+
+-- ---- what is answered and left: one step more, or everything as it was
+abbrev pub oneStep : PermutationWitness → PermutationWitness
+oneStep wit = record { width = wit .width; steps = wit .steps + 1 }
+
+abbrev pub tracedOf : ℕ → PermutationWitness → Traced
+tracedOf k wit = record { outcome = outcomeOf k; witness = onYes k (oneStep wit) wit }
+
+-- the step stands behind the steps that are there; every other word stays
+abbrev pub traceWith : PermutationWitness → List ℕ → List ℕ → List ℕ
+traceWith wit step trace = putWords (wordsOf (wit .width) (wit .steps)) step trace
+
+abbrev pub addPermutation : PermutationWitness → List ℕ → List ℕ → List ℕ → Traced
+addPermutation wit trace input output = tracedOf (addPermutationNo wit (length trace) input output) wit
+
+abbrev pub addPermutationTrace : PermutationWitness → List ℕ → List ℕ → List ℕ → List ℕ
+addPermutationTrace wit trace input output =
+    onYes (addPermutationNo wit (length trace) input output) (traceWith wit (input ++ output) trace) trace
+
+-- the inputs, and what the permutation turns them into
+abbrev pub evaluatedStep : PermutationWitness → List ℕ → ℕ → List ℕ → List ℕ
+evaluatedStep wit input rounds params = input ++ permute (parametersOf (wit .width) rounds params) input
+
+abbrev pub allocatePermutation : PermutationWitness → List ℕ → List ℕ → ℕ → List ℕ → Traced
+allocatePermutation wit trace input rounds params =
+    tracedOf (allocatePermutationNo wit (length trace) input rounds params) wit
+
+abbrev pub allocatePermutationTrace : PermutationWitness → List ℕ → List ℕ → ℕ → List ℕ → List ℕ
+allocatePermutationTrace wit trace input rounds params =
+    onYes (allocatePermutationNo wit (length trace) input rounds params)
+    (traceWith wit (evaluatedStep wit input rounds params) trace) trace
+
+-- ---- the steps that a trace holds, in order
+abbrev pub stepsOf : PermutationWitness → List ℕ → List (List ℕ)
+stepsOf wit trace = pieces (wit .width + wit .width) (wit .steps) trace
