@@ -6,18 +6,19 @@ use mathlib.Core.List.{List, _++_}
 use native.Mathlib.Omega.{arith}
 use borrow.Author.Tests.{le-leb, lt-leb, leb-true}
 use lib.ListN.{length, take, replicate, length-replicate}
-use Rattle.limits.specs.Questions.{Question, ask, _▸_, firstNo}
-use Rattle.limits.proofs.Questions.{ask-yes, ask-no, stays, goes-on, both, join, ▸-assoc, firstNo-append, accepted-says}
+use Rattle.limits.specs.Questions.{ask, _▸_, firstNo}
+use Rattle.limits.proofs.Questions.{ask-yes, ask-no, stays, goes-on, join, ▸-assoc, firstNo-append, accepted-says, saysAt}
 use Rattle.words.specs.Store.{allBelow, putWords}
 use Rattle.words.specs.Pieces.{wordsOf, pieces, flat}
 use Rattle.expr.specs.Equation.{equationsAt}
 use Rattle.permutation.specs.Relation.{relationAsks}
+use Rattle.permutation.specs.Answers.{outcomeOf}
 use Rattle.permutation.specs.declared.Outcome.the-variants as outcome
 use Rattle.permutation.specs.declared.PermutationRelation.{PermutationRelation}
 use Rattle.instance.specs.Parts.{Parts, pairVars, pairWords, has, partsOf}
 use Rattle.instance.specs.Marks.{isMarked, marked}
 use Rattle.instance.specs.Validated.{bound, termwiseAsks, gateAsks, gateNo}
-use Rattle.instance.specs.Gate.{publicsFrom, publicsOf, publicsStore, instanceOf, refusedBy, compiledParts, storesAsks, soundAsks, compileNo, compile, compilePublics}
+use Rattle.instance.specs.Gate.{publicsFrom, publicsOf, publicsStore, instanceOf, refusedBy, compiledParts, storesAsks, soundAsks, preparedAsks, preparedNo, compileNo, compile, compilePublics}
 use Rattle.instance.proofs.Parts.{pairsAt-pairWords, pairsAt-take}
 use Rattle.instance.proofs.Publics.{put-zeros}
 use Rattle.instance.proofs.Marks.{marked-has, marked-length, unmarked}
@@ -82,32 +83,58 @@ module _ (rel : PermutationRelation) (slots queries equations : List ℕ) where
         equations = equationsAt (rel .equations) (take (rel .words) equations);
       }
 
+-- ---- the questions in three parts
+pub prepared-by : (rel : PermutationRelation) (label slots queries equations : List ℕ) (publics scratch a b r : ℕ)
+    → a ≡ firstNo (relationAsks rel (length slots))
+    → b ≡ a ▸ firstNo (storesAsks rel (length label) (length queries) (length equations) publics scratch)
+    → r ≡ b ▸ firstNo (soundAsks rel label slots queries equations publics)
+    → r ≡ preparedNo rel label slots queries equations publics scratch
+unfolding preparedNo
+prepared-by rel label slots queries equations publics scratch a b r ea eb er =
+    let relation = relationAsks rel (length slots) in
+    let stores = storesAsks rel (length label) (length queries) (length equations) publics scratch in
+    let sound = soundAsks rel label slots queries equations publics in
+    rw (er, eb, ea)
+    (▸-assoc (firstNo relation) (firstNo stores) (firstNo sound)
+    ∙ sym (firstNo-append relation (stores ++ sound) ∙ ap (λ (n : ℕ). firstNo relation ▸ n) (firstNo-append stores sound)))
+
 -- ---- the answer
 module _ (rel : PermutationRelation) (label slots queries equations publics scratch : List ℕ) where
-  abbrev stores : List Question
-  stores = storesAsks rel (length label) (length queries) (length equations) (length publics) (length scratch)
+  abbrev pub prepares : ℕ
+  prepares = preparedNo rel label slots queries equations (length publics) (length scratch)
 
-  abbrev sound : List Question
-  sound = soundAsks rel label slots queries equations (length publics)
+  abbrev pub gates : ℕ
+  gates = gateNo (compiledParts rel slots queries equations) (length scratch)
 
-  -- what is asked before the publics are made
-  abbrev pub firstOf : ℕ
-  firstOf = (firstNo (relationAsks rel (length slots)) ▸ firstNo stores) ▸ firstNo sound
-
-  abbrev gateOf : ℕ
-  gateOf = gateNo (compiledParts rel slots queries equations) (length scratch)
-
-  abbrev number : ℕ
+  abbrev pub number : ℕ
   number = compileNo rel label slots queries equations (length publics) (length scratch)
 
-  number-is : number ≡ firstOf ▸ gateOf
-  unfolding compileNo gateNo
+  pub number-is : number ≡ prepares ▸ gates
+  unfolding compileNo preparedNo gateNo
   number-is =
-      let relation = relationAsks rel (length slots) in
-      let gate = gateAsks (compiledParts rel slots queries equations) (length scratch) in
-      firstNo-append relation (stores ++ (sound ++ gate))
-      ∙ ap (λ (n : ℕ). firstNo relation ▸ n) (firstNo-append stores (sound ++ gate) ∙ ap (λ (n : ℕ). firstNo stores ▸ n) (firstNo-append sound gate))
-      ∙ sym (▸-assoc (firstNo relation ▸ firstNo stores) (firstNo sound) (firstNo gate) ∙ ▸-assoc (firstNo relation) (firstNo stores) (firstNo sound ▸ firstNo gate))
+      firstNo-append (preparedAsks rel label slots queries equations (length publics) (length scratch))
+      (gateAsks (compiledParts rel slots queries equations) (length scratch))
+
+  -- ---- the answer and the publics, by the number
+  pub compile-yes : number ≡ 0
+      → (compile rel label slots queries equations publics scratch ≡ record { outcome = outcome.Accepted; instance = instanceOf rel (length (publicsOf rel slots)) })
+      × (compilePublics rel label slots queries equations publics scratch ≡ publicsStore (length publics) (publicsOf rel slots))
+  unfolding compile compilePublics
+  compile-yes e = (rw e, rw e)
+
+  pub compile-no : (k : ℕ) → number ≡ suc k
+      → (compile rel label slots queries equations publics scratch ≡ refusedBy (suc k))
+      × (compilePublics rel label slots queries equations publics scratch ≡ replicate (length publics) 0)
+  unfolding compile compilePublics
+  compile-no k e = (rw e, rw e)
+
+  pub accepted-number : compile rel label slots queries equations publics scratch .outcome ≡ outcome.Accepted → number ≡ 0
+  unfolding compile
+  accepted-number e = go number e
+    where
+      go : (k : ℕ) → outcomeOf k ≡ outcome.Accepted → k ≡ 0
+      go zero z = refl
+      go (suc k) z = cc
 
   -- a refusal answers its number and leaves zeros
   abbrev pub Refuses : ℕ → Type 0
@@ -120,18 +147,23 @@ module _ (rel : PermutationRelation) (label slots queries equations publics scra
   refuses-by zero e h = absurd (h refl)
   refuses-by (suc k) e h = (rw e, rw e)
 
-  pub refuses-first : (k : ℕ) → k ≡ firstOf → (k ≡ 0 → ⊥) → Refuses k
-  refuses-first k e h = refuses-by k (number-is ∙ ap (λ (n : ℕ). n ▸ gateOf) (sym e) ∙ stays k gateOf h) h
+  pub refuses-first : (k : ℕ) → k ≡ prepares → (k ≡ 0 → ⊥) → Refuses k
+  refuses-first k e h = refuses-by k (number-is ∙ ap (λ (n : ℕ). n ▸ gates) (sym e) ∙ stays k gates h) h
 
-  module _ (z : firstOf ≡ 0) where
+  module _ (z : prepares ≡ 0) where
+    -- each question said yes
+    asked : (i : ℕ) → saysAt (preparedAsks rel label slots queries equations (length publics) (length scratch)) i ≡ true
+    unfolding preparedNo
+    asked i = accepted-says (preparedAsks rel label slots queries equations (length publics) (length scratch)) tt z i
+
     -- there are at most 2^30 wires
     pub vars-fit : rel .vars ≤ 1073741824
-    vars-fit = leb-true _ _ (accepted-says (relationAsks rel (length slots)) tt (both _ _ (both _ _ z .0) .0) 4)
+    vars-fit = leb-true _ _ (asked 4)
 
     -- the store holds the publics
     pub publics-fit : 2 * length (publicsFrom 0 (take (rel .vars) slots)) ≤ length publics
     unfolding publicsOf
-    publics-fit = leb-true _ _ (accepted-says sound tt (both _ _ z .1) 4)
+    publics-fit = leb-true _ _ (asked 18)
 
     -- the count and the store that the gate makes, and what 16 and 12 to 15 answer on them
     module _ (count : ℕ) (store : List ℕ) (k : ℕ)
@@ -146,19 +178,19 @@ module _ (rel : PermutationRelation) (label slots queries equations publics scra
       unfolding publicsOf
       store-is = s ∙ put-zeros (length publics) (publicsFrom 0 (take (rel .vars) slots))
 
-      gate-is : k ≡ gateOf
+      gate-is : k ≡ gates
       gate-is =
           e
           ∙ ap₂ (λ (n : ℕ) (l : List ℕ). gateNo (partsOf (instanceOf rel n) l queries equations) (length scratch)) count-is store-is
           ∙ ap (λ (p : Parts). gateNo p (length scratch)) (compiled-parts rel slots queries equations (length publics))
 
       pub refuses-gate : (k ≡ 0 → ⊥) → Refuses k
-      refuses-gate h = refuses-by k (number-is ∙ goes-on firstOf gateOf z ∙ sym gate-is) h
+      refuses-gate h = refuses-by k (number-is ∙ goes-on prepares gates z ∙ sym gate-is) h
 
       pub accepts : k ≡ 0
           → (record { outcome = outcome.Accepted; instance = instanceOf rel count } ≡ compile rel label slots queries equations publics scratch)
           × (store ≡ compilePublics rel label slots queries equations publics scratch)
       unfolding compile compilePublics
       accepts g =
-          let n : number ≡ 0 = number-is ∙ join firstOf gateOf z (sym gate-is ∙ g) in
+          let n : number ≡ 0 = number-is ∙ join prepares gates z (sym gate-is ∙ g) in
           (rw (n, count-is), rw n store-is)

@@ -6,3 +6,6 @@ pub mod Marks
 pub mod Publics
 pub mod Values
 pub mod Gate
+pub mod Facts
+pub mod Rising
+pub mod Examples

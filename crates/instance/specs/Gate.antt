@@ -77,12 +77,22 @@ soundAsks rel label slots queries equations publics =
     ∷ question 10 (leb (2 * length (publicsOf rel slots)) publics)
     ∷ []
 
--- 1, 2, 11, 10, then 16 and 12 to 15 of the parts
-abbrev pub compileAsks : PermutationRelation → (label slots queries equations : List ℕ) → (publics scratch : ℕ) → List Question
-compileAsks rel label slots queries equations publics scratch =
+-- 1, 2, 11, 10: what is asked before the publics are made
+abbrev pub preparedAsks : PermutationRelation → (label slots queries equations : List ℕ) → (publics scratch : ℕ) → List Question
+preparedAsks rel label slots queries equations publics scratch =
     relationAsks rel (length slots)
     ++ (storesAsks rel (length label) (length queries) (length equations) publics scratch
-    ++ (soundAsks rel label slots queries equations publics ++ gateAsks (compiledParts rel slots queries equations) scratch))
+    ++ soundAsks rel label slots queries equations publics)
+
+unfoldable pub preparedNo : PermutationRelation → (label slots queries equations : List ℕ) → (publics scratch : ℕ) → ℕ
+preparedNo rel label slots queries equations publics scratch =
+    firstNo (preparedAsks rel label slots queries equations publics scratch)
+
+-- then 16 and 12 to 15 of the parts
+abbrev pub compileAsks : PermutationRelation → (label slots queries equations : List ℕ) → (publics scratch : ℕ) → List Question
+compileAsks rel label slots queries equations publics scratch =
+    preparedAsks rel label slots queries equations publics scratch
+    ++ gateAsks (compiledParts rel slots queries equations) scratch
 
 unfoldable pub compileNo : PermutationRelation → (label slots queries equations : List ℕ) → (publics scratch : ℕ) → ℕ
 compileNo rel label slots queries equations publics scratch =

@@ -6,14 +6,14 @@
 // in held.rt (2 and 11) and validated.rt (16, 12 to 15). Every open function answers on every input.
 
 ghost use mathlib.Core.Path.{_≡_};
-ghost use Prim.Native.Nat.{_+_, _*_, _≤_, _<_};
-ghost use lib.ListN.{length, take, replicate};
+ghost use Prim.Native.Nat.{_*_, _≤_, _<_};
+ghost use lib.ListN.{length, replicate};
 ghost use Rattle.limits.specs.Questions.{_▸_, firstNo};
 ghost use Rattle.words.specs.Store.{putWords};
 ghost use Rattle.permutation.specs.Relation.{relationAsks};
 ghost use Rattle.permutation.specs.declared.VarValue.the-variants.{Nothing};
 ghost use Rattle.instance.specs.Parts.{pairWords, pairsAt};
-ghost use Rattle.instance.specs.Gate.{publicsFrom, storesAsks, soundAsks, refusedBy, compile, compilePublics, publicValue, lastValue, heading};
+ghost use Rattle.instance.specs.Gate.{publicsFrom, storesAsks, soundAsks, preparedNo, refusedBy, compile, compilePublics, publicValue, lastValue, heading};
 use allocator::FieldVar;
 use limits::MAX_COUNT;
 use limits::UNASSIGNED;
@@ -69,11 +69,13 @@ fn assigned(slots: &[u32]) -> usize
     n
 }
 
-// The assigned wires in index order, with their units, at the front of a store that holds them.
-fn put_publics(out: &mut [u32], slots: &[u32])
+// The assigned wires in index order, with their units, at the front of a store that holds them; and how many
+// they are.
+fn put_publics(out: &mut [u32], slots: &[u32]) -> u32
     requires { ⌜ (2 * length (publicsFrom 0 (now slots)) ≤ length (now out)) × (length (now slots) < 4294967296) ⌝ }
-    ensures { λ _. ⌜ now (out .exit) ≡ putWords 0 (pairWords (publicsFrom 0 (now (slots .entry)))) (now (out .entry)) ⌝ }
+    ensures { λ r. ⌜ (r ≡ length (publicsFrom 0 (now (slots .entry)))) × (now (out .exit) ≡ putWords 0 (pairWords (publicsFrom 0 (now (slots .entry)))) (now (out .entry))) ⌝ }
 {
+    let mut n: u32 = 0;
     let mut to: usize = 0;
     let mut i: usize = 0;
     while i < slots.len() {
@@ -82,9 +84,11 @@ fn put_publics(out: &mut [u32], slots: &[u32])
             out[to] = i as u32;
             out[to + 1] = v;
             to += 2;
+            n += 1;
         }
         i += 1;
     }
+    n
 }
 
 // 1 and 2 of a relation and its slots.
@@ -146,6 +150,31 @@ fn asked_sound(
     limits::asked(d, 2 * assigned(allocated) <= publics, 10)
 }
 
+// What is asked before the publics are made: 1, 2, 11, 10.
+fn prepared(
+    rel: PermutationRelation,
+    label: &[u8],
+    slots: &[u32],
+    queries: &[u32],
+    equations: &[u32],
+    publics: usize,
+    scratch: usize,
+) -> u32
+    ensures { λ r. ⌜ r ≡ preparedNo rel (now (label .entry)) (now (slots .entry)) (now (queries .entry)) (now (equations .entry)) publics scratch ⌝ }
+{
+    let a = asked_relation(rel, slots.len());
+    let b = asked_stores(
+        a,
+        rel,
+        label.len(),
+        queries.len(),
+        equations.len(),
+        publics,
+        scratch,
+    );
+    asked_sound(b, rel, label, slots, queries, equations, publics)
+}
+
 // A refused gate's answer.
 fn refused(no: u32) -> Compiled
     ensures { λ r. ⌜ r ≡ refusedBy no ⌝ }
@@ -179,31 +208,28 @@ pub fn compile(
         × (now (scratch .exit) ≡ replicate (length (now (scratch .entry))) 0) ⌝ }
 {
     words::fill(publics, 0);
-    let a = asked_relation(rel, slots.len());
-    let b = asked_stores(
-        a,
+    let first = prepared(
         rel,
-        label.len(),
-        queries.len(),
-        equations.len(),
+        label,
+        slots,
+        queries,
+        equations,
         publics.len(),
         scratch.len(),
     );
-    let first = asked_sound(b, rel, label, slots, queries, equations, publics.len());
     if first != 0 {
         words::fill(scratch, 0);
         return refused(first);
     }
     let vars = rel.vars;
-    let allocated = held_words(slots, vars as usize);
-    put_publics(publics, allocated);
+    let count = put_publics(publics, held_words(slots, vars as usize));
     let instance = PermutationInstance {
         width: rel.width,
         vars,
         queries: rel.queries,
         equations: rel.equations,
         words: rel.words,
-        publics: assigned(allocated) as u32,
+        publics: count,
     };
     let no = asked_validated(0, instance, publics, queries, equations, scratch);
     if no != 0 {

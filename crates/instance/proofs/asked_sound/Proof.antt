@@ -42,7 +42,8 @@ assigned-requires : tie.Need-assigned-requires
 assigned-requires c κs = search needs
 
 mul-asked : tie.Need-mul-asked
-mul-asked c = let d = c .before .before .before in
+mul-asked c =
+    let d = c .before .before .before in
     let o = d .before .before .before .before .before .before .before .before .before in
     let a = o .args in
     let e : c .assigned .result ≡ length (publicsFrom 0 (take (a .rel .vars) (now (a .slots)))) =
@@ -54,9 +55,20 @@ asked-requires c κs = search needs
 
 returns : tie.Need-returns
 unfolding publicsOf
-returns c = let d = c .before .before .before .before in
+returns c =
+    let d = c .before .before .before .before in
     let e = d .before .before .before in
-    rw (c .asked .ensures, c .before .assigned .ensures, c .before .before .asked-utf8 .ensures, c .before .before .before .asked-slots-sound .ensures, d .held-words2 .ensures, d .before .asked-below .ensures, d .before .before .held-pieces .ensures, e .asked-equations-sound .ensures, e .before .held-words .ensures)
+    rw (
+      c .asked .ensures,
+      c .before .assigned .ensures,
+      c .before .before .asked-utf8 .ensures,
+      c .before .before .before .asked-slots-sound .ensures,
+      d .held-words2 .ensures,
+      d .before .asked-below .ensures,
+      d .before .before .held-pieces .ensures,
+      e .asked-equations-sound .ensures,
+      e .before .held-words .ensures,
+    )
     (simp (▸-assoc, ▸-zero))
 
 pub asked-sound-spec : {M : Type 1} → statement M

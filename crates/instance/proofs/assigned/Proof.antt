@@ -8,8 +8,7 @@ use mathlib.Core.Path.{_≡_, ap}
 use mathlib.Core.Logic.{⊎-elim}
 use lib.ListN.{length}
 use Rattle.instance.specs.Gate.{publicsFrom}
-use Rattle.instance.proofs.Publics.{publicsAt, publics-done, publics-skip, publics-take}
-use Rattle.instance.proofs.Publics.{publics-whole}
+use Rattle.instance.proofs.Publics.{publicsAt, publics-done, publics-skip, publics-take, publics-whole}
 use Rattle.instance.proofs.assigned.Statement.{statement}
 use Rattle.instance.proofs.assigned.Tie as tie
 
@@ -38,7 +37,8 @@ loop-less : tie.Need-loop-less Inv-loop μ-loop
 loop-less c = omega arith
 
 loop-again : tie.Need-loop-again Inv-loop μ-loop
-loop-again c = let l = c .before .before .before .loop in
+loop-again c =
+    let l = c .before .before .before .loop in
     let s = now (c .before .before .before .before .args .slots) in
     let h = c .before .before .loop-test .taken in
     ⊎-elim
@@ -47,7 +47,8 @@ loop-again c = let l = c .before .before .before .loop in
     (c .if1 .came)
 
 returns : tie.Need-returns Inv-loop μ-loop
-returns c = let l = c .before .loop in
+returns c =
+    let l = c .before .loop in
     let s = now (c .before .before .args .slots) in
     let e = ap length (publics-done s (l .i) (c .loop-test .left)) in
     omega arith

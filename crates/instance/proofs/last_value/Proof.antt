@@ -40,7 +40,8 @@ shared-slice-read-t13 c = omega arith
 
 returns : tie.Need-returns Inv-loop μ-loop
 unfolding valueOf
-returns c = let t = c .before .before .before in
+returns c =
+    let t = c .before .before .before in
     let l = t .before .loop in
     let a = t .before .before .args in
     value-found (l .left) (now (a .publics)) (a .x) _ (l .inv .1) (t .loop-test .taken) (c .before .if1 .taken)
@@ -49,14 +50,16 @@ loop-less : tie.Need-loop-less Inv-loop μ-loop
 loop-less c = omega arith
 
 loop-again : tie.Need-loop-again Inv-loop μ-loop
-loop-again c = let t = c .before .before in
+loop-again c =
+    let t = c .before .before in
     let l = t .before .loop in
     let a = t .before .before .args in
     (omega arith, value-earlier (l .left) (now (a .publics)) (a .x) _ (l .inv .1) (t .loop-test .taken) (c .if1 .left))
 
 returns-2 : tie.Need-returns-2 Inv-loop μ-loop
 unfolding valueOf
-returns-2 c = let l = c .before .loop in
+returns-2 c =
+    let l = c .before .loop in
     let a = c .before .before .args in
     value-none (l .left) (now (a .publics)) (a .x) _ (l .inv .1) (c .loop-test .left)
 

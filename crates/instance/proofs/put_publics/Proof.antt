@@ -1,4 +1,5 @@
--- `put_publics` meets its contract: what is left of the pairs, stored where the loop stands, comes to the whole.
+-- `put_publics` meets its contract: what is left of the pairs, stored where the loop stands and counted from there, comes
+-- to the whole.
 -- Assumes nothing.
 use borrow.Author.Needs.{needs}
 use native.Mathlib.Omega.{arith}
@@ -8,24 +9,27 @@ use mathlib.Core.Path.{_≡_, refl, sym, ap, _∙_}
 use mathlib.Core.Logic.{⊎-elim}
 use lib.ListN.{length, length-set}
 use Rattle.instance.specs.Gate.{publicsFrom}
-use Rattle.instance.proofs.Publics.{publicsAt, publics-done, publics-skip, publics-take, stored, store-pair, stored-none, stored-put}
-use Rattle.instance.proofs.Publics.{publics-whole}
+use Rattle.instance.proofs.Publics.{publicsAt, publics-whole, publics-done, publics-skip, publics-take, stored, store-pair, stored-none, stored-put}
 use Rattle.instance.proofs.put_publics.Statement.{statement}
 use Rattle.instance.proofs.put_publics.Tie as tie
 
 abbrev Inv-loop : tie.InvT-loop
-Inv-loop out₀ slots to₀ i₀ out to i = (stored out to (publicsAt slots i) ≡ stored out₀ 0 (publicsFrom 0 slots))
+Inv-loop out₀ slots n₀ to₀ i₀ out n to i =
+    (stored out to (publicsAt slots i) ≡ stored out₀ 0 (publicsFrom 0 slots))
     × (to + 2 * length (publicsAt slots i) ≤ length out₀)
-    × (length out ≡ length out₀)
+    × (n + length (publicsAt slots i) ≡ length (publicsFrom 0 slots))
+    × (n ≤ i)
     × (i ≤ length slots)
+    × (length out ≡ length out₀)
 
 abbrev μ-loop : tie.MeasureT-loop
-μ-loop out₀ slots to₀ i₀ out to i = length slots - i
+μ-loop out₀ slots n₀ to₀ i₀ out n to i = length slots - i
 
 loop-holds : tie.Need-loop-holds Inv-loop μ-loop
-loop-holds c = let a = c .args in
+loop-holds c =
+    let a = c .args in
     let e = publics-whole (now (a .slots)) in
-    (ap (stored (now (a .out)) 0) e, rw e (omega arith), refl, omega arith)
+    (ap (stored (now (a .out)) 0) e, rw e (omega arith), rw e (omega arith), omega arith, omega arith, refl)
 
 mul-v : tie.Need-mul-v Inv-loop μ-loop
 mul-v c = search needs
@@ -37,13 +41,15 @@ cast-out : tie.Need-cast-out Inv-loop μ-loop
 cast-out c = search needs
 
 mul-out : tie.Need-mul-out Inv-loop μ-loop
-mul-out c = let l = c .before .before .before .loop in
+mul-out c =
+    let l = c .before .before .before .loop in
     let s = now (c .before .before .before .before .args .slots) in
     let e = ap length (publics-take s (l .i) (c .before .before .loop-test .taken) (c .if1 .taken)) in
     omega arith
 
 slice-write-out : tie.Need-slice-write-out Inv-loop μ-loop
-slice-write-out c = let l = c .before .before .before .loop in
+slice-write-out c =
+    let l = c .before .before .before .loop in
     let s = now (c .before .before .before .before .args .slots) in
     let e = ap length (publics-take s (l .i) (c .before .before .loop-test .taken) (c .if1 .taken)) in
     omega arith
@@ -52,19 +58,24 @@ add-out : tie.Need-add-out Inv-loop μ-loop
 add-out c = omega arith
 
 mul-out-2 : tie.Need-mul-out-2 Inv-loop μ-loop
-mul-out-2 c = let l = c .before .before .before .loop in
+mul-out-2 c =
+    let l = c .before .before .before .loop in
     let s = now (c .before .before .before .before .args .slots) in
     let e = ap length (publics-take s (l .i) (c .before .before .loop-test .taken) (c .if1 .taken)) in
     omega arith
 
 slice-write-out-2 : tie.Need-slice-write-out-2 Inv-loop μ-loop
-slice-write-out-2 c = let l = c .before .before .before .loop in
+slice-write-out-2 c =
+    let l = c .before .before .before .loop in
     let s = now (c .before .before .before .before .args .slots) in
     let e = ap length (publics-take s (l .i) (c .before .before .loop-test .taken) (c .if1 .taken)) in
     simp length-set (omega arith)
 
 add-to : tie.Need-add-to Inv-loop μ-loop
 add-to c = omega arith
+
+add-n : tie.Need-add-n Inv-loop μ-loop
+add-n c = omega arith
 
 add-i : tie.Need-add-i Inv-loop μ-loop
 add-i c = omega arith
@@ -73,25 +84,30 @@ loop-less : tie.Need-loop-less Inv-loop μ-loop
 loop-less c = omega arith
 
 loop-again : tie.Need-loop-again Inv-loop μ-loop
-loop-again c = let l = c .before .before .before .loop in
+loop-again c =
+    let l = c .before .before .before .loop in
     let s = now (c .before .before .before .before .args .slots) in
     let h = c .before .before .loop-test .taken in
     ⊎-elim
     (λ w.
     let e = publics-take s (l .i) h (w .0 .taken) in
-    let n = ap length e in (
-      rw (w .1, w .2) (store-pair (l .out) (l .to) _ _ ∙ ap (stored (l .out) (l .to)) (sym e) ∙ l .inv .0),
+    let k = ap length e in (
+      rw (w .1, w .3) (store-pair (l .out) (l .to) _ _ ∙ ap (stored (l .out) (l .to)) (sym e) ∙ l .inv .0),
       omega arith,
-      rw (w .1) (simp length-set (l .inv .2)),
       omega arith,
+      omega arith,
+      omega arith,
+      rw (w .1) (simp length-set (l .inv .5)),
     ))
     (λ w.
     let e = publics-skip s (l .i) h (w .0 .left) in
-    let n = ap length e in (
-      rw (w .1, w .2) (ap (stored (l .out) (l .to)) (sym e) ∙ l .inv .0),
+    let k = ap length e in (
+      rw (w .1, w .3) (ap (stored (l .out) (l .to)) (sym e) ∙ l .inv .0),
       omega arith,
-      rw (w .1) (l .inv .2),
       omega arith,
+      omega arith,
+      omega arith,
+      rw (w .1) (l .inv .5),
     ))
     (c .if1 .came)
 
@@ -99,12 +115,17 @@ same-length : tie.Need-same-length Inv-loop μ-loop
 same-length c = search needs
 
 returns : tie.Need-returns Inv-loop μ-loop
-returns c = let l = c .before .loop in
+returns c =
+    let l = c .before .loop in
     let a = c .before .before .args in
-    sym (stored-none (l .out) (l .to))
-    ∙ ap (stored (l .out) (l .to)) (sym (publics-done (now (a .slots)) (l .i) (c .loop-test .left)))
-    ∙ l .inv .0
-    ∙ stored-put (now (a .out)) (publicsFrom 0 (now (a .slots))) (c .before .before .pre .0)
+    let d = publics-done (now (a .slots)) (l .i) (c .loop-test .left) in
+    let k = ap length d in (
+      omega arith,
+      sym (stored-none (l .out) (l .to))
+          ∙ ap (stored (l .out) (l .to)) (sym d)
+          ∙ l .inv .0
+          ∙ stored-put (now (a .out)) (publicsFrom 0 (now (a .slots))) (c .before .before .pre .0),
+    )
 
 pub put-publics-spec : {M : Type 1} → statement M
 put-publics-spec =
@@ -122,6 +143,7 @@ put-publics-spec =
     mul-out-2
     slice-write-out-2
     add-to
+    add-n
     add-i
     loop-less
     loop-again

@@ -30,7 +30,8 @@ asked-requires-2 c κs = search needs
 
 returns : tie.Need-returns
 unfolding publicValueNo
-returns c = let d = c .before in
+returns c =
+    let d = c .before in
     let a = d .before .before .before .before .before .args in
     let e : d .asked2 .result ≡ publicValueNo (a .ins) (length (now (a .publics))) (a .var .0) =
     rw (d .asked2 .ensures, d .before .asked .ensures, d .before .before .asked-store .ensures, d .before .before .before .asked-width .ensures)
@@ -39,7 +40,8 @@ returns c = let d = c .before in
 
 last-value-requires : tie.Need-last-value-requires
 unfolding publicValueNo
-last-value-requires c κs = let d = c .before in
+last-value-requires c κs =
+    let d = c .before in
     let a = d .before .before .before .before .before .args in
     let e : d .asked2 .result ≡ publicValueNo (a .ins) (length (now (a .publics))) (a .var .0) =
     rw (d .asked2 .ensures, d .before .asked .ensures, d .before .before .asked-store .ensures, d .before .before .before .asked-width .ensures)
@@ -48,7 +50,8 @@ last-value-requires c κs = let d = c .before in
 
 returns-2 : tie.Need-returns-2
 unfolding publicValueNo valueOf
-returns-2 c = let d = c .before .before in
+returns-2 c =
+    let d = c .before .before in
     let a = d .before .before .before .before .before .args in
     let e : d .asked2 .result ≡ publicValueNo (a .ins) (length (now (a .publics))) (a .var .0) =
     rw (d .asked2 .ensures, d .before .asked .ensures, d .before .before .asked-store .ensures, d .before .before .before .asked-width .ensures)

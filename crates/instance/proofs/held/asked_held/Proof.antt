@@ -36,9 +36,18 @@ asked-utf8-requires : tie.Need-asked-utf8-requires
 asked-utf8-requires c κs = search needs
 
 returns : tie.Need-returns
-returns c = let d = c .before .before .before in
+returns c =
+    let d = c .before .before .before in
     let e = d .before .before in
-    rw (c .asked-utf8 .ensures, c .before .asked-below .ensures, c .before .before .held-pieces .ensures, d .asked-publics-sound .ensures, d .before .held-words2 .ensures, e .asked-equations-sound .ensures, e .before .held-words .ensures)
+    rw (
+      c .asked-utf8 .ensures,
+      c .before .asked-below .ensures,
+      c .before .before .held-pieces .ensures,
+      d .asked-publics-sound .ensures,
+      d .before .held-words2 .ensures,
+      e .asked-equations-sound .ensures,
+      e .before .held-words .ensures,
+    )
     (simp (▸-assoc, ▸-zero))
 
 pub asked-held-spec : {M : Type 1} → statement M

@@ -42,8 +42,17 @@ asked-requires-3 : tie.Need-asked-requires-3
 asked-requires-3 c κs = search needs
 
 returns : tie.Need-returns
-returns c = let d = c .before .before .before in
-    rw (c .asked3 .ensures, c .before .asked2 .ensures, c .before .before .asked-pieces .ensures, d .asked .ensures, d .before .asked-store3 .ensures, d .before .before .asked-store2 .ensures, d .before .before .before .asked-store .ensures)
+returns c =
+    let d = c .before .before .before in
+    rw (
+      c .asked3 .ensures,
+      c .before .asked2 .ensures,
+      c .before .before .asked-pieces .ensures,
+      d .asked .ensures,
+      d .before .asked-store3 .ensures,
+      d .before .before .asked-store2 .ensures,
+      d .before .before .before .asked-store .ensures,
+    )
     (simp (▸-assoc, ▸-zero))
 
 pub asked-parts-spec : {M : Type 1} → statement M

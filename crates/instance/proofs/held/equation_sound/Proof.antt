@@ -22,7 +22,8 @@ pairs-sound-requires : tie.Need-pairs-sound-requires
 pairs-sound-requires c κs = search needs
 
 returns : tie.Need-returns
-returns c = let a = c .before .before .before .before .args in
+returns c =
+    let a = c .before .before .before .before .args in
     let s = now (a .s) in
     let f : publicsSound (getD s (a .at) 0) (drop (a .at + 1) s) ≡ false =
     rw (c .before .before .word-at .ensures) at (sym (c .before .pairs-sound .ensures) ∙ not-true _ (c .if1 .taken)) in
@@ -44,7 +45,8 @@ word-at-requires-2 : tie.Need-word-at-requires-2
 word-at-requires-2 c κs = search needs
 
 returns-2 : tie.Need-returns-2
-returns-2 c = let d = c .before .before .before in
+returns-2 c =
+    let d = c .before .before .before in
     let a = d .before .before .args in
     let s = now (a .s) in
     let f : publicsSound (getD s (a .at) 0) (drop (a .at + 1) s) ≡ true =

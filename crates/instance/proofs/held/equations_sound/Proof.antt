@@ -29,7 +29,8 @@ sub-if1 : tie.Need-sub-if1 Inv-loop μ-loop
 sub-if1 c = omega arith
 
 returns : tie.Need-returns Inv-loop μ-loop
-returns c = let t = c .before .before in
+returns c =
+    let t = c .before .before in
     let l = t .before .loop in
     let s = now (t .before .before .before .args .held) in
     let h : length s - l .at < sizeAt (drop (l .at) s) = rw (c .before .size-at .ensures) at (c .if1 .taken) in
@@ -39,7 +40,8 @@ equation-sound-requires : tie.Need-equation-sound-requires Inv-loop μ-loop
 equation-sound-requires c κs = search needs
 
 returns-2 : tie.Need-returns-2 Inv-loop μ-loop
-returns-2 c = let t = c .before .before .before .before in
+returns-2 c =
+    let t = c .before .before .before .before in
     let l = t .before .loop in
     let s = now (t .before .before .before .args .held) in
     rest-unsound s (l .at) (l .left) _ (l .inv .1) (t .loop-test .taken) (l .inv .0)
@@ -55,7 +57,8 @@ loop-less : tie.Need-loop-less Inv-loop μ-loop
 loop-less c = omega arith
 
 loop-again : tie.Need-loop-again Inv-loop μ-loop
-loop-again c = let t = c .before .before .before .before in
+loop-again c =
+    let t = c .before .before .before .before in
     let l = t .before .loop in
     let s = now (t .before .before .before .args .held) in
     let e = c .before .before .before .size-at .ensures in (
@@ -65,7 +68,8 @@ loop-again c = let t = c .before .before .before .before in
     )
 
 returns-3 : tie.Need-returns-3 Inv-loop μ-loop
-returns-3 c = let l = c .before .loop in
+returns-3 c =
+    let l = c .before .loop in
     let s = now (c .before .before .before .args .held) in
     rest-end s (l .at) (l .left) _ (l .inv .1) (c .loop-test .left)
 

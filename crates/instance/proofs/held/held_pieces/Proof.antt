@@ -23,11 +23,13 @@ slice-aggregate-result : tie.Need-slice-aggregate-result
 slice-aggregate-result c = sym (length-take-le _ _ (omega arith))
 
 returns : tie.Need-returns
-returns c = let a = c .before .before .args in
+returns c =
+    let a = c .before .before .args in
     rw (twice-half (a .width) (a .n))
 
 returns-2 : tie.Need-returns-2
-returns-2 c = let a = c .before .args in
+returns-2 c =
+    let a = c .before .args in
     let e = twice-half (a .width) (a .n) in
     let h : length (now (a .s)) ≤ 2 * (a .n * a .width) = omega arith in
     sym (take-all (wordsOf (a .width) (a .n)) (now (a .s)) (rw e at h))

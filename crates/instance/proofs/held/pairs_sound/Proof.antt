@@ -21,7 +21,8 @@ loop-holds : tie.Need-loop-holds Inv-loop μ-loop
 loop-holds c = refl
 
 returns : tie.Need-returns Inv-loop μ-loop
-returns c = let l = c .before .before .loop in
+returns c =
+    let l = c .before .before .loop in
     let s = now (c .before .before .before .before .args .s) in
     sound-lacking s (l .i) (l .left) _ (l .inv) (c .if1 .taken)
 
@@ -32,7 +33,8 @@ shared-slice-read-if2 : tie.Need-shared-slice-read-if2 Inv-loop μ-loop
 shared-slice-read-if2 c = search needs
 
 returns-2 : tie.Need-returns-2 Inv-loop μ-loop
-returns-2 c = let t = c .before .before .before in
+returns-2 c =
+    let t = c .before .before .before in
     let l = t .before .loop in
     let s = now (t .before .before .before .args .s) in
     sound-wire s (l .i) (l .left) _ (l .inv) (t .loop-test .taken) (c .if2 .taken)
@@ -44,7 +46,8 @@ word-at-requires : tie.Need-word-at-requires Inv-loop μ-loop
 word-at-requires c κs = search needs
 
 returns-3 : tie.Need-returns-3 Inv-loop μ-loop
-returns-3 c = let t = c .before .before .before .before .before in
+returns-3 c =
+    let t = c .before .before .before .before .before in
     let l = t .before .loop in
     let s = now (t .before .before .before .args .s) in
     let e : prime ≤ getD s (l .i + 1) 0 = rw (c .before .word-at .ensures) at (c .if3 .taken) in
@@ -60,14 +63,16 @@ loop-less : tie.Need-loop-less Inv-loop μ-loop
 loop-less c = search needs
 
 loop-again : tie.Need-loop-again Inv-loop μ-loop
-loop-again c = let t = c .before .before .before .before .before in
+loop-again c =
+    let t = c .before .before .before .before .before in
     let l = t .before .loop in
     let s = now (t .before .before .before .args .s) in
     let e : getD s (l .i + 1) 0 < prime = rw (c .before .word-at .ensures) at (c .if3 .left) in
     sound-more s (l .i) (l .left) _ (l .inv) (t .loop-test .taken) (c .before .before .if2 .left) e
 
 returns-4 : tie.Need-returns-4 Inv-loop μ-loop
-returns-4 c = let l = c .before .loop in
+returns-4 c =
+    let l = c .before .loop in
     let s = now (c .before .before .before .args .s) in
     sound-all s (l .i) (l .left) _ (l .inv) (c .loop-test .left)
 

@@ -21,7 +21,8 @@ add-result c = search needs
 
 returns : tie.Need-returns
 unfolding sizeAt
-returns c = let a = c .before .before .args in
+returns c =
+    let a = c .before .before .args in
     rw (c .word-at .ensures, at-first (now (a .s)) (a .at))
 
 pub size-at-spec : {M : Type 1} → statement M

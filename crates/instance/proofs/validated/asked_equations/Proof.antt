@@ -22,7 +22,8 @@ loop-holds c = refl
 
 returns : tie.Need-returns Inv-loop μ-loop
 unfolding termwiseNo
-returns c = let l = c .before .before .loop in
+returns c =
+    let l = c .before .before .loop in
     let a = c .before .before .before .before .before .args in
     equations-lacking (a .vars) (isMarked (now (a .marks))) (now (a .s)) (l .at) (l .left) _ (l .inv) (c .if1 .taken)
 
@@ -40,7 +41,8 @@ asked-terms-requires c κs = search needs
 
 returns-2 : tie.Need-returns-2 Inv-loop μ-loop
 unfolding termwiseNo termsNo
-returns-2 c = let t = c .before .before .before .before in
+returns-2 c =
+    let t = c .before .before .before .before in
     let l = t .before .loop in
     let a = t .before .before .before .before .args in
     equations-no (a .vars) (isMarked (now (a .marks))) (now (a .s)) (l .at) (l .left) _ (l .inv) (t .loop-test .taken) _ (c .before .asked-terms .ensures) (c .if2 .taken)
@@ -49,7 +51,8 @@ size-at-requires : tie.Need-size-at-requires Inv-loop μ-loop
 size-at-requires c κs = search needs
 
 add-at : tie.Need-add-at Inv-loop μ-loop
-add-at c = let l = c .before .before .before .before .before .before .loop in
+add-at c =
+    let l = c .before .before .before .before .before .before .loop in
     let a = c .before .before .before .before .before .before .before .before .before .args in
     omega (arith, size-is (now (a .s)) (l .at), c .before .before .before .shared-slice-known3 .given (l .at))
 
@@ -61,15 +64,18 @@ loop-less c = omega arith
 
 loop-again : tie.Need-loop-again Inv-loop μ-loop
 unfolding termsNo
-loop-again c = let t = c .before .before .before .before .before in
+loop-again c =
+    let t = c .before .before .before .before .before in
     let l = t .before .loop in
     let a = t .before .before .before .before .args in
     rw (c .size-at .ensures)
-    (equations-more (a .vars) (isMarked (now (a .marks))) (now (a .s)) (l .at) (l .left) _ (l .inv) (t .loop-test .taken) _ (c .before .before .asked-terms .ensures) (c .before .if2 .left))
+    (equations-more (a .vars) (isMarked (now (a .marks))) (now (a .s)) (l .at) (l .left) _ (l .inv) (t .loop-test .taken) _
+    (c .before .before .asked-terms .ensures) (c .before .if2 .left))
 
 returns-3 : tie.Need-returns-3 Inv-loop μ-loop
 unfolding termwiseNo
-returns-3 c = let l = c .before .loop in
+returns-3 c =
+    let l = c .before .loop in
     let a = c .before .before .before .before .args in
     equations-done (a .vars) (isMarked (now (a .marks))) (now (a .s)) (l .at) (l .left) _ (l .inv) (c .loop-test .left)
 

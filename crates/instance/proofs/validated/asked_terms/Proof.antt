@@ -26,7 +26,8 @@ word-at-requires c κs = search needs
 
 returns : tie.Need-returns Inv-loop μ-loop
 unfolding termsNo
-returns c = let t = c .before .before in
+returns c =
+    let t = c .before .before in
     let l = t .before .loop in
     let a = t .before .before .before .before .args in
     let s = now (a .s) in
@@ -35,7 +36,8 @@ returns c = let t = c .before .before in
 
 returns-2 : tie.Need-returns-2 Inv-loop μ-loop
 unfolding termsNo
-returns-2 c = let t = c .before .before .before in
+returns-2 c =
+    let t = c .before .before .before in
     let l = t .before .loop in
     let a = t .before .before .before .before .args in
     let s = now (a .s) in
@@ -59,7 +61,8 @@ shared-slice-read-if4 c = search needs
 
 returns-3 : tie.Need-returns-3 Inv-loop μ-loop
 unfolding termsNo
-returns-3 c = let d = c .before .before .before in
+returns-3 c =
+    let d = c .before .before .before in
     let t = d .before .before .before .before in
     let l = t .before .loop in
     let a = t .before .before .before .before .args in
@@ -81,7 +84,8 @@ loop-less : tie.Need-loop-less Inv-loop μ-loop
 loop-less c = search needs
 
 loop-again : tie.Need-loop-again Inv-loop μ-loop
-loop-again c = let d = c .before in
+loop-again c =
+    let d = c .before in
     let t = d .before .before .before .before in
     let l = t .before .loop in
     let a = t .before .before .before .before .args in
@@ -97,7 +101,8 @@ loop-again c = let d = c .before in
 
 returns-4 : tie.Need-returns-4 Inv-loop μ-loop
 unfolding termsNo
-returns-4 c = let l = c .before .loop in
+returns-4 c =
+    let l = c .before .loop in
     let a = c .before .before .before .before .args in
     terms-done (a .vars) (isMarked (now (a .marks))) (now (a .s)) (l .i) (l .left) _ (l .inv) (c .loop-test .left)
 

@@ -18,11 +18,13 @@ same-length : tie.Need-same-length
 same-length c = search needs
 
 returns : tie.Need-returns
-returns c = let a = c .before .before .before .before .before .before .before .before .before .args in
+returns c =
+    let a = c .before .before .before .before .before .before .before .before .before .args in
     (sym (stays (a .no) _ (c .if1 .taken)), c .before .before .before .fill .ensures)
 
 validated-requires : tie.Need-validated-requires
-validated-requires c κs = let e = c .before .before .before .before .fill .ensures in
+validated-requires c κs =
+    let e = c .before .before .before .before .fill .ensures in
     let n = length-replicate {A = ℕ} (length (now (c .before .before .before .before .before .before .before .before .before .before .args .scratch))) 0 in
     e ∙ ap (λ (n : ℕ). replicate {A = ℕ} n 0) (sym (ap length e ∙ n))
 
@@ -33,7 +35,8 @@ same-length-2 : tie.Need-same-length-2
 same-length-2 c = search needs
 
 returns-2 : tie.Need-returns-2
-returns-2 c = let v = c .before .before .before .before .before .before in
+returns-2 c =
+    let v = c .before .before .before .before .before .before in
     let f = v .before .before .before .before .before in
     let a = f .before .before .before .before .before .before .args in
     let n : length (f .fill .last .0) ≡ length (now (a .scratch)) = ap length (f .fill .ensures) ∙ length-replicate _ _ in (

@@ -10,13 +10,13 @@ use Rattle.words.specs.Store.{allBelow}
 use Rattle.instance.specs.Parts.{pairVars, pairsAt}
 use Rattle.instance.specs.Marks.{marked}
 use Rattle.instance.proofs.Pairs.{pairs-at}
-use Rattle.instance.proofs.Marks.{Marking, mark-done, mark-no, mark-more}
-use Rattle.instance.proofs.Marks.{mark-ended}
+use Rattle.instance.proofs.Marks.{Marking, mark-done, mark-no, mark-more, mark-ended}
 use Rattle.instance.proofs.validated.mark_publics.Statement.{statement}
 use Rattle.instance.proofs.validated.mark_publics.Tie as tie
 
 abbrev Inv-loop : tie.InvT-loop
-Inv-loop marks₀ vars s n i₀ left₀ marks i left = Marking vars (pairVars (pairsAt left (drop i s))) marks (allBelow vars (pairVars (pairsAt n s))) (marked vars (pairVars (pairsAt n s)) marks₀)
+Inv-loop marks₀ vars s n i₀ left₀ marks i left =
+    Marking vars (pairVars (pairsAt left (drop i s))) marks (allBelow vars (pairVars (pairsAt n s))) (marked vars (pairVars (pairsAt n s)) marks₀)
     × (length marks ≡ length marks₀)
 
 abbrev μ-loop : tie.MeasureT-loop
@@ -32,7 +32,8 @@ same-length : tie.Need-same-length Inv-loop μ-loop
 same-length c = search needs
 
 returns : tie.Need-returns Inv-loop μ-loop
-returns c = let t = c .before .before in
+returns c =
+    let t = c .before .before in
     let l = t .before .loop in
     let a = t .before .before .before .before .args in
     let s = now (a .s) in
@@ -52,7 +53,8 @@ same-length-2 : tie.Need-same-length-2 Inv-loop μ-loop
 same-length-2 c = simp length-set (search needs)
 
 returns-2 : tie.Need-returns-2 Inv-loop μ-loop
-returns-2 c = let t = c .before .before .before in
+returns-2 c =
+    let t = c .before .before .before in
     let l = t .before .loop in
     let a = t .before .before .before .before .args in
     let s = now (a .s) in
@@ -73,7 +75,8 @@ loop-less : tie.Need-loop-less Inv-loop μ-loop
 loop-less c = omega arith
 
 loop-again : tie.Need-loop-again Inv-loop μ-loop
-loop-again c = let t = c .before .before .before in
+loop-again c =
+    let t = c .before .before .before in
     let l = t .before .loop in
     let a = t .before .before .before .before .args in
     let s = now (a .s) in
@@ -88,7 +91,8 @@ same-length-3 : tie.Need-same-length-3 Inv-loop μ-loop
 same-length-3 c = search needs
 
 returns-3 : tie.Need-returns-3 Inv-loop μ-loop
-returns-3 c = let l = c .before .loop in
+returns-3 c =
+    let l = c .before .loop in
     let a = c .before .before .before .before .args in
     let z : l .left ≡ 0 = omega arith in
     mark-done (a .vars) _ (l .marks) _ _ (l .inv .0) (rw z)

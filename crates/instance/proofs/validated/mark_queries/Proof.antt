@@ -15,7 +15,8 @@ use Rattle.instance.proofs.validated.mark_queries.Statement.{statement}
 use Rattle.instance.proofs.validated.mark_queries.Tie as tie
 
 abbrev Inv-loop : tie.InvT-loop
-Inv-loop marks₀ vars s i₀ marks i = Marking vars (drop i s) marks (allBelow vars s) (marked vars s marks₀)
+Inv-loop marks₀ vars s i₀ marks i =
+    Marking vars (drop i s) marks (allBelow vars s) (marked vars s marks₀)
     × (i ≤ length s)
     × (length marks ≡ length marks₀)
 
@@ -35,7 +36,8 @@ same-length : tie.Need-same-length Inv-loop μ-loop
 same-length c = search needs
 
 returns : tie.Need-returns Inv-loop μ-loop
-returns c = let t = c .before .before in
+returns c =
+    let t = c .before .before in
     let l = t .before .loop in
     let a = t .before .before .args in
     let s = now (a .s) in
@@ -57,7 +59,8 @@ loop-less : tie.Need-loop-less Inv-loop μ-loop
 loop-less c = omega arith
 
 loop-again : tie.Need-loop-again Inv-loop μ-loop
-loop-again c = let t = c .before .before in
+loop-again c =
+    let t = c .before .before in
     let l = t .before .loop in
     let a = t .before .before .args in
     let s = now (a .s) in (
@@ -71,7 +74,8 @@ same-length-2 : tie.Need-same-length-2 Inv-loop μ-loop
 same-length-2 c = search needs
 
 returns-2 : tie.Need-returns-2 Inv-loop μ-loop
-returns-2 c = let l = c .before .loop in
+returns-2 c =
+    let l = c .before .loop in
     let a = c .before .before .args in
     mark-done (a .vars) _ (l .marks) _ _ (l .inv .0) (drop-of-length-le (now (a .s)) (c .loop-test .left))
 

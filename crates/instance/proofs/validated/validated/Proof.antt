@@ -23,7 +23,8 @@ cast-if1 c = search needs
 
 returns : tie.Need-returns
 unfolding partsOf
-returns c = let a = c .before .before .before .before .before .args in
+returns c =
+    let a = c .before .before .before .before .before .args in
     gate-16 (partsOf (a .ins) (now (a .publics)) (now (a .queries)) (now (a .equations))) (length (now (a .marks))) (c .if1 .taken)
 
 cast-held-words : tie.Need-cast-held-words
@@ -43,7 +44,8 @@ same-length c = search needs
 
 returns-2 : tie.Need-returns-2
 unfolding partsOf
-returns-2 c = let d = c .before .before .before in
+returns-2 c =
+    let d = c .before .before .before in
     let a = d .before .before .before .before .before .before .before .before .args in
     let parts = partsOf (a .ins) (now (a .publics)) (now (a .queries)) (now (a .equations)) in
     let p : allBelow (a .ins .vars) (pairVars (pairsAt (a .ins .publics) (take (2 * a .ins .publics) (now (a .publics))))) ≡ false =
@@ -61,7 +63,8 @@ same-length-2 c = search needs
 
 returns-3 : tie.Need-returns-3
 unfolding partsOf
-returns-3 c = let f = c .before .before .before in
+returns-3 c =
+    let f = c .before .before .before in
     let d = f .before .before .before .before .before .before in
     let a = d .before .before .before .before .before .before .before .before .args in
     let parts = partsOf (a .ins) (now (a .publics)) (now (a .queries)) (now (a .equations)) in
@@ -86,7 +89,8 @@ same-length-3 c = search needs
 
 returns-4 : tie.Need-returns-4
 unfolding partsOf
-returns-4 c = let f = c .before .before .before .before .before .before in
+returns-4 c =
+    let f = c .before .before .before .before .before .before in
     let d = f .before .before .before .before .before .before in
     let o = d .before .before .before .before .before .before .before .before in
     let a = o .args in

@@ -1,0 +1,298 @@
+-- The gate says yes exactly where these facts on lists hold: 1 and 2, 11 of each store, 10, 16, and 12 to 15
+-- (`compile-facts`, `facts-compile`); and so of each test by itself. Assumes nothing.
+use Prim.Native.Nat.{ℕ, _*_, _≤_, _<_}
+use mathlib.Core.Path.{_≡_, refl, sym, _∙_}
+use mathlib.Core.Bool.{Bool, true, false, _&&_, _||_, or-true}
+use mathlib.Core.List.{List, [], _∷_}
+use mathlib.Core.Logic.{_⊎_, inl, inr}
+use borrow.Author.Tests.{lt-ltb, le-leb, eq-eqb, ltb-true, leb-true, eqb-true}
+use lib.Dec.{eqb, ltb, leb}
+use lib.ListN.{length, take}
+use Rattle.limits.specs.Numbers.{prime, maxCount, maxWidth, unassigned, labelEnd}
+use Rattle.limits.specs.Questions.{ask, firstNo}
+use Rattle.limits.proofs.Questions.{ask-yes, says-yes, both, join, zero-▸, firstNo-append, accepted-says, saysAt}
+use Rattle.words.specs.Store.{allBelow, All}
+use Rattle.words.specs.Pieces.{wordsOf, flat}
+use Rattle.utf8.specs.Utf8.{isUtf8}
+use Rattle.expr.specs.Equation.{Term, Equation, termVars, termWeights, equationsAt, equationsEnd, equationsHeld}
+use Rattle.permutation.specs.Relation.{relationAsks}
+use Rattle.permutation.specs.declared.PermutationRelation.{PermutationRelation}
+use Rattle.instance.specs.Parts.{Parts, pairVars}
+use Rattle.instance.specs.Held.{equationsSound, slotsSound}
+use Rattle.instance.specs.Validated.{bound, termsAsks, termwiseAsks, validatedNo, gateNo}
+use Rattle.instance.specs.Gate.{publicsOf, compiledParts, storesAsks, soundAsks, preparedAsks, preparedNo, compileNo}
+use Rattle.instance.proofs.Gate.{number-is, prepared-by}
+
+-- ---- tests that say yes
+and-both : (a b : Bool) → (a && b) ≡ true → (a ≡ true) × (b ≡ true)
+and-both true b e = (refl, e)
+and-both false b e = (cc, cc)
+
+or-either : (a b : Bool) → (a || b) ≡ true → (a ≡ true) ⊎ (b ≡ true)
+or-either true b e = inl refl
+or-either false b e = inr e
+
+-- every word is below the bound
+abbrev pub Below : ℕ → List ℕ → Type 0
+Below n l = All (λ (x : ℕ). x < n) l
+
+pub allBelow-facts : (n : ℕ) (l : List ℕ) → allBelow n l ≡ true → Below n l
+unfolding allBelow
+allBelow-facts n [] e = tt
+allBelow-facts n (x ∷ l) e =
+    let r = and-both (ltb x n) (allBelow n l) e in
+    (ltb-true x n (r .0), allBelow-facts n l (r .1))
+
+pub facts-allBelow : (n : ℕ) (l : List ℕ) → Below n l → allBelow n l ≡ true
+unfolding allBelow
+facts-allBelow n [] a = refl
+facts-allBelow n (x ∷ l) a = simp (lt-ltb x n (a .0)) (facts-allBelow n l (a .1))
+
+-- ---- 11
+-- terms' wires below 2^30 and weights below p, images below p
+abbrev pub SoundTerm : Term → Type 0
+SoundTerm t = (t .var < maxCount) × (t .weight < prime)
+
+abbrev pub SoundEquation : Equation → Type 0
+SoundEquation e = All SoundTerm (e .terms) × (e .image < prime)
+
+terms-facts : (ts : List Term) → Below maxCount (termVars ts) → Below prime (termWeights ts) → All SoundTerm ts
+terms-facts [] a b = tt
+terms-facts (t ∷ ts) a b = ((a .0, b .0), terms-facts ts (a .1) (b .1))
+
+pub equationsHeld-facts : (es : List Equation) → equationsHeld es ≡ true → All SoundEquation es
+equationsHeld-facts [] e = tt
+equationsHeld-facts (q ∷ es) e =
+    let a = and-both (allBelow maxCount (termVars (q .terms))) _ e in
+    let b = and-both (allBelow prime (termWeights (q .terms))) _ (a .1) in
+    let c = and-both (ltb (q .image) prime) _ (b .1) in (
+      (
+        terms-facts (q .terms) (allBelow-facts maxCount (termVars (q .terms)) (a .0)) (allBelow-facts prime (termWeights (q .terms)) (b .0)),
+        ltb-true (q .image) prime (c .0),
+      ),
+      equationsHeld-facts es (c .1),
+    )
+
+pub equationsSound-facts : (n : ℕ) (held : List ℕ) → equationsSound n held ≡ true
+    → (equationsEnd n held ≡ length held) × All SoundEquation (equationsAt n held)
+unfolding equationsSound
+equationsSound-facts n held e =
+    let a = and-both (eqb (equationsEnd n held) (length held)) _ e in
+    (eqb-true (equationsEnd n held) (length held) (a .0), equationsHeld-facts (equationsAt n held) (a .1))
+
+facts-vars : (ts : List Term) → All SoundTerm ts → Below maxCount (termVars ts)
+facts-vars [] a = tt
+facts-vars (t ∷ ts) a = (a .0 .0, facts-vars ts (a .1))
+
+facts-weights : (ts : List Term) → All SoundTerm ts → Below prime (termWeights ts)
+facts-weights [] a = tt
+facts-weights (t ∷ ts) a = (a .0 .1, facts-weights ts (a .1))
+
+pub facts-equationsHeld : (es : List Equation) → All SoundEquation es → equationsHeld es ≡ true
+facts-equationsHeld [] a = refl
+facts-equationsHeld (q ∷ es) a =
+    let x = facts-allBelow maxCount (termVars (q .terms)) (facts-vars (q .terms) (a .0 .0)) in
+    let v = facts-allBelow prime (termWeights (q .terms)) (facts-weights (q .terms) (a .0 .0)) in
+    simp (x, v, lt-ltb (q .image) prime (a .0 .1)) (facts-equationsHeld es (a .1))
+
+pub facts-equationsSound : (n : ℕ) (held : List ℕ) → equationsEnd n held ≡ length held → All SoundEquation (equationsAt n held)
+    → equationsSound n held ≡ true
+unfolding equationsSound
+facts-equationsSound n held e a =
+    simp (eq-eqb (equationsEnd n held) (length held) e) (facts-equationsHeld (equationsAt n held) a)
+
+-- a slot is a unit or unassigned
+abbrev pub SoundSlot : ℕ → Type 0
+SoundSlot x = (x < prime) ⊎ (x ≡ unassigned)
+
+slot-fact : (x : ℕ) → (ltb x prime ≡ true) ⊎ (eqb x unassigned ≡ true) → SoundSlot x
+slot-fact x (inl e) = inl (ltb-true x prime e)
+slot-fact x (inr e) = inr (eqb-true x unassigned e)
+
+pub slotsSound-facts : (s : List ℕ) → slotsSound s ≡ true → All SoundSlot s
+unfolding slotsSound
+slotsSound-facts [] e = tt
+slotsSound-facts (x ∷ s) e =
+    let a = and-both (ltb x prime || eqb x unassigned) (slotsSound s) e in
+    (slot-fact x (or-either (ltb x prime) (eqb x unassigned) (a .0)), slotsSound-facts s (a .1))
+
+fact-slot : (x : ℕ) → SoundSlot x → (ltb x prime || eqb x unassigned) ≡ true
+fact-slot x (inl h) = simp (lt-ltb x prime h)
+fact-slot x (inr e) = simp (eq-eqb x unassigned e, or-true)
+
+pub facts-slotsSound : (s : List ℕ) → All SoundSlot s → slotsSound s ≡ true
+unfolding slotsSound
+facts-slotsSound [] a = refl
+facts-slotsSound (x ∷ s) a = simp (fact-slot x (a .0)) (facts-slotsSound s (a .1))
+
+-- ---- 12 to 15
+-- a term's wire is below the count, and it is bound or its weight is 0
+abbrev pub ValidTerm : ℕ → (ℕ → Bool) → Term → Type 0
+ValidTerm vars binds t = (t .var < vars) × ((binds (t .var) ≡ true) ⊎ (t .weight ≡ 0))
+
+abbrev pub ValidEquation : ℕ → (ℕ → Bool) → Equation → Type 0
+ValidEquation vars binds e = All (ValidTerm vars binds) (e .terms)
+
+pub record Valid (parts : Parts) : Type 0 where
+  pub publics : Below (parts .vars) (pairVars (parts .publics))
+  pub queries : Below (parts .vars) (flat (parts .queries))
+  pub terms : All (ValidEquation (parts .vars) (bound parts)) (parts .equations)
+
+module _ (vars : ℕ) (binds : ℕ → Bool) where
+  weight-fact : (t : Term) → (binds (t .var) ≡ true) ⊎ (eqb (t .weight) 0 ≡ true) → (binds (t .var) ≡ true) ⊎ (t .weight ≡ 0)
+  weight-fact t (inl e) = inl e
+  weight-fact t (inr e) = inr (eqb-true (t .weight) 0 e)
+
+  fact-weight : (t : Term) → (binds (t .var) ≡ true) ⊎ (t .weight ≡ 0) → (binds (t .var) || eqb (t .weight) 0) ≡ true
+  fact-weight t (inl e) = simp e
+  fact-weight t (inr e) = simp (eq-eqb (t .weight) 0 e, or-true)
+
+  terms-valid : (ts : List Term) → firstNo (termsAsks vars binds ts) ≡ 0 → All (ValidTerm vars binds) ts
+  terms-valid [] e = tt
+  terms-valid (t ∷ ts) e =
+      let a = both _ _ e in
+      let b = both _ _ (a .1) in (
+        (ltb-true (t .var) vars (says-yes 13 _ (a .0)), weight-fact t (or-either _ _ (says-yes 14 _ (b .0)))),
+        terms-valid ts (b .1),
+      )
+
+  valid-terms : (ts : List Term) → All (ValidTerm vars binds) ts → firstNo (termsAsks vars binds ts) ≡ 0
+  valid-terms [] a = refl
+  valid-terms (t ∷ ts) a =
+      join _ _ (ask-yes 14 _ (lt-ltb (t .var) vars (a .0 .0))) (join _ _ (ask-yes 15 _ (fact-weight t (a .0 .1))) (valid-terms ts (a .1)))
+
+  equations-valid : (es : List Equation) → firstNo (termwiseAsks vars binds es) ≡ 0 → All (ValidEquation vars binds) es
+  equations-valid [] e = tt
+  equations-valid (q ∷ es) e =
+      let a = both _ _ (sym (firstNo-append (termsAsks vars binds (q .terms)) (termwiseAsks vars binds es)) ∙ e) in
+      (terms-valid (q .terms) (a .0), equations-valid es (a .1))
+
+  valid-equations : (es : List Equation) → All (ValidEquation vars binds) es → firstNo (termwiseAsks vars binds es) ≡ 0
+  valid-equations [] a = refl
+  valid-equations (q ∷ es) a =
+      firstNo-append (termsAsks vars binds (q .terms)) (termwiseAsks vars binds es)
+      ∙ join _ _ (valid-terms (q .terms) (a .0)) (valid-equations es (a .1))
+
+pub validated-facts : (parts : Parts) → validatedNo parts ≡ 0 → Valid parts
+unfolding validatedNo
+validated-facts parts e =
+    let a = both _ _ e in
+    let b = both _ _ (a .1) in
+    record {
+      publics = allBelow-facts (parts .vars) (pairVars (parts .publics)) (says-yes 11 _ (a .0));
+      queries = allBelow-facts (parts .vars) (flat (parts .queries)) (says-yes 12 _ (b .0));
+      terms = equations-valid (parts .vars) (bound parts) (parts .equations) (b .1);
+    }
+
+pub facts-validated : (parts : Parts) → Valid parts → validatedNo parts ≡ 0
+unfolding validatedNo
+facts-validated parts v =
+    join _ _ (ask-yes 12 _ (facts-allBelow (parts .vars) (pairVars (parts .publics)) (v .publics)))
+    (join _ _ (ask-yes 13 _ (facts-allBelow (parts .vars) (flat (parts .queries)) (v .queries)))
+    (valid-equations (parts .vars) (bound parts) (parts .equations) (v .terms)))
+
+-- 16, then 12 to 15
+pub gate-facts : (parts : Parts) (scratch : ℕ) → gateNo parts scratch ≡ 0 → (parts .vars ≤ scratch) × (validatedNo parts ≡ 0)
+unfolding gateNo validatedNo
+gate-facts parts scratch e = let a = both _ _ e in (leb-true (parts .vars) scratch (says-yes 15 _ (a .0)), a .1)
+
+pub facts-gate : (parts : Parts) (scratch : ℕ) → parts .vars ≤ scratch → validatedNo parts ≡ 0 → gateNo parts scratch ≡ 0
+unfolding gateNo validatedNo
+facts-gate parts scratch h e = join _ _ (ask-yes 16 _ (le-leb (parts .vars) scratch h)) e
+
+-- ---- the gate
+pub record Compiles (rel : PermutationRelation) (label slots queries equations : List ℕ) (publics scratch : ℕ) : Type 0 where
+  -- 1 and 2
+  pub width-low : 1 ≤ rel .width
+  pub width-high : rel .width ≤ maxWidth
+  pub vars-low : 1 ≤ rel .vars
+  pub vars-high : rel .vars ≤ maxCount
+  pub vars-held : rel .vars ≤ length slots
+  pub queries-held : wordsOf (rel .width) (rel .queries) ≤ length queries
+  pub words-held : rel .words ≤ length equations
+  pub equations-held : 2 * rel .equations ≤ length equations
+  pub slots-high : length slots ≤ maxCount
+  pub queries-high : length queries ≤ maxCount
+  pub words-high : length equations ≤ maxCount
+  pub publics-high : publics ≤ maxCount
+  pub scratch-high : scratch ≤ maxCount
+  pub label-high : length label < labelEnd
+  -- 11
+  pub ends : equationsEnd (rel .equations) (take (rel .words) equations) ≡ length (take (rel .words) equations)
+  pub equations-sound : All SoundEquation (equationsAt (rel .equations) (take (rel .words) equations))
+  pub queries-sound : Below maxCount (take (wordsOf (rel .width) (rel .queries)) queries)
+  pub slots-sound : All SoundSlot (take (rel .vars) slots)
+  pub label-sound : isUtf8 label ≡ true
+  -- 10, 16, and 12 to 15
+  pub room : 2 * length (publicsOf rel slots) ≤ publics
+  pub scratch-held : rel .vars ≤ scratch
+  pub valid : Valid (compiledParts rel slots queries equations)
+
+pub compile-facts : (rel : PermutationRelation) (label slots queries equations publics scratch : List ℕ)
+    → compileNo rel label slots queries equations (length publics) (length scratch) ≡ 0
+    → Compiles rel label slots queries equations (length publics) (length scratch)
+unfolding compiledParts preparedNo
+compile-facts rel label slots queries equations publics scratch e =
+    let parts = compiledParts rel slots queries equations in
+    let n = both _ _ (sym (number-is rel label slots queries equations publics scratch) ∙ e) in
+    let g = gate-facts parts (length scratch) (n .1) in
+    let r : (i : ℕ) → saysAt (preparedAsks rel label slots queries equations (length publics) (length scratch)) i ≡ true =
+    accepted-says (preparedAsks rel label slots queries equations (length publics) (length scratch)) tt (n .0) in
+    let q = equationsSound-facts (rel .equations) (take (rel .words) equations) (r 14) in
+    record {
+      width-low = leb-true _ _ (r 0);
+      width-high = leb-true _ _ (r 1);
+      slots-high = leb-true _ _ (r 2);
+      vars-low = leb-true _ _ (r 3);
+      vars-high = leb-true _ _ (r 4);
+      vars-held = leb-true _ _ (r 5);
+      queries-high = leb-true _ _ (r 6);
+      queries-held = leb-true _ _ (r 7);
+      words-high = leb-true _ _ (r 8);
+      words-held = leb-true _ _ (r 9);
+      equations-held = leb-true _ _ (r 10);
+      publics-high = leb-true _ _ (r 11);
+      scratch-high = leb-true _ _ (r 12);
+      label-high = ltb-true _ _ (r 13);
+      ends = q .0;
+      equations-sound = q .1;
+      queries-sound = allBelow-facts maxCount _ (r 15);
+      slots-sound = slotsSound-facts _ (r 16);
+      label-sound = r 17;
+      room = leb-true _ _ (r 18);
+      scratch-held = g .0;
+      valid = validated-facts parts (g .1);
+    }
+
+fits : {a b : ℕ} → a ≤ b → ask 2 (leb a b) ≡ 0
+fits {a} {b} h = ask-yes 2 (leb a b) (le-leb a b h)
+
+pub facts-compile : (rel : PermutationRelation) (label slots queries equations publics scratch : List ℕ)
+    → Compiles rel label slots queries equations (length publics) (length scratch)
+    → compileNo rel label slots queries equations (length publics) (length scratch) ≡ 0
+unfolding compiledParts
+facts-compile rel label slots queries equations publics scratch c =
+    let parts = compiledParts rel slots queries equations in
+    let relation : firstNo (relationAsks rel (length slots)) ≡ 0 =
+    join _ _ (ask-yes 1 _ (le-leb _ _ (c .width-low)))
+    (join _ _ (ask-yes 1 _ (le-leb _ _ (c .width-high)))
+    (join _ _ (fits (c .slots-high))
+    (join _ _ (fits (c .vars-low)) (join _ _ (fits (c .vars-high)) (join _ _ (fits (c .vars-held)) refl))))) in
+    let stores : firstNo (storesAsks rel (length label) (length queries) (length equations) (length publics) (length scratch)) ≡ 0 =
+    join _ _ (fits (c .queries-high))
+    (join _ _ (fits (c .queries-held))
+    (join _ _ (fits (c .words-high))
+    (join _ _ (fits (c .words-held))
+    (join _ _ (fits (c .equations-held))
+    (join _ _ (fits (c .publics-high))
+    (join _ _ (fits (c .scratch-high)) (join _ _ (ask-yes 2 _ (lt-ltb _ _ (c .label-high))) refl))))))) in
+    let sound : firstNo (soundAsks rel label slots queries equations (length publics)) ≡ 0 =
+    join _ _ (ask-yes 11 _ (facts-equationsSound _ _ (c .ends) (c .equations-sound)))
+    (join _ _ (ask-yes 11 _ (facts-allBelow maxCount _ (c .queries-sound)))
+    (join _ _ (ask-yes 11 _ (facts-slotsSound _ (c .slots-sound)))
+    (join _ _ (ask-yes 11 _ (c .label-sound)) (join _ _ (ask-yes 10 _ (le-leb _ _ (c .room))) refl)))) in
+    let prepared =
+    prepared-by rel label slots queries equations (length publics) (length scratch) 0 0 0 (sym relation)
+    (sym (zero-▸ _ ∙ stores)) (sym (zero-▸ _ ∙ sound)) in
+    number-is rel label slots queries equations publics scratch
+    ∙ join _ _ (sym prepared) (facts-gate parts (length scratch) (c .scratch-held) (facts-validated parts (c .valid)))
