@@ -146,9 +146,9 @@ typedef struct {
     size_t len;
 } sfr_written;
 
+/* The state's units turned in place; a refusal leaves them as they were. */
 uint32_t sfr_permute(uint32_t width, uint32_t rounds, const uint32_t *words, size_t words_len,
-                     const uint32_t *input, size_t input_len,
-                     uint32_t *output, size_t output_len);
+                     uint32_t *state, size_t state_len);
 
 sfr_trace_answer sfr_evaluate_step(sfr_trace rec, uint32_t *trace, size_t trace_len,
                                    const uint32_t *input, size_t input_len,

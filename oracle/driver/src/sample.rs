@@ -1,24 +1,16 @@
 //! `sample`: cases for a proved program to replay, written to standard output.
 //!
 //! The file is a stream of u32 words, little-endian. A case is its operation, what is
-//! handed in, and what is expected, which comes from the standard library (`leaf.rs`) and
-//! never from the proved one:
-//!
-//! ```text
-//! 1 add          a b  sum
-//! 2 multiply     a b  product
-//! 3 UTF-8        len bytes  0 or 1
-//! 4 read a word  len bytes at  number value
-//! 5 read an item kind len bytes at out_len place n  number next out
-//! 0 end of the file
-//! ```
-//!
-//! `bytes` is `len` bytes packed into words, the first byte lowest, the last word filled up
-//! with zeros. `kind` is 0 for units and 1 for wires. `next` is the byte after the item, or
-//! `at` after a refusal; `out` is all `out_len` words that the item leaves in a store that
-//! held 0xABABABAB throughout.
+//! handed in, and what is expected. That comes from the standard library (`leaf.rs`) or,
+//! for the calls on a relation (`sample/relation.rs`), from the second reading, and never
+//! from the proved library. README.md says how each operation's cases are laid out.
 
-use std::io::{self, Write};
+mod relation;
+
+use std::{
+    collections::BTreeMap,
+    io::{self, Write},
+};
 
 use crate::{
     calls::DIRT,
@@ -27,15 +19,21 @@ use crate::{
     rng::{Rng, EDGES},
 };
 
-/// Random cases where no count is given: with the fixed ones they stay below 200 KB.
-const COUNT: u64 = 2_500;
+/// Random cases of leaves, and of calls on a relation, where no count is given: with the
+/// fixed ones they stay below 500 KB.
+const LEAVES: u64 = 2_500;
+const RELATIONS: u64 = 1_200;
 
 pub fn run(options: &Options) -> bool {
     let mut rng = Rng::new(options.seed);
     let mut sample = Sample::default();
     sample.fixed();
-    for _ in 0..options.count.unwrap_or(COUNT) {
+    for _ in 0..options.count.unwrap_or(LEAVES) {
         sample.random(&mut rng);
+    }
+    sample.fixed_relations();
+    for _ in 0..options.count.unwrap_or(RELATIONS) {
+        sample.random_relation(&mut rng);
     }
     sample.words.push(0);
     let bytes: Vec<u8> = sample
@@ -47,21 +45,43 @@ pub fn run(options: &Options) -> bool {
         eprintln!("sample: {error}");
         return false;
     }
-    let (cases, seed) = (sample.cases, options.seed);
+    sample.tell();
+    let (cases, seed) = (sample.cases.values().sum::<u64>(), options.seed);
     eprintln!("sample: seed {seed}, {cases} cases, {} bytes", bytes.len());
     true
 }
 
+/// The words so far, how many cases each operation has, and how often it expects which
+/// number.
 #[derive(Default)]
 struct Sample {
     words: Vec<u32>,
-    cases: u64,
+    operation: u32,
+    cases: BTreeMap<u32, u64>,
+    numbers: BTreeMap<(u32, u32), u64>,
 }
 
 impl Sample {
     fn case(&mut self, operation: u32) {
-        self.cases += 1;
+        self.operation = operation;
+        *self.cases.entry(operation).or_default() += 1;
         self.words.push(operation);
+    }
+
+    /// The number that the case begun last expects.
+    fn number(&mut self, number: u32) {
+        *self.numbers.entry((self.operation, number)).or_default() += 1;
+        self.words.push(number);
+    }
+
+    /// A line for each operation: its cases, and how often which number is expected.
+    fn tell(&self) {
+        for (operation, cases) in &self.cases {
+            let numbers = self.numbers.iter().filter(|(key, _)| key.0 == *operation);
+            let numbers = numbers.map(|((_, number), times)| format!(" {number}:{times}"));
+            let numbers: String = numbers.collect();
+            eprintln!("operation {operation:<2} {cases:>5} cases {numbers}");
+        }
     }
 
     /// The length and the packed bytes.
@@ -97,7 +117,9 @@ impl Sample {
             None => (20, 0),
             Some(value) => (0, value),
         };
-        self.words.extend([at, number, value]);
+        self.words.push(at);
+        self.number(number);
+        self.words.push(value);
     }
 
     fn item(&mut self, item: &Item) {
@@ -110,7 +132,8 @@ impl Sample {
         let (at, out_len, place) = (item.at as u32, item.out_len as u32, item.place as u32);
         self.words.extend([at, out_len, place, item.n]);
         let (number, next, out) = item.read(DIRT);
-        self.words.extend([number, next as u32]);
+        self.number(number);
+        self.words.push(next as u32);
         self.words.extend(out);
     }
 

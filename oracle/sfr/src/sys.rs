@@ -185,10 +185,8 @@ mod witness {
             rounds: u32,
             words: *const u32,
             words_len: usize,
-            input: *const u32,
-            input_len: usize,
-            output: *mut u32,
-            output_len: usize,
+            state: *mut u32,
+            state_len: usize,
         ) -> u32;
         pub fn sfr_evaluate_step(
             rec: Trace,

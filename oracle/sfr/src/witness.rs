@@ -4,7 +4,8 @@
 use crate::sys;
 pub use crate::sys::{Trace, TraceAnswer, Written};
 
-pub fn permute(width: u32, rounds: u32, words: &[u32], input: &[u32], output: &mut [u32]) -> u32 {
+/// Turns the state in place; a refusal leaves it as it was.
+pub fn permute(width: u32, rounds: u32, words: &[u32], state: &mut [u32]) -> u32 {
     // SAFETY: see the head of this file.
     unsafe {
         sys::sfr_permute(
@@ -12,10 +13,8 @@ pub fn permute(width: u32, rounds: u32, words: &[u32], input: &[u32], output: &m
             rounds,
             words.as_ptr(),
             words.len(),
-            input.as_ptr(),
-            input.len(),
-            output.as_mut_ptr(),
-            output.len(),
+            state.as_mut_ptr(),
+            state.len(),
         )
     }
 }

@@ -1,0 +1,506 @@
+//! Operations 11 to 19 of a sample: one call on a relation each, with all that is lent to it
+//! and with what the second reading says of it.
+//!
+//! A random case starts as a call that most likely is accepted, over stores that end where
+//! its room does or a little later. Up to two faults are then put into record, stores and
+//! arguments, so that every number is answered and the first of two decides. Counts of
+//! which a call is lent no store are often absurd: nothing asks about them.
+
+use reading::{Relation, MAX_COUNT, P, UNASSIGNED};
+
+use super::Sample;
+use crate::{
+    calls::{Call, State, DIRT},
+    rng::{Rng, EDGES},
+};
+
+/// Words that are no width, no wire and no unit.
+const NO_WIDTHS: [u32; 4] = [0, 25, 1 << 31, u32::MAX];
+const NO_VARS: [u32; 4] = [MAX_COUNT, MAX_COUNT + 1, DIRT, u32::MAX];
+const NO_UNITS: [u32; 4] = [P, P + 1, DIRT, UNASSIGNED];
+
+impl Sample {
+    fn relation(&mut self, rel: Relation) {
+        self.words
+            .extend([rel.width, rel.vars_count, rel.queries, rel.equations]);
+        self.words.push(rel.words);
+    }
+
+    /// The length and the words.
+    fn list(&mut self, words: &[u32]) {
+        self.words.push(words.len() as u32);
+        self.words.extend(words);
+    }
+
+    fn new_relation(&mut self, width: u32, slots: Vec<u32>) {
+        self.case(11);
+        self.words.push(width);
+        self.list(&slots);
+        let mut state = State::sized(0, 0, 0);
+        state.slots = slots;
+        let number = state.new_relation(width);
+        self.number(number);
+        self.relation(state.rel);
+        self.words.extend(state.slots);
+    }
+
+    /// A call, put to the second reading.
+    fn call(&mut self, mut state: State, call: &Call) {
+        self.handed_in(&state, call);
+        let answer = state.run(call);
+        self.number(answer.number);
+        match call {
+            Call::Allocate(_) | Call::Mint(_) => self.words.push(answer.first),
+            Call::SetList(..) => self.words.push(answer.accepted),
+            Call::Value(_) => {
+                let (some, value) = (answer.value.is_some(), answer.value.unwrap_or(0));
+                self.words.extend([u32::from(some), value]);
+            }
+            Call::IsAllocated(_) => self.words.push(u32::from(answer.yes)),
+            _ => {}
+        }
+        self.left(&state, call);
+    }
+
+    /// The operation, the record, the stores that are lent and the arguments.
+    fn handed_in(&mut self, state: &State, call: &Call) {
+        self.case(operation(call));
+        self.relation(state.rel);
+        for store in stores(state, call) {
+            self.list(store);
+        }
+        match call {
+            Call::Allocate(word) | Call::Value(word) | Call::IsAllocated(word) => {
+                self.words.push(*word);
+            }
+            Call::Set(var, value) => self.words.extend([var, value]),
+            Call::SetList(one, other) | Call::Record(one, other) => {
+                self.list(one);
+                self.list(other);
+            }
+            Call::Mint(input) => self.list(input),
+            Call::Equation(terms, image) => {
+                let (vars, weights): (Vec<u32>, Vec<u32>) = terms.iter().copied().unzip();
+                self.list(&vars);
+                self.list(&weights);
+                self.words.push(*image);
+            }
+            Call::AllocateWith(_) => unreachable!("it is two calls"),
+        }
+    }
+
+    /// What a call may have changed: the record where it gives one back, and the stores.
+    fn left(&mut self, state: &State, call: &Call) {
+        match call {
+            Call::Value(_) | Call::IsAllocated(_) => return,
+            Call::Set(..) | Call::SetList(..) => {}
+            _ => self.relation(state.rel),
+        }
+        for store in stores(state, call) {
+            self.words.extend(store);
+        }
+    }
+
+    /// The calls that every sample has: document 01's examples, each word at its limits, and
+    /// two faults of which the first in 01's order decides.
+    pub fn fixed_relations(&mut self) {
+        for word in EDGES {
+            self.edge(word);
+        }
+        let calls = [
+            Call::Allocate(MAX_COUNT),
+            Call::Allocate(MAX_COUNT - 1),
+            Call::Allocate(7),
+            Call::Set(0, 5),
+            Call::SetList(vec![], vec![]),
+            Call::SetList(vec![0], vec![]),
+            Call::SetList(vec![], vec![0]),
+            Call::SetList(vec![0, 0, 1], vec![0, 0, 1]),
+            Call::SetList(vec![0, 0, 0], vec![0, 5, 0]),
+            Call::SetList(vec![0, MAX_COUNT], vec![0, P, 0]),
+            Call::Equation(vec![(0, P), (MAX_COUNT, 1)], P),
+            Call::Equation(vec![(0, 0), (0, 0), (0, 0)], 0),
+            Call::Record(vec![MAX_COUNT], vec![]),
+            Call::Mint(vec![]),
+        ];
+        for call in calls {
+            self.call(fresh(8), &call);
+        }
+        // The count of equations has to fit the store by itself, beside the used words.
+        for (equations, words) in [(1, 0), (4, 0), (4, 8), (5, 0), (5, 8), (0, 9)] {
+            let mut state = fresh(8);
+            (state.rel.equations, state.rel.words) = (equations, words);
+            self.call(state, &Call::Equation(vec![], 0));
+        }
+    }
+
+    /// The word as a width, as a count of the record and as an argument.
+    fn edge(&mut self, word: u32) {
+        for slots in [0, 1, 3] {
+            self.new_relation(word, vec![DIRT; slots]);
+        }
+        let calls = [
+            Call::Allocate(word),
+            Call::Set(word, 0),
+            Call::Set(0, word),
+            Call::SetList(vec![0, word], vec![0, 0]),
+            Call::SetList(vec![0, 0], vec![0, word]),
+            Call::Record(vec![word], vec![0]),
+            Call::Record(vec![0], vec![word]),
+            Call::Mint(vec![word]),
+            Call::Equation(vec![(word, 0)], 0),
+            Call::Equation(vec![(0, word)], 0),
+            Call::Equation(vec![], word),
+            Call::Value(word),
+            Call::IsAllocated(word),
+        ];
+        for call in calls {
+            self.call(fresh(4), &call);
+        }
+        let counts: [(fn(&mut Relation) -> &mut u32, Call); 7] = [
+            (|rel| &mut rel.width, Call::IsAllocated(0)),
+            (|rel| &mut rel.width, Call::Value(0)),
+            (|rel| &mut rel.vars_count, Call::IsAllocated(0)),
+            (|rel| &mut rel.vars_count, Call::Value(0)),
+            (|rel| &mut rel.queries, Call::Record(vec![0], vec![0])),
+            (|rel| &mut rel.equations, Call::Equation(vec![], 0)),
+            (|rel| &mut rel.words, Call::Equation(vec![], 0)),
+        ];
+        for (count, call) in counts {
+            let mut state = fresh(4);
+            *count(&mut state.rel) = word;
+            self.call(state, &call);
+        }
+    }
+
+    pub fn random_relation(&mut self, rng: &mut Rng) {
+        if rng.once_in(25) {
+            let width = match rng.below(4) {
+                0 => *rng.pick(&NO_WIDTHS),
+                _ => rng.width(),
+            };
+            let len = *rng.pick(&[0, 1, 2, 7, 12]);
+            let slots = (0..len).map(|_| rng.edge()).collect();
+            return self.new_relation(width, slots);
+        }
+        let mut state = State::sized(0, 0, 0);
+        state.rel.width = rng.width();
+        let mut call = accepted_call(rng, &mut state);
+        let faults = *rng.pick(&[0, 0, 1, 1, 2]);
+        for _ in 0..faults {
+            fault(rng, &mut state, &mut call);
+        }
+        self.call(state, &call);
+    }
+}
+
+const fn operation(call: &Call) -> u32 {
+    match call {
+        Call::Allocate(_) | Call::AllocateWith(_) => 12,
+        Call::Set(..) => 13,
+        Call::SetList(..) => 14,
+        Call::Record(..) => 15,
+        Call::Mint(_) => 16,
+        Call::Equation(..) => 17,
+        Call::Value(_) => 18,
+        Call::IsAllocated(_) => 19,
+    }
+}
+
+/// The stores that a call is lent.
+fn stores<'a>(state: &'a State, call: &Call) -> Vec<&'a [u32]> {
+    match call {
+        Call::IsAllocated(_) => vec![],
+        Call::Record(..) => vec![&state.queries],
+        Call::Mint(_) => vec![&state.slots, &state.queries],
+        Call::Equation(..) => vec![&state.equations],
+        _ => vec![&state.slots],
+    }
+}
+
+/// A relation of width 1 with wire 0 alone, over dirty stores of one length.
+fn fresh(len: usize) -> State {
+    let mut state = State::sized(len, len, len);
+    state.new_relation(1);
+    state
+}
+
+/// Words left over behind what a call needs: none, one, or a few.
+fn spare(rng: &mut Rng) -> usize {
+    match rng.below(6) {
+        0 | 1 => 0,
+        2 => 1,
+        5 => rng.below(20),
+        _ => rng.below(6),
+    }
+}
+
+fn dirty(rng: &mut Rng, len: usize) -> Vec<u32> {
+    let word = |rng: &mut Rng| if rng.once_in(3) { rng.edge() } else { DIRT };
+    (0..len).map(|_| word(rng)).collect()
+}
+
+/// Slots of some wires with room for more of them; behind these lies anything.
+fn lend_slots(rng: &mut Rng, state: &mut State, more: usize) {
+    let held = rng.between(1, 9);
+    state.rel.vars_count = held as u32;
+    state.slots = (0..held)
+        .map(|_| match rng.below(12) {
+            0..=5 => UNASSIGNED,
+            6 => rng.edge(),
+            _ => rng.unit(),
+        })
+        .collect();
+    let behind = more + spare(rng);
+    state.slots.extend(dirty(rng, behind));
+}
+
+/// Some held queries with room for one more.
+fn lend_queries(rng: &mut Rng, state: &mut State) {
+    let size = 2 * state.rel.width as usize;
+    let held = rng.below((100 / size).min(5));
+    state.rel.queries = held as u32;
+    let len = size * (held + 1) + spare(rng);
+    state.queries = dirty(rng, len);
+}
+
+/// Some held equations with room for one more, of so many terms.
+fn lend_equations(rng: &mut Rng, state: &mut State, terms: usize) {
+    for _ in 0..rng.below(4) {
+        state.rel.equations += 1;
+        state.rel.words += 2 + 2 * rng.below(4) as u32;
+    }
+    let len = state.rel.words as usize + 2 + 2 * terms + spare(rng);
+    state.equations = dirty(rng, len);
+}
+
+/// A wire, allocated or not.
+fn any_var(rng: &mut Rng, vars_count: u32) -> u32 {
+    match rng.below(8) {
+        0 => MAX_COUNT - 1,
+        1 => rng.word() % MAX_COUNT,
+        2 => vars_count + rng.below(30) as u32,
+        _ => rng.below(vars_count as usize) as u32,
+    }
+}
+
+fn any_vars(rng: &mut Rng, state: &State) -> Vec<u32> {
+    let (width, vars_count) = (state.rel.width, state.rel.vars_count);
+    (0..width).map(|_| any_var(rng, vars_count)).collect()
+}
+
+/// An allocated wire, with the value it has or in most cases with one that it may get.
+fn assignment(rng: &mut Rng, state: &State) -> (u32, u32) {
+    for _ in 0..4 {
+        let var = rng.below(state.rel.vars_count as usize);
+        match state.slots[var] {
+            UNASSIGNED => return (var as u32, rng.unit()),
+            value if value < P => return (var as u32, value),
+            _ => {}
+        }
+    }
+    (rng.below(state.rel.vars_count as usize) as u32, rng.unit())
+}
+
+fn set_list(rng: &mut Rng, state: &State) -> Call {
+    let (mut vars, mut values) = (Vec::new(), Vec::new());
+    for _ in 0..rng.below(7) {
+        let (var, value) = assignment(rng, state);
+        // A wire that the list has set already keeps its value.
+        let before = vars.iter().position(|&earlier| earlier == var);
+        values.push(before.map_or(value, |i| values[i]));
+        vars.push(var);
+    }
+    Call::SetList(vars, values)
+}
+
+/// A call that most likely is accepted, and the stores that are lent to it. Counts whose
+/// stores are not lent are every second time any words.
+fn accepted_call(rng: &mut Rng, state: &mut State) -> Call {
+    if rng.once_in(2) {
+        state.rel.queries = rng.edge();
+        state.rel.equations = rng.edge();
+        state.rel.words = rng.edge();
+    }
+    let width = state.rel.width as usize;
+    match rng.below(24) {
+        0..=2 => {
+            let more = rng.below(9);
+            lend_slots(rng, state, more);
+            Call::Allocate(more as u32)
+        }
+        3..=5 => {
+            lend_slots(rng, state, 0);
+            let (var, value) = assignment(rng, state);
+            Call::Set(var, value)
+        }
+        6..=9 => {
+            lend_slots(rng, state, 0);
+            set_list(rng, state)
+        }
+        10..=12 => {
+            state.rel.vars_count = rng.between(1, 40) as u32;
+            lend_queries(rng, state);
+            Call::Record(any_vars(rng, state), any_vars(rng, state))
+        }
+        13..=16 => {
+            lend_slots(rng, state, width);
+            lend_queries(rng, state);
+            Call::Mint(any_vars(rng, state))
+        }
+        17..=20 => equation(rng, state),
+        21 | 22 => {
+            lend_slots(rng, state, 0);
+            Call::Value(any_var(rng, state.rel.vars_count))
+        }
+        _ => {
+            state.rel.vars_count = *rng.pick(&[1, 2, 40, MAX_COUNT - 1, MAX_COUNT]);
+            let beside = state.rel.vars_count - rng.below(2) as u32;
+            Call::IsAllocated(*rng.pick(&[0, 1, beside]))
+        }
+    }
+}
+
+fn equation(rng: &mut Rng, state: &mut State) -> Call {
+    state.rel.vars_count = rng.between(1, 40) as u32;
+    (state.rel.equations, state.rel.words) = (0, 0);
+    let len = rng.below(7);
+    lend_equations(rng, state, len);
+    let vars_count = state.rel.vars_count;
+    let term = |rng: &mut Rng| (any_var(rng, vars_count), rng.unit());
+    let terms = (0..len).map(|_| term(rng)).collect();
+    Call::Equation(terms, rng.unit())
+}
+
+/// Something that a question may say no to, whether the call asks it or not.
+fn fault(rng: &mut Rng, state: &mut State, call: &mut Call) {
+    match rng.below(14) {
+        0 => state.rel.width = *rng.pick(&NO_WIDTHS),
+        1 | 2 => count_astray(rng, state, call),
+        3 | 4 => shorter(rng, state, call),
+        5..=7 => length_astray(rng, state, call),
+        8..=10 => var_astray(rng, state.rel.vars_count, call),
+        _ => unit_astray(rng, state, call),
+    }
+}
+
+/// A count that its store, or the limit on wires, just doesn't take any more; or any.
+fn count_astray(rng: &mut Rng, state: &mut State, call: &Call) {
+    let size = 2 * state.rel.width.clamp(1, 24);
+    let full = |words: &[u32], size: u32| words.len() as u32 / size + 1;
+    let (slots, queries) = (full(&state.slots, 1), full(&state.queries, size));
+    let (pairs, words) = (full(&state.equations, 2), full(&state.equations, 1));
+    let word = rng.edge();
+    let rel = &mut state.rel;
+    match (call, rng.below(4)) {
+        (Call::Record(..) | Call::Mint(_), 0) => rel.queries = queries,
+        (Call::Record(..) | Call::Mint(_), 1) => rel.queries = word,
+        (Call::Equation(..), 0) => rel.equations = pairs,
+        (Call::Equation(..), 1) => rel.words = words,
+        (Call::Equation(..), 2) => (rel.equations, rel.words) = (word, rng.edge()),
+        (Call::Record(..) | Call::Equation(..) | Call::IsAllocated(_), _) => {
+            rel.vars_count = *rng.pick(&[0, MAX_COUNT + 1, word]);
+        }
+        _ => rel.vars_count = *rng.pick(&[0, slots, slots, word]),
+    }
+}
+
+/// A store that ends a word or a few words before the call's room does.
+fn shorter(rng: &mut Rng, state: &mut State, call: &Call) {
+    let rel = state.rel;
+    let (size, queries) = (2 * rel.width as usize, rel.queries as usize);
+    let (store, needed) = match call {
+        Call::Equation(terms, _) => {
+            let words = rel.words as usize;
+            (&mut state.equations, words + 2 + 2 * terms.len())
+        }
+        Call::Record(..) => (&mut state.queries, (queries + 1) * size),
+        Call::Mint(_) if rng.once_in(2) => (&mut state.queries, (queries + 1) * size),
+        Call::Mint(_) => (&mut state.slots, rel.vars_count as usize + size / 2),
+        Call::Allocate(count) => (&mut state.slots, rel.vars_count as usize + *count as usize),
+        _ => (&mut state.slots, rel.vars_count as usize),
+    };
+    let less = *rng.pick(&[1, 1, 1, 2, 5, 20]);
+    store.truncate(needed.saturating_sub(less));
+}
+
+/// A list shorter or longer, more wires than there is room for.
+fn length_astray(rng: &mut Rng, state: &State, call: &mut Call) {
+    let (slots, vars_count) = (state.slots.len() as u32, state.rel.vars_count);
+    let (list, other) = match call {
+        Call::Allocate(count) => {
+            *count = match rng.below(5) {
+                0 => MAX_COUNT.wrapping_sub(vars_count),
+                1 => MAX_COUNT.wrapping_sub(vars_count).wrapping_add(1),
+                2 => rng.edge(),
+                _ => slots.wrapping_sub(vars_count).wrapping_add(1),
+            };
+            return;
+        }
+        Call::SetList(one, other) | Call::Record(one, other) => (one, Some(other)),
+        Call::Mint(input) => (input, None),
+        _ => return,
+    };
+    let list = match other {
+        Some(other) if rng.once_in(2) => other,
+        _ => list,
+    };
+    match rng.below(4) {
+        0 => list.truncate(list.len().saturating_sub(1)),
+        1 => list.clear(),
+        2 => list.push(rng.edge()),
+        _ => list.extend([0, rng.edge(), 1]),
+    }
+}
+
+/// A wire beyond the count, or a word that is none.
+fn var_astray(rng: &mut Rng, vars_count: u32, call: &mut Call) {
+    let word = match rng.below(4) {
+        0 => vars_count,
+        1 => vars_count.wrapping_add(rng.below(9) as u32),
+        _ => *rng.pick(&NO_VARS),
+    };
+    match call {
+        Call::Set(var, _) | Call::Value(var) | Call::IsAllocated(var) => *var = word,
+        Call::SetList(vars, _) | Call::Mint(vars) => put(rng, vars, word),
+        Call::Record(input, output) => {
+            let list = if rng.once_in(2) { input } else { output };
+            put(rng, list, word);
+        }
+        Call::Equation(terms, _) if !terms.is_empty() => {
+            let at = rng.below(terms.len());
+            terms[at].0 = word;
+        }
+        _ => {}
+    }
+}
+
+/// Another value than the wire's, or a word that is no unit.
+fn unit_astray(rng: &mut Rng, state: &mut State, call: &mut Call) {
+    let word = if rng.once_in(2) {
+        *rng.pick(&NO_UNITS)
+    } else {
+        rng.unit()
+    };
+    match call {
+        Call::Set(var, value) => {
+            *value = word;
+            if let Some(slot) = state.slots.get_mut(*var as usize) {
+                *slot = *rng.pick(&[0, word, P, UNASSIGNED, 7]);
+            }
+        }
+        Call::SetList(_, values) => put(rng, values, word),
+        Call::Equation(terms, image) => match rng.below(terms.len() + 1) {
+            0 => *image = word,
+            at => terms[at - 1].1 = word,
+        },
+        _ => {}
+    }
+}
+
+/// Some word of a list becomes this one.
+fn put(rng: &mut Rng, list: &mut [u32], word: u32) {
+    if !list.is_empty() {
+        list[rng.below(list.len())] = word;
+    }
+}
