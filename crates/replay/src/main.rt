@@ -2,15 +2,20 @@
 // word and with no Rust at hand.
 //
 // The sample comes on standard input (the file stdin beside src/). It was written by `cargo run --release -p driver
-// -- sample --seed 1` in oracle/, where driver/src/sample.rs says how it is laid out; its answers come from Rust's own
-// arithmetic, UTF-8 and little-endian words, never from the proved library. It covers the leaves: the edges of p and
-// of u32 added and multiplied pairwise; no byte, and one and two bytes, at the ends of UTF-8's rows, with document
-// 01's and RFC 3629's texts; a word read at and past every place of up to seven bytes; and 2,500 random cases of all
-// five operations, units and wires read into a store among them. A line is printed for each operation, and last how
-// many answers were replayed and how many are different. A fault of the sample, as a case that is cut off, is printed
-// and counts as a difference.
+// -- sample --seed 1` in oracle/, whose README.md says how it is laid out. Its answers come from Rust's own arithmetic,
+// UTF-8 and little-endian words and, for the calls on a relation, from the second reading of document 01 that stands
+// there; never from the proved library.
+//
+// Of the leaves it has the edges of p and of u32 added and multiplied pairwise; no byte, and one and two bytes, at the
+// ends of UTF-8's rows, with document 01's and RFC 3629's texts; a word read at and past every place of up to seven
+// bytes; and 2,500 random cases, units and wires read into a store among them. Of fresh, allocate, set, set list,
+// record, mint, equation, value and is it allocated it has document 01's examples, every count and argument at its
+// limits, and 1,200 random cases at widths 1 to 24, absurd records among them, with every number that a short store
+// can bring about. A line is printed for each operation, and last how many answers were replayed and how many are
+// different. A fault of the sample, as a case that is cut off, is printed and counts as a difference.
 
 mod leaves;
+mod relation;
 mod sample;
 mod tally;
 
@@ -24,17 +29,25 @@ use tally::Tally;
 // The longest sample.
 const BYTES: usize = 1048576;
 
-// The longest store of a case.
+// The longest store or list of a case.
 const WORDS: usize = 4096;
 
-// A case, by its operation, at the cursor past its number. The store is lent for what the case writes.
-fn replay_case(op: u32, sample: &[u8], c: Cursor, store: &mut [u32]) -> Seen {
+// A case, by its operation, at the cursor past its number. The stores are lent for what the case lends and writes.
+fn replay_case(
+    op: u32,
+    sample: &[u8],
+    c: Cursor,
+    store: &mut [u32],
+    second: &mut [u32],
+    third: &mut [u32],
+) -> Seen {
     match op {
         1 => leaves::add(sample, c),
         2 => leaves::multiply(sample, c),
         3 => leaves::text(sample, c),
         4 => leaves::read_word(sample, c),
         5 => leaves::read_item(sample, c, store),
+        11..=19 => relation::call(op, sample, c, store, second, third),
         _ => sample::so_far(c, Found::Unknown),
     }
 }
@@ -57,26 +70,26 @@ fn ended(tally: Tally, sample: &[u8], c: Cursor) -> Tally {
 }
 
 // Every case of the sample in order. Each has a word at least, so there are no more cases than words.
-fn replay(sample: &[u8], store: &mut [u32]) -> Tally {
+fn replay(sample: &[u8], store: &mut [u32], second: &mut [u32], third: &mut [u32]) -> Tally {
     let mut tally = tally::nothing();
     let mut next = Cursor { at: 0 };
     let words = sample.len() / 4;
     let mut i = 0;
     while i < words {
+        i += 1;
         let Word::Read(op, c) = narg::read_u32(sample, next) else {
             break;
         };
         if op == 0 {
             return ended(tally, sample, c);
         }
-        let seen = replay_case(op, sample, c, store);
+        let seen = replay_case(op, sample, c, store, second, third);
         let found = seen.found;
         tally = tally::counted(tally, op, found);
         if lost(found) {
             return tally;
         }
         next = seen.next;
-        i += 1;
     }
     tally::faulty(tally, b"the sample has no end mark")
 }
@@ -88,10 +101,15 @@ fn more() -> bool {
 }
 
 // Reads the sample into the buffer, replays it and prints what came of it.
-fn run(buffer: &mut [u8; BYTES], store: &mut [u32; WORDS]) {
+fn run(
+    buffer: &mut [u8; BYTES],
+    store: &mut [u32; WORDS],
+    second: &mut [u32; WORDS],
+    third: &mut [u32; WORDS],
+) {
     let n = io::read_full(STDIN_FILENO, buffer);
     let all: &[u8] = buffer;
-    let tally = replay(&all[..n], store);
+    let tally = replay(&all[..n], store, second, third);
     if more() {
         tally::print(tally::faulty(tally, b"the sample is longer than 1 MiB"));
     } else {
@@ -100,5 +118,10 @@ fn run(buffer: &mut [u8; BYTES], store: &mut [u32; WORDS]) {
 }
 
 fn main() {
-    run(&mut [0; BYTES], &mut [0; WORDS]);
+    run(
+        &mut [0; BYTES],
+        &mut [0; WORDS],
+        &mut [0; WORDS],
+        &mut [0; WORDS],
+    );
 }

@@ -51,6 +51,28 @@ pub fn take_words(sample: &[u8], c: Cursor, out: &mut [u32]) -> Cursor {
     next
 }
 
+// A list of the sample at the front of a buffer: how many words it has, and the cursor past them.
+pub struct List {
+    pub len: usize,
+    pub next: Cursor,
+}
+
+fn wide(x: u32) -> usize {
+    x as usize
+}
+
+// A list, its length first. Where it is longer than the buffer none of its words is taken.
+pub fn take_list(sample: &[u8], c: Cursor, buffer: &mut [u32]) -> List {
+    let mut head = [0u32; 1];
+    let start = take_words(sample, c, &mut head);
+    let len = wide(head[0]);
+    if buffer.len() < len {
+        return List { len, next: start };
+    }
+    let next = take_words(sample, start, &mut buffer[0..len]);
+    List { len, next }
+}
+
 // The `len` bytes at the cursor, or as many of them as there are.
 pub fn bytes_at(sample: &[u8], c: Cursor, len: u32) -> &[u8] {
     let at = c.at;

@@ -3,8 +3,8 @@
 use crate::sample::Found;
 use libc::STDOUT_FILENO;
 
-// An operation's number is below this; 0 is none.
-const KINDS: usize = 6;
+// An operation's number is below this; 0 and 6 to 10 are none.
+const KINDS: usize = 20;
 
 // How many differences are told.
 const TOLD: u64 = 10;
@@ -62,6 +62,15 @@ fn print_kind(op: u64) -> bool {
         3 => io::write_all(STDOUT_FILENO, b"texts"),
         4 => io::write_all(STDOUT_FILENO, b"words"),
         5 => io::write_all(STDOUT_FILENO, b"items"),
+        11 => io::write_all(STDOUT_FILENO, b"fresh relations"),
+        12 => io::write_all(STDOUT_FILENO, b"allocations"),
+        13 => io::write_all(STDOUT_FILENO, b"sets"),
+        14 => io::write_all(STDOUT_FILENO, b"set lists"),
+        15 => io::write_all(STDOUT_FILENO, b"records"),
+        16 => io::write_all(STDOUT_FILENO, b"mints"),
+        17 => io::write_all(STDOUT_FILENO, b"equations"),
+        18 => io::write_all(STDOUT_FILENO, b"values"),
+        19 => io::write_all(STDOUT_FILENO, b"tests for allocation"),
         _ => io::write_all(STDOUT_FILENO, b"unknown"),
     }
 }
@@ -119,15 +128,30 @@ fn print_column(n: u64) {
     io::write_all(STDOUT_FILENO, &digits[..k]);
 }
 
+// Has an operation this number, which is at least 1 and below KINDS?
+fn named(op: u64) -> bool {
+    if op < 6 {
+        return true;
+    }
+    10 < op
+}
+
+// The line of an operation, and none where the number has no operation.
+fn print_line(op: u64, n: u64) {
+    if named(op) {
+        print_column(n);
+        io::write_all(STDOUT_FILENO, b" ");
+        print_kind(op);
+        io::write_all(STDOUT_FILENO, b" agree\n");
+    }
+}
+
 // A line for each operation, and the last line.
 pub fn print(tally: Tally) {
     let agree = tally.agree;
     let mut op = 1;
     while op < KINDS {
-        print_column(agree[op]);
-        io::write_all(STDOUT_FILENO, b" ");
-        print_kind(op as u64);
-        io::write_all(STDOUT_FILENO, b" agree\n");
+        print_line(op as u64, agree[op]);
         op += 1;
     }
     io::print_decimal(STDOUT_FILENO, tally.replayed);

@@ -5,37 +5,22 @@ use Rattle.replay.proofs.tally.print.Statement.{statement}
 use Rattle.replay.proofs.tally.print.Tie as tie
 
 abbrev Inv-loop : tie.InvT-loop
-Inv-loop tally agree op₀ t4 t5 t6 t7 op = Unit
+Inv-loop tally agree op₀ t4 t5 op = Unit
 
 abbrev μ-loop : tie.MeasureT-loop
-μ-loop tally agree op₀ t4 t5 t6 t7 op = 64 - op
+μ-loop tally agree op₀ t4 t5 op = 64 - op
 
 loop-holds : tie.Need-loop-holds Inv-loop μ-loop
 loop-holds c = search needs
 
-mul-print-column : tie.Need-mul-print-column Inv-loop μ-loop
-mul-print-column c = search needs
+mul-print-line : tie.Need-mul-print-line Inv-loop μ-loop
+mul-print-line c = search needs
 
-array-read-print-column : tie.Need-array-read-print-column Inv-loop μ-loop
-array-read-print-column c = search needs
+array-read-print-line : tie.Need-array-read-print-line Inv-loop μ-loop
+array-read-print-line c = search needs
 
-print-column-requires : tie.Need-print-column-requires Inv-loop μ-loop
-print-column-requires c κs = search needs
-
-slice-aggregate-write-all : tie.Need-slice-aggregate-write-all Inv-loop μ-loop
-slice-aggregate-write-all c = search needs
-
-write-all-requires : tie.Need-write-all-requires Inv-loop μ-loop
-write-all-requires c κs = search needs
-
-print-kind-requires : tie.Need-print-kind-requires Inv-loop μ-loop
-print-kind-requires c κs = search needs
-
-slice-aggregate-write-all-2 : tie.Need-slice-aggregate-write-all-2 Inv-loop μ-loop
-slice-aggregate-write-all-2 c = search needs
-
-write-all-requires-2 : tie.Need-write-all-requires-2 Inv-loop μ-loop
-write-all-requires-2 c κs = search needs
+print-line-requires : tie.Need-print-line-requires Inv-loop μ-loop
+print-line-requires c κs = search needs
 
 add-op : tie.Need-add-op Inv-loop μ-loop
 add-op c = search needs
@@ -49,20 +34,20 @@ loop-again c = search needs
 print-decimal-requires : tie.Need-print-decimal-requires Inv-loop μ-loop
 print-decimal-requires c κs = search needs
 
-slice-aggregate-write-all-3 : tie.Need-slice-aggregate-write-all-3 Inv-loop μ-loop
-slice-aggregate-write-all-3 c = search needs
+slice-aggregate-write-all : tie.Need-slice-aggregate-write-all Inv-loop μ-loop
+slice-aggregate-write-all c = search needs
 
-write-all-requires-3 : tie.Need-write-all-requires-3 Inv-loop μ-loop
-write-all-requires-3 c κs = search needs
+write-all-requires : tie.Need-write-all-requires Inv-loop μ-loop
+write-all-requires c κs = search needs
 
 print-decimal-requires-2 : tie.Need-print-decimal-requires-2 Inv-loop μ-loop
 print-decimal-requires-2 c κs = search needs
 
-slice-aggregate-write-all-4 : tie.Need-slice-aggregate-write-all-4 Inv-loop μ-loop
-slice-aggregate-write-all-4 c = search needs
+slice-aggregate-write-all-2 : tie.Need-slice-aggregate-write-all-2 Inv-loop μ-loop
+slice-aggregate-write-all-2 c = search needs
 
-write-all-requires-4 : tie.Need-write-all-requires-4 Inv-loop μ-loop
-write-all-requires-4 c κs = search needs
+write-all-requires-2 : tie.Need-write-all-requires-2 Inv-loop μ-loop
+write-all-requires-2 c κs = search needs
 
 returns : tie.Need-returns Inv-loop μ-loop
 returns c = search needs
@@ -74,21 +59,16 @@ print-spec =
     Inv-loop
     μ-loop
     loop-holds
-    mul-print-column
-    array-read-print-column
-    print-column-requires
-    slice-aggregate-write-all
-    write-all-requires
-    print-kind-requires
-    slice-aggregate-write-all-2
-    write-all-requires-2
+    mul-print-line
+    array-read-print-line
+    print-line-requires
     add-op
     loop-less
     loop-again
     print-decimal-requires
-    slice-aggregate-write-all-3
-    write-all-requires-3
+    slice-aggregate-write-all
+    write-all-requires
     print-decimal-requires-2
-    slice-aggregate-write-all-4
-    write-all-requires-4
+    slice-aggregate-write-all-2
+    write-all-requires-2
     returns)
