@@ -1,0 +1,13 @@
+pub mod Fields
+pub mod Reading
+pub mod Back
+pub mod Length
+pub mod Stored
+pub mod Told
+pub mod Magic
+pub mod Run
+pub mod Steps
+pub mod Held
+pub mod Equations
+pub mod Files
+pub mod Examples

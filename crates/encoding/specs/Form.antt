@@ -1,0 +1,78 @@
+-- The byte forms (the source's encoding.rs), from document 01's field lists:
+--
+--   SFRI  "SFRI", version, then u32 little-endian: w, 4, label length, label, wire count, public count and
+--         pairs, query count and queries, equation count and equations as held
+--   SFRW  "SFRW", version, w, 4, step count, steps
+--
+-- Assumes nothing.
+use Prim.Native.Nat.{ℕ}
+use mathlib.Core.List.{List, [], _∷_, _++_}
+use lib.ListN.{length}
+use Rattle.narg.specs.Bytes.{u32Bytes}
+use Rattle.narg.specs.Reader.{each}
+use Rattle.allocator.specs.Slots.{Pair}
+use Rattle.expr.specs.Equation.{Term, Equation}
+use Rattle.instance.specs.Parts.{Parts}
+use Rattle.instance.specs.declared.PermutationInstance.{PermutationInstance}
+
+-- the last byte of a magic tells the two forms apart: "SFRI", "SFRW"
+abbrev pub magic : ℕ → List ℕ
+magic last = 83 ∷ 70 ∷ 82 ∷ last ∷ []
+
+abbrev pub letterI : ℕ
+letterI = 73
+
+abbrev pub letterW : ℕ
+letterW = 87
+
+-- the version that is written and read
+abbrev pub version : ℕ
+version = 1
+
+-- magic, version byte, width, unit length 4
+unfoldable pub headerBytes : (last version width : ℕ) → List ℕ
+headerBytes last version width = magic last ++ (version ∷ (u32Bytes width ++ u32Bytes 4))
+
+abbrev pub pairBytes : Pair → List ℕ
+pairBytes p = u32Bytes (p .var) ++ u32Bytes (p .value)
+
+-- a query or a step: its words
+abbrev pub pieceBytes : List ℕ → List ℕ
+pieceBytes words = each u32Bytes words
+
+abbrev pub termBytes : Term → List ℕ
+termBytes t = u32Bytes (t .var) ++ u32Bytes (t .weight)
+
+abbrev pub equationBytes : Equation → List ℕ
+equationBytes e = u32Bytes (length (e .terms)) ++ (each termBytes (e .terms) ++ u32Bytes (e .image))
+
+abbrev pub labelBytes : List ℕ → List ℕ
+labelBytes label = u32Bytes (length label) ++ label
+
+-- what follows the label
+abbrev pub partsBytes : Parts → List ℕ
+partsBytes parts =
+    u32Bytes (parts .vars)
+    ++ (u32Bytes (length (parts .publics)) ++ (each pairBytes (parts .publics)
+    ++ (u32Bytes (length (parts .queries)) ++ (each pieceBytes (parts .queries)
+    ++ (u32Bytes (length (parts .equations)) ++ each equationBytes (parts .equations))))))
+
+-- SFRI
+unfoldable pub instanceBytes : (version width : ℕ) (label : List ℕ) → Parts → List ℕ
+instanceBytes version width label parts = headerBytes letterI version width ++ (labelBytes label ++ partsBytes parts)
+
+-- SFRI from the words that the stores hold, each list as its count and its words (law: the bytes of the parts)
+unfoldable pub heldBytes : (version : ℕ) → PermutationInstance → (label publics queries equations : List ℕ) → List ℕ
+heldBytes version ins label publics queries equations =
+    headerBytes letterI version (ins .width)
+    ++ (labelBytes label
+    ++ (u32Bytes (ins .vars)
+    ++ (u32Bytes (ins .publics)
+    ++ (each u32Bytes publics
+    ++ (u32Bytes (ins .queries)
+    ++ (each u32Bytes queries ++ (u32Bytes (ins .equations) ++ each u32Bytes equations)))))))
+
+-- SFRW
+unfoldable pub witnessBytes : (version width : ℕ) → List (List ℕ) → List ℕ
+witnessBytes version width steps =
+    headerBytes letterW version width ++ (u32Bytes (length steps) ++ each pieceBytes steps)

@@ -1,0 +1,6 @@
+pub mod Form
+pub mod Read
+pub mod Sound
+pub mod Told
+pub mod Answers
+pub mod Given
