@@ -1,0 +1,43 @@
+-- Bytes that a call wrote into lent bytes, words that a read leaves in a store, and answers by number.
+-- Assumes nothing.
+use Prim.Native.Nat.{ℕ, zero, suc, _+_, _-_, _≤_}
+use mathlib.Core.Path.{_≡_, refl, sym, ap, _∙_}
+use mathlib.Core.List.{List, []}
+use native.Mathlib.Omega.{arith}
+use lib.ListN.{length, take, drop, replicate, length-append, length-replicate}
+use lib.Seq.{take-append-seam, take-at}
+use Rattle.limits.specs.Questions.{_▸_}
+use Rattle.limits.proofs.Questions.{onYes-yes, ▸-zero}
+use Rattle.narg.specs.Reader.{Got, got, stop}
+use Rattle.permutation.specs.Answers.{outcomeNumber}
+use Rattle.encoding.specs.Read.{File}
+use Rattle.encoding.specs.Sound.{gotAfter}
+use Rattle.encoding.specs.Answers.{writtenOf, writtenOut, padded, instanceAnswer, witnessAnswer}
+
+-- exactly the bytes that were meant
+pub written-bytes : (k : ℕ) (bytes out : List ℕ) → k ≡ 0 → take (writtenOf k bytes .len) (writtenOut k bytes out) ≡ bytes
+written-bytes zero bytes out e = take-append-seam bytes (drop (0 + length bytes) out)
+written-bytes (suc k) bytes out e = absurd (let z : ⊥ = omega arith in z)
+
+-- the words, and the length of the store
+pub padded-held : (n len : ℕ) (words : List ℕ) → length words ≡ n → take n (padded len words) ≡ words
+padded-held n len words e = take-at words (replicate (len - length words) 0) n e
+
+pub padded-length : (len : ℕ) (words : List ℕ) → length words ≤ len → length (padded len words) ≡ len
+padded-length len words h = simp (length-append, length-replicate) (omega arith)
+
+-- a read that is left with a number
+pub got-yes : {A : Type 0} (k : ℕ) (g : Got A) → k ≡ 0 → gotAfter k g ≡ g
+got-yes k g e = onYes-yes k g (stop k) e
+
+pub instance-number : (w k : ℕ) (file : File) → outcomeNumber (instanceAnswer w (gotAfter k (got file [])) .outcome) ≡ k
+instance-number w zero file = refl
+instance-number w (suc k) file = refl
+
+pub witness-number : (k : ℕ) (steps : List (List ℕ)) → outcomeNumber (witnessAnswer (gotAfter k (got steps [])) .outcome) ≡ k
+witness-number zero steps = refl
+witness-number (suc k) steps = refl
+
+-- a last question
+pub then-last : (a b : ℕ) → (a ▸ 0) ▸ b ≡ a ▸ (b ▸ 0)
+then-last a b = ap (λ (k : ℕ). k ▸ b) (▸-zero a) ∙ ap (λ (k : ℕ). a ▸ k) (sym (▸-zero b))

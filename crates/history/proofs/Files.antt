@@ -1,0 +1,334 @@
+-- An instance through its bytes, after a gate that accepted: what the write and the read still ask, that read
+-- equals written, and the check of what was read. Assumes nothing.
+use Prim.Native.Nat.{ℕ, _+_, _*_, _-_, _≤_, _<_}
+use mathlib.Core.Path.{_≡_, sym, ap, ap₂, _∙_, subst}
+use mathlib.Core.Bool.{true}
+use mathlib.Core.List.{List, [], _++_}
+use native.Mathlib.Omega.{arith}
+use borrow.Author.Tests.{ltb-true, leb-true, le-leb}
+use lib.Dec.{leb}
+use lib.ListN.{length, take, drop, replicate, length-append, length-replicate}
+use lib.Seq.{take-at, take-append-seam}
+use Rattle.limits.specs.Numbers.{maxCount, maxWidth, labelEnd}
+use Rattle.limits.specs.Questions.{ask, _▸_, Question, firstNo}
+use Rattle.limits.specs.Asks.{widthAsks, storeAsks}
+use Rattle.limits.proofs.Questions.{ask-yes, firstNo-append, accepted-says}
+use Rattle.words.specs.Pieces.{flat, wordsOf}
+use Rattle.utf8.specs.Utf8.{isUtf8}
+use Rattle.narg.specs.Bytes.{u32Bytes}
+use Rattle.narg.specs.Reader.{Got, got}
+use Rattle.allocator.specs.Slots.{Pair}
+use Rattle.expr.specs.Equation.{equationsWords}
+use Rattle.expr.proofs.Held.{two-each}
+use Rattle.permutation.specs.declared.PermutationRelation.{PermutationRelation}
+use Rattle.instance.specs.declared.PermutationInstance.{PermutationInstance}
+use Rattle.instance.specs.Parts.{Parts, pairWords, heldPublics, heldQueries, heldEquations, partsOf}
+use Rattle.instance.specs.Validated.{validatedNo}
+use Rattle.instance.specs.Gate.{publicsOf, publicsStore, compileNo}
+use Rattle.permutation.specs.Answers.{outcomeNumber}
+use Rattle.instance.proofs.Facts.{allBelow-facts, facts-validated}
+use Rattle.instance.proofs.Parts.{pairWords-length}
+use Rattle.permute.specs.Parameters.{parametersOf, soundParameters}
+use Rattle.validity.specs.Valid.{stepsOf, isWitnessValid}
+use Rattle.encoding.specs.Form.{version, headerBytes, instanceBytes, partsBytes}
+use Rattle.encoding.specs.Read.{File, readInstance, file}
+use Rattle.encoding.specs.Sound.{SoundFile, roomAsks, orderAsks, gotAfter}
+use Rattle.encoding.specs.Answers.{instanceToBytes, instanceToBytesAsks, instanceToBytesNo, instanceFromBytes, instanceAnswer, publicsAfter, queriesAfter, equationsAfter, labelStart}
+use Rattle.encoding.specs.declared.Written.{Written}
+use Rattle.encoding.specs.declared.InstanceRead.{InstanceRead}
+use Rattle.encoding.proofs.Length.{length-instanceBytes}
+use Rattle.encoding.proofs.Reading.{after-after, read-written}
+use Rattle.permutation.proofs.Answered.{outcome-number}
+use Rattle.history.specs.Ledger.{Ledger}
+use Rattle.history.specs.Sat.{Evaluates}
+use Rattle.history.specs.Calls.{State}
+use Rattle.history.specs.Left.{publicCount, instanceLength, instanceWriteLeft, instanceReadLeft}
+use Rattle.history.specs.Demand.{Checked}
+use Rattle.history.specs.Whole.{Accepted, TraceLent, witnessWritten, witnessReadBack, traceReadBack, FileLent, instanceWritten, instanceBytesMade, instanceReadBack, labelReadBack, publicsReadBack, queriesReadBack, equationsReadBack, SameFile, Filed}
+use Rattle.history.proofs.Bridge.{ledgerParts}
+use Rattle.history.proofs.Keeps.{Agrees}
+use Rattle.history.proofs.Told.{past, then, accepted-no}
+use Rattle.history.proofs.Gate.{queries-held, equations-held-are, public-count}
+use Rattle.history.proofs.Made.{full, ps, ins, publics-wires, publics-values, HoldsWords, Sized, queries-length, parts-held, sizes-yes, sound-yes, compiles, parts-valid, publics-room}
+use Rattle.history.proofs.Sound.{in-order, sound-pairs, sound-queries, sound-equations}
+use Rattle.history.proofs.Bytes.{written-bytes, padded-held, padded-length, got-yes, instance-number}
+use Rattle.history.proofs.Traces.{few, trace-read}
+use Rattle.history.proofs.Checks.{checks-are}
+
+-- ---- what is checked of one instance and label is checked of an equal one
+checked-as : (Evaluation : List ℕ → Type 0) (l : Ledger) (x y : PermutationInstance) (a b publics queries equations : List ℕ) (seen : List (List ℕ))
+    (steps : ℕ) (trace : List ℕ) (rounds : ℕ) (params : List ℕ) (scratch : ℕ) → x ≡ y → a ≡ b
+    → Checked Evaluation l (partsOf y publics queries equations) seen (outcomeNumber (isWitnessValid y b publics queries equations steps trace rounds params scratch))
+    → Checked Evaluation l (partsOf x publics queries equations) seen (outcomeNumber (isWitnessValid x a publics queries equations steps trace rounds params scratch))
+checked-as Evaluation l x y a b publics queries equations seen steps trace rounds params scratch e h c =
+    subst (λ (v : PermutationInstance). Checked Evaluation l (partsOf v publics queries equations) seen (outcomeNumber (isWitnessValid v a publics queries equations steps trace rounds params scratch)))
+    (sym e)
+    (subst (λ (v : List ℕ). Checked Evaluation l (partsOf y publics queries equations) seen (outcomeNumber (isWitnessValid y v publics queries equations steps trace rounds params scratch)))
+    (sym h) c)
+
+-- ---- after a gate that accepted, at the record's own width
+module _ (s : State) (l : Ledger) (i : Agrees (s .relation .width) s l)
+    (gateLabel publics scratch : List ℕ)
+    (gate : compileNo (s .relation) gateLabel (s .slots) (s .queries) (s .equations) (length publics) (length scratch) ≡ 0) (f : FileLent) where
+  abbrev rel : PermutationRelation
+  rel = s .relation
+
+  abbrev w : ℕ
+  w = rel .width
+
+  -- the publics as pairs and as the gate stored them, the instance, and the parts
+  abbrev pairs : List Pair
+  pairs = ps s l i
+
+  abbrev made : List ℕ
+  made = publicsStore (length publics) pairs
+
+  abbrev it : PermutationInstance
+  it = ins s l i
+
+  abbrev parts : Parts
+  parts = ledgerParts l (rel .vars) pairs
+
+  -- ---- the stores as the gate left them
+  made-holds : HoldsWords s l i made (s .queries) (s .equations)
+  made-holds = record {
+    publics-words = take-at (pairWords pairs) (replicate (length publics - 2 * length pairs) 0) (2 * length pairs) (pairWords-length pairs);
+    queries-words = queries-held w s l i;
+    equations-words = equations-held-are w s l i;
+  }
+
+  made-sized : Sized s l i made (s .queries) (s .equations)
+  made-sized =
+      let c = compiles s l i gateLabel publics scratch gate in
+      let r = publics-room s l i gateLabel publics scratch gate in
+      let n = pairWords-length pairs in
+      let m : length made ≡ length publics = simp (length-append, length-replicate) (omega arith) in
+      record {
+        publics-size = rw m (c .publics-high);
+        queries-size = c .queries-high;
+        equations-size = c .words-high;
+      }
+
+  -- ---- the write
+  -- what is written and what is read back
+  abbrev written : Written
+  written = instanceWritten w s it made f
+
+  abbrev bytesMade : List ℕ
+  bytesMade = instanceBytesMade w s it made f
+
+  abbrev back : InstanceRead
+  back = instanceReadBack w s it made f
+
+  abbrev labelBack : List ℕ
+  labelBack = labelReadBack w s it made f
+
+  abbrev publicsBack : List ℕ
+  publicsBack = publicsReadBack w s it made f
+
+  abbrev queriesBack : List ℕ
+  queriesBack = queriesReadBack w s it made f
+
+  abbrev equationsBack : List ℕ
+  equationsBack = equationsReadBack w s it made f
+
+  -- the bytes that are meant
+  abbrev meant : List ℕ
+  meant = instanceToBytes it (f .label) made (s .queries) (s .equations)
+
+  abbrev writeNo : ℕ
+  writeNo = instanceToBytesNo it (f .label) made (s .queries) (s .equations) (length (f .out))
+
+  meant-is : meant ≡ instanceBytes version w (f .label) parts
+  meant-is = ap (instanceBytes version w (f .label)) (parts-held s l i made (s .queries) (s .equations) made-holds)
+
+  publics-count : length pairs ≡ publicCount l
+  unfolding publicsOf
+  publics-count = public-count w s l i
+
+  bytes-length : length meant ≡ instanceLength w l (length (f .label))
+  bytes-length =
+      ap length meant-is ∙ length-instanceBytes version w (f .label) parts (i .inQueries .widths)
+      ∙ ap (λ (n : ℕ). 33 + length (f .label) + 8 * n + 8 * (w * length (l .queries)) + 4 * length (equationsWords (l .equations))) publics-count
+
+  writes : outcomeNumber (written .outcome) ≡ firstNo (instanceWriteLeft w l (f .label) (length (f .out)))
+  unfolding instanceToBytesNo instanceWriteLeft
+  writes =
+      outcome-number _
+      ∙ past _ _ _ (ask-yes 1 _ (le-leb 1 w (i .least))) (past _ _ _ (ask-yes 1 _ (le-leb w maxWidth (i .most)))
+      (sizes-yes s l i made (s .queries) (s .equations) made-holds made-sized _
+      ∙ then _ _ _ (sound-yes s l i made (s .queries) (s .equations) made-holds _
+      ∙ then _ _ _ (ap (λ (n : ℕ). ask 10 (leb n (length (f .out))) ▸ 0) bytes-length))))
+
+  -- ---- the write accepted
+  module _ (z : writeNo ≡ 0) where
+    label-size : length (f .label) < labelEnd
+    unfolding instanceToBytesNo
+    label-size = ltb-true _ _ (accepted-says (instanceToBytesAsks it (f .label) made (s .queries) (s .equations) (length (f .out))) tt z 9)
+
+    label-utf8 : isUtf8 (f .label) ≡ true
+    unfolding instanceToBytesNo
+    label-utf8 = accepted-says (instanceToBytesAsks it (f .label) made (s .queries) (s .equations) (length (f .out))) tt z 13
+
+    sound-file : SoundFile w (f .label) parts
+    sound-file =
+        let o = i .inSlots in
+        let a = o .most in
+        let b = o .room in
+        let c = compiles s l i gateLabel publics scratch gate in
+        let r = publics-room s l i gateLabel publics scratch gate in
+        let q = c .queries-high in
+        let e = c .words-high in
+        let h = c .publics-high in
+        let qn = queries-length s l i in
+        let qf = full (wordsOf w (rel .queries)) (s .queries) (flat (l .queries)) (queries-held w s l i) qn in
+        let en = i .inEquations .uses in
+        let ef = full (rel .words) (s .equations) (equationsWords (l .equations)) (equations-held-are w s l i) (sym en) in
+        let two = two-each (l .equations) in
+        record {
+          widthFits = omega arith;
+          labelLength = label-size;
+          labelUtf8 = label-utf8;
+          vars = omega arith;
+          publicsCount = omega arith;
+          publics = sound-pairs pairs (publics-wires s l i) (publics-values s l i);
+          queriesCount = few (length (l .queries)) w (rw (← (i .inQueries .counts)) (omega arith)) (i .least);
+          queries = sound-queries w (l .queries) (i .inQueries .widths) (allBelow-facts maxCount (flat (l .queries)) (i .inQueries .below));
+          equationsCount = omega arith;
+          equations = sound-equations (l .equations) (omega arith) (i .inEquations .below);
+        }
+
+    bytes-are : bytesMade ≡ instanceBytes version w (f .label) parts
+    bytes-are = written-bytes writeNo meant (f .out) z ∙ meant-is
+
+    -- ---- the read
+    abbrev sizesAsked : List Question
+    sizesAsked =
+        widthAsks w ++ (storeAsks (f .rooms .publics) ++ (storeAsks (f .rooms .queries)
+        ++ (storeAsks (f .rooms .equations) ++ storeAsks (f .rooms .scratch))))
+
+    abbrev partsAsked : List Question
+    partsAsked = roomAsks w (f .rooms) parts ++ orderAsks (f .rooms) parts
+
+    abbrev readNo : ℕ
+    readNo = firstNo sizesAsked ▸ firstNo partsAsked
+
+    got-is : instanceFromBytes w bytesMade (f .rooms) ≡ gotAfter readNo (got (file (f .label) parts) [])
+    unfolding instanceFromBytes
+    got-is =
+        ap (λ (b : List ℕ). gotAfter (firstNo sizesAsked) (readInstance version w (f .rooms) b)) bytes-are
+        ∙ ap (gotAfter (firstNo sizesAsked)) (read-written version w (f .rooms) (f .label) parts sound-file)
+        ∙ after-after _ _ (got (file (f .label) parts) [])
+
+    read-left : readNo ≡ firstNo (instanceReadLeft w l (f .rooms))
+    unfolding instanceReadLeft validatedNo
+    read-left =
+        sym (firstNo-append sizesAsked partsAsked)
+        ∙ past _ _ _ (ask-yes 1 _ (le-leb 1 w (i .least))) (past _ _ _ (ask-yes 1 _ (le-leb w maxWidth (i .most)))
+        (then _ _ _ (then _ _ _ (then _ _ _ (then _ _ _
+        (ap₂ _▸_ (ap (λ (n : ℕ). ask 10 (leb (2 * n) (f .rooms .publics))) publics-count)
+        (then _ _ _ (then _ _ _
+        (past _ _ _ (ask-yes 27 _ (in-order 0 (take (rel .vars) (s .slots))))
+        (ap₂ _▸_ (ap (λ (n : ℕ). ask 16 (leb n (f .rooms .scratch))) (i .count)) (facts-validated parts (parts-valid s l i gateLabel publics scratch gate))))))))))))
+
+    read-number : outcomeNumber (back .outcome) ≡ readNo
+    read-number = ap (λ (g : Got File). outcomeNumber (instanceAnswer w g .outcome)) got-is ∙ instance-number w readNo (file (f .label) parts)
+
+    -- ---- and the read accepted
+    module _ (y : readNo ≡ 0) where
+      got-file : instanceFromBytes w bytesMade (f .rooms) ≡ got (file (f .label) parts) []
+      got-file = got-is ∙ got-yes readNo (got (file (f .label) parts) []) y
+
+      instance-is : back .instance ≡ ins s l i
+      instance-is =
+          ap (λ (g : Got File). instanceAnswer w g .instance) got-file
+          ∙ (λ j. record {
+            width = w;
+            vars = rel .vars;
+            queries = sym (i .inQueries .counts) j;
+            equations = sym (i .inEquations .counts) j;
+            words = sym (i .inEquations .uses) j;
+            publics = length pairs;
+          })
+
+      label-is : labelBack ≡ f .label
+      unfolding instanceBytes headerBytes u32Bytes
+      label-is =
+          ap₂ (λ (g : Got File) (b : List ℕ). take (instanceAnswer w g .label) (drop labelStart b)) got-file bytes-are
+          ∙ take-append-seam (f .label) (partsBytes parts)
+
+      read-holds : HoldsWords s l i publicsBack queriesBack equationsBack
+      read-holds = record {
+        publics-words =
+            ap (λ (g : Got File). heldPublics it (publicsAfter (f .rooms .publics) g)) got-file
+            ∙ padded-held (2 * length pairs) (f .rooms .publics) (pairWords pairs) (pairWords-length pairs);
+        queries-words =
+            ap (λ (g : Got File). heldQueries it (queriesAfter (f .rooms .queries) g)) got-file
+            ∙ padded-held (wordsOf w (rel .queries)) (f .rooms .queries) (flat (l .queries)) (queries-length s l i);
+        equations-words =
+            ap (λ (g : Got File). heldEquations it (equationsAfter (f .rooms .equations) g)) got-file
+            ∙ padded-held (rel .words) (f .rooms .equations) (equationsWords (l .equations)) (sym (i .inEquations .uses));
+      }
+
+      read-sized : Sized s l i publicsBack queriesBack equationsBack
+      unfolding instanceReadLeft
+      read-sized =
+          let says = accepted-says (instanceReadLeft w l (f .rooms)) tt (sym read-left ∙ y) in
+          let pn = pairWords-length pairs in
+          let pc = publics-count in
+          let pr : 2 * publicCount l ≤ f .rooms .publics = leb-true _ _ (says 4) in
+          let qn = queries-length s l i ∙ ap (wordsOf w) (i .inQueries .counts) in
+          let p = ap (λ (g : Got File). length (publicsAfter (f .rooms .publics) g)) got-file
+          ∙ padded-length (f .rooms .publics) (pairWords pairs) (omega arith) in
+          let q = ap (λ (g : Got File). length (queriesAfter (f .rooms .queries) g)) got-file
+          ∙ padded-length (f .rooms .queries) (flat (l .queries)) (rw qn (leb-true _ _ (says 5))) in
+          let e = ap (λ (g : Got File). length (equationsAfter (f .rooms .equations) g)) got-file
+          ∙ padded-length (f .rooms .equations) (equationsWords (l .equations)) (leb-true _ _ (says 6)) in
+          record {
+            publics-size = rw p (leb-true _ _ (says 0));
+            queries-size = rw q (leb-true _ _ (says 1));
+            equations-size = rw e (leb-true _ _ (says 2));
+          }
+
+      same-file : SameFile w s it made f
+      same-file = record {
+        instance = instance-is;
+        label = label-is;
+        publics = read-holds .publics-words ∙ sym (made-holds .publics-words);
+        queries = read-holds .queries-words ∙ sym (made-holds .queries-words);
+        equations = read-holds .equations-words ∙ sym (made-holds .equations-words);
+      }
+
+      read-checked : (t : TraceLent) → Accepted (witnessWritten w t .outcome) → Accepted (witnessReadBack w t .outcome)
+          → (rounds : ℕ) (params : List ℕ) → soundParameters w rounds params ≡ true
+          → (scratch' : ℕ) → back .instance .vars ≤ scratch' → scratch' ≤ maxCount
+          → Checked (Evaluates w (parametersOf w rounds params)) l
+          (partsOf (back .instance) publicsBack queriesBack equationsBack)
+          (stepsOf w (witnessReadBack w t .steps) (traceReadBack w t))
+          (outcomeNumber (isWitnessValid (back .instance) labelBack
+          publicsBack queriesBack equationsBack
+          (witnessReadBack w t .steps) (traceReadBack w t) rounds params scratch'))
+      read-checked t a b rounds params sound scratch' room size =
+          checked-as (Evaluates w (parametersOf w rounds params)) l
+          _ it _ (f .label) publicsBack queriesBack equationsBack
+          (stepsOf w (witnessReadBack w t .steps) (traceReadBack w t)) (witnessReadBack w t .steps) (traceReadBack w t) rounds params scratch'
+          instance-is label-is
+          (checks-are s l i (parts-valid s l i gateLabel publics scratch gate) (f .label) label-size label-utf8
+          publicsBack queriesBack equationsBack read-holds read-sized
+          (witnessReadBack w t .steps) (traceReadBack w t) (trace-read w (i .least) (i .most) t a b) rounds params sound scratch'
+          (subst (λ (x : PermutationInstance). x .vars ≤ scratch') instance-is room) size)
+
+  written-no : Accepted (written .outcome) → writeNo ≡ 0
+  written-no a = accepted-no writeNo a
+
+  read-no : (a : Accepted (written .outcome)) → Accepted (back .outcome)
+      → readNo (written-no a) ≡ 0
+  read-no a b = sym (read-number (written-no a)) ∙ ap outcomeNumber b
+
+  pub filed : Filed w s it made f l
+  filed = record {
+    writes = writes;
+    reads = λ a. read-number (written-no a) ∙ read-left (written-no a);
+    same = λ a b. same-file (written-no a) (read-no a b);
+    checks = λ a b. read-checked (written-no a) (read-no a b);
+  }

@@ -1,0 +1,98 @@
+-- No call changes the length of a store, and no list of calls does. Assumes nothing.
+use Prim.Native.Nat.{ℕ, zero, suc, _+_, _≤_}
+use mathlib.Core.Path.{_≡_, refl, ap₂, _∙_}
+use mathlib.Core.List.{List, [], _∷_, _++_}
+use native.Mathlib.Omega.{arith}
+use lib.Dec.{eqb}
+use lib.ListN.{length, set, length-set, length-append}
+use Rattle.limits.specs.Questions.{ask, _▸_, onYes}
+use Rattle.words.specs.Store.{putWords}
+use Rattle.words.specs.Pieces.{wordsOf}
+use Rattle.words.proofs.Pieces.{wordsOf-suc}
+use Rattle.words.proofs.Written.{put-length}
+use Rattle.allocator.specs.Slots.{Pair, pairs, pairNo, grownSlots, SetRun, ran, setRun}
+use Rattle.expr.specs.Equation.{equation, equationWords}
+use Rattle.expr.proofs.Held.{length-equation}
+use Rattle.permutation.specs.declared.PermutationRelation.{PermutationRelation}
+use Rattle.permutation.specs.Numbers.{allocateVarsNo, setVarNo, setVarsNo, addPermutationNo, allocatePermutationNo, addEquationNo}
+use Rattle.permutation.specs.Answers.{setVarsRun, queriesWith, upFrom}
+use Rattle.permutation.proofs.Accepted.{allocateVars-yes, addPermutation-yes, allocatePermutation-yes, addEquation-yes}
+use Rattle.permutation.proofs.Minted.{upFrom-length}
+use Rattle.permutation.proofs.Slots.{grown-length}
+use Rattle.history.specs.Calls.{Call, Allocate, Set, SetList, Record, Mint, Equate, State, after, final}
+use Rattle.history.specs.Demand.{lengthsOf}
+
+-- by a number: of one length either way
+kept : (k : ℕ) (new old : List ℕ) → (k ≡ 0 → length new ≡ length old) → length (onYes k new old) ≡ length old
+kept zero new old f = f refl
+kept (suc k) new old f = refl
+
+run-length : (n : ℕ) (ps : List Pair) (slots : List ℕ) → length (setRun n slots ps .slots) ≡ length slots
+unfolding setRun
+run-length n [] slots = refl
+run-length n (p ∷ ps) slots = go (pairNo n slots p) _ (run-length n ps (set slots (p .var) (p .value)))
+  where
+    go : (k : ℕ) (r : SetRun) → length (r .slots) ≡ length (set slots (p .var) (p .value))
+        → length (onYes {A = SetRun} k (ran (r .number) (suc (r .accepted)) (r .slots)) (ran k 0 slots) .slots) ≡ length slots
+    go zero r e = e ∙ length-set slots (p .var) (p .value)
+    go (suc k) r e = refl
+
+list-length : (k a : ℕ) (r : SetRun) (slots : List ℕ) → length (r .slots) ≡ length slots
+    → length (onYes {A = SetRun} k (ran a (r .accepted) (r .slots)) (ran k 0 slots) .slots) ≡ length slots
+list-length zero a r slots e = e
+list-length (suc k) a r slots e = refl
+
+query-length : (rel : PermutationRelation) (cells queries : List ℕ) → length cells ≡ rel .width + rel .width
+    → wordsOf (rel .width) (rel .queries + 1) ≤ length queries → length (queriesWith rel cells queries) ≡ length queries
+query-length rel cells queries n h =
+    let e = wordsOf-suc (rel .width) (rel .queries) in
+    put-length (wordsOf (rel .width) (rel .queries)) cells queries (omega arith)
+
+module _ (s : State) where
+  abbrev rel : PermutationRelation
+  rel = s .relation
+
+  lengths : (t : State) → length (t .slots) ≡ length (s .slots) → length (t .queries) ≡ length (s .queries)
+      → length (t .equations) ≡ length (s .equations) → lengthsOf t ≡ lengthsOf s
+  lengths t a b c = λ j. record { slots = a j; queries = b j; equations = c j }
+
+  pub lengths-kept : (c : Call) → lengthsOf (after s c) ≡ lengthsOf s
+  unfolding after setVarsRun
+  lengths-kept (Allocate n) =
+      lengths (after s (Allocate n))
+      (kept (allocateVarsNo rel (length (s .slots)) n) (grownSlots (rel .vars) n (s .slots)) (s .slots)
+      (λ z. grown-length (rel .vars) n (s .slots) (allocateVars-yes rel (length (s .slots)) n z .room))) refl refl
+  lengths-kept (Set p) =
+      lengths (after s (Set p))
+      (kept (setVarNo rel (s .slots) p) (set (s .slots) (p .var) (p .value)) (s .slots) (λ z. length-set (s .slots) (p .var) (p .value))) refl refl
+  lengths-kept (SetList vars values) =
+      let r = setRun (rel .vars) (s .slots) (pairs vars values) in
+      lengths (after s (SetList vars values))
+      (list-length (setVarsNo rel (length (s .slots)) vars values) (r .number ▸ ask 9 (eqb (length vars) (length values))) r (s .slots)
+      (run-length (rel .vars) (pairs vars values) (s .slots))) refl refl
+  lengths-kept (Record input output) =
+      lengths (after s (Record input output)) refl
+      (kept (addPermutationNo rel (length (s .queries)) input output) (queriesWith rel (input ++ output) (s .queries)) (s .queries)
+      (λ z.
+      let y = addPermutation-yes rel (length (s .queries)) input output z in
+      query-length rel (input ++ output) (s .queries) (length-append input output ∙ ap₂ (λ (a b : ℕ). a + b) (y .inputs) (y .outputs)) (y .room))) refl
+  lengths-kept (Mint input) =
+      let yes = allocatePermutation-yes rel (length (s .slots)) (length (s .queries)) input in
+      let k = allocatePermutationNo rel (length (s .slots)) (length (s .queries)) input in
+      let up = upFrom (rel .vars) (rel .width) in
+      lengths (after s (Mint input))
+      (kept k (grownSlots (rel .vars) (rel .width) (s .slots)) (s .slots) (λ z. grown-length (rel .vars) (rel .width) (s .slots) (yes z .slotRoom)))
+      (kept k (queriesWith rel (input ++ up) (s .queries)) (s .queries) (λ z. query-length rel (input ++ up) (s .queries)
+      (length-append input up ∙ ap₂ (λ (a b : ℕ). a + b) (yes z .inputs) (upFrom-length (rel .vars) (rel .width))) (yes z .room))) refl
+  lengths-kept (Equate terms image) =
+      let e = equation terms image in
+      lengths (after s (Equate terms image)) refl refl
+      (kept (addEquationNo rel (length (s .equations)) terms image) (putWords (rel .words) (equationWords e) (s .equations)) (s .equations)
+      (λ z.
+      let y = addEquation-yes rel (length (s .equations)) terms image z in
+      put-length (rel .words) (equationWords e) (s .equations) (rw (length-equation e) (y .room))))
+
+-- nor does a list of calls
+pub lengths-all : (cs : List Call) (s : State) → lengthsOf (final s cs) ≡ lengthsOf s
+lengths-all [] s = refl
+lengths-all (c ∷ cs) s = lengths-all cs (after s c) ∙ lengths-kept s c

@@ -1,0 +1,146 @@
+-- Calls on a relation in any order: what each answers and leaves, by the definitions that the open functions'
+-- contracts cite; and the ledger, which is fed each call and its answer. Assumes nothing.
+use Prim.Native.Nat.{ℕ, _+_}
+use mathlib.Core.List.{List, [], _∷_, _++_}
+use lib.Dec.{eqb}
+use lib.ListN.{length, take, set}
+use Rattle.limits.specs.Questions.{Question, question, onYes}
+use Rattle.allocator.specs.Slots.{Pair, pair, pairs, pairAsks}
+use Rattle.allocator.specs.Values.{joins}
+use Rattle.expr.specs.Equation.{Term, Equation, equation}
+use Rattle.permutation.specs.Relation.{allocateVarsAsks, setVarAsks, setVarsAsks, addPermutationAsks, allocatePermutationAsks, addEquationAsks}
+use Rattle.permutation.specs.Answers.{outcomeNumber, firstNumber, newRelation, newSlots, allocateVars, allocateVarsSlots, setVar, setVarSlots, setVars, setVarsSlots, addPermutation, addPermutationQueries, allocatePermutation, allocatePermutationSlots, allocatePermutationQueries, addEquation, addEquationEquations, upFrom}
+use Rattle.permutation.specs.declared.PermutationRelation.{PermutationRelation}
+use Rattle.permutation.specs.declared.Outcome.{Outcome}
+use Rattle.permutation.specs.declared.First.{First}
+use Rattle.permutation.specs.declared.First.the-variants as first
+use Rattle.permutation.specs.declared.SetVars.{SetVars}
+use Rattle.history.specs.Ledger.{Ledger}
+
+-- the calls of document 01's list: allocate, set, set list, record, mint, equation
+pub data Call : Type 0 where
+  Allocate : ℕ → Call
+  Set : Pair → Call
+  SetList : (vars values : List ℕ) → Call
+  Record : (input output : List ℕ) → Call
+  Mint : (input : List ℕ) → Call
+  Equate : List Term → ℕ → Call
+
+-- the relation's record, and the words of its stores
+pub record State : Type 0 where
+  pub relation : PermutationRelation
+  pub slots : List ℕ
+  pub queries : List ℕ
+  pub equations : List ℕ
+
+abbrev pub state : PermutationRelation → (slots queries equations : List ℕ) → State
+state relation slots queries equations =
+    record { relation = relation; slots = slots; queries = queries; equations = equations }
+
+-- ---- questions in order; a call answers the first that says no
+-- of pairs in turn: each on the slots as the earlier pairs leave them
+abbrev pub pairsAsks : ℕ → List ℕ → List Pair → List Question
+pairsAsks count slots [] = []
+pairsAsks count slots (p ∷ ps) = pairAsks count slots p ++ pairsAsks count (set slots (p .var) (p .value)) ps
+
+unfoldable pub asks : State → Call → List Question
+asks s (Allocate n) = allocateVarsAsks (s .relation) (length (s .slots)) n
+asks s (Set p) = setVarAsks (s .relation) (s .slots) p
+asks s (SetList vars values) =
+    setVarsAsks (s .relation) (length (s .slots)) vars values
+    ++ (pairsAsks (s .relation .vars) (s .slots) (pairs vars values) ++ (question 9 (eqb (length vars) (length values)) ∷ []))
+asks s (Record input output) = addPermutationAsks (s .relation) (length (s .queries)) input output
+asks s (Mint input) = allocatePermutationAsks (s .relation) (length (s .slots)) (length (s .queries)) input
+asks s (Equate terms image) = addEquationAsks (s .relation) (length (s .equations)) terms image
+
+-- ---- answers: document 01's number, the first new wire, and how many pairs were accepted
+pub record Answer : Type 0 where
+  pub number : ℕ
+  pub first : ℕ
+  pub accepted : ℕ
+
+-- each enum's number and values
+abbrev pub ofOutcome : Outcome → Answer
+ofOutcome o = record { number = outcomeNumber o; first = 0; accepted = 0 }
+
+abbrev pub firstVar : First → ℕ
+firstVar (first.Var x) = x
+firstVar (first.Refused k) = 0
+
+abbrev pub ofFirst : First → Answer
+ofFirst f = record { number = firstNumber f; first = firstVar f; accepted = 0 }
+
+abbrev pub ofSetVars : SetVars → Answer
+ofSetVars r = record { number = outcomeNumber (r .outcome); first = 0; accepted = r .accepted }
+
+unfoldable pub answer : State → Call → Answer
+answer s (Allocate n) = ofFirst (allocateVars (s .relation) (s .slots) n .first)
+answer s (Set p) = ofOutcome (setVar (s .relation) (s .slots) p)
+answer s (SetList vars values) = ofSetVars (setVars (s .relation) (s .slots) vars values)
+answer s (Record input output) = ofOutcome (addPermutation (s .relation) (s .queries) input output .outcome)
+answer s (Mint input) = ofFirst (allocatePermutation (s .relation) (s .slots) (s .queries) input .first)
+answer s (Equate terms image) = ofOutcome (addEquation (s .relation) (s .equations) terms image .outcome)
+
+-- ---- what a call leaves
+unfoldable pub after : State → Call → State
+after s (Allocate n) =
+    state (allocateVars (s .relation) (s .slots) n .relation) (allocateVarsSlots (s .relation) (s .slots) n)
+    (s .queries) (s .equations)
+after s (Set p) = state (s .relation) (setVarSlots (s .relation) (s .slots) p) (s .queries) (s .equations)
+after s (SetList vars values) =
+    state (s .relation) (setVarsSlots (s .relation) (s .slots) vars values) (s .queries) (s .equations)
+after s (Record input output) =
+    state (addPermutation (s .relation) (s .queries) input output .relation) (s .slots)
+    (addPermutationQueries (s .relation) (s .queries) input output) (s .equations)
+after s (Mint input) =
+    state (allocatePermutation (s .relation) (s .slots) (s .queries) input .relation)
+    (allocatePermutationSlots (s .relation) (s .slots) (s .queries) input)
+    (allocatePermutationQueries (s .relation) (s .slots) (s .queries) input) (s .equations)
+after s (Equate terms image) =
+    state (addEquation (s .relation) (s .equations) terms image .relation) (s .slots) (s .queries)
+    (addEquationEquations (s .relation) (s .equations) terms image)
+
+-- what fresh of width w leaves, whatever else lies in the stores
+abbrev pub fresh : ℕ → (slots queries equations : List ℕ) → State
+fresh w slots queries equations = state (newRelation w slots .relation) (newSlots w slots) queries equations
+
+-- ---- the ledger
+abbrev pub ledger : ℕ → List Pair → List (List ℕ) → List Equation → Ledger
+ledger count sets queries equations =
+    record { count = count; sets = sets; queries = queries; equations = equations }
+
+-- at first one wire, which is set to 0
+abbrev pub firstLedger : Ledger
+firstLedger = ledger 1 (pair 0 0 ∷ []) [] []
+
+-- what a call and its answer add, at the width given to fresh; a refused call alters nothing, but of a set
+-- list as many of the first pairs join as were accepted
+unfoldable pub noted : ℕ → Ledger → Call → Answer → Ledger
+noted w l (Allocate n) a = ledger (onYes (a .number) (l .count + n) (l .count)) (l .sets) (l .queries) (l .equations)
+noted w l (Set p) a = ledger (l .count) (onYes (a .number) (p ∷ l .sets) (l .sets)) (l .queries) (l .equations)
+noted w l (SetList vars values) a =
+    ledger (l .count) (joins (l .sets) (take (a .accepted) (pairs vars values))) (l .queries) (l .equations)
+noted w l (Record input output) a =
+    ledger (l .count) (l .sets) (onYes (a .number) (l .queries ++ ((input ++ output) ∷ [])) (l .queries)) (l .equations)
+noted w l (Mint input) a =
+    ledger (onYes (a .number) (l .count + w) (l .count)) (l .sets)
+    (onYes (a .number) (l .queries ++ ((input ++ upFrom (l .count) w) ∷ [])) (l .queries)) (l .equations)
+noted w l (Equate terms image) a =
+    ledger (l .count) (l .sets) (l .queries) (onYes (a .number) (l .equations ++ (equation terms image ∷ [])) (l .equations))
+
+-- ---- a list of calls: what was called and answered, what is left at the end, and the ledger of it
+pub record Entry : Type 0 where
+  pub called : Call
+  pub answered : Answer
+
+abbrev pub log : State → List Call → List Entry
+log s [] = []
+log s (c ∷ cs) = record { called = c; answered = answer s c } ∷ log (after s c) cs
+
+abbrev pub final : State → List Call → State
+final s [] = s
+final s (c ∷ cs) = final (after s c) cs
+
+abbrev pub ledgerOf : ℕ → Ledger → List Entry → Ledger
+ledgerOf w l [] = l
+ledgerOf w l (e ∷ es) = ledgerOf w (noted w l (e .called) (e .answered)) es

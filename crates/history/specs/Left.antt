@@ -1,0 +1,94 @@
+-- Which questions can still say no on a state that a list of calls came to, at the gate and after it: by the
+-- ledger and the lengths of what is lent alone. Assumes nothing.
+use Prim.Native.Nat.{ℕ, zero, suc, _+_, _*_}
+use mathlib.Core.Bool.{Bool}
+use mathlib.Core.List.{List, [], _∷_, _++_}
+use lib.Dec.{leb}
+use lib.ListN.{length, take}
+use Rattle.limits.specs.Numbers.{prime}
+use Rattle.limits.specs.Questions.{Question, question, firstNo, pick}
+use Rattle.limits.specs.Asks.{storeAsks}
+use Rattle.words.specs.Store.{allBelow}
+use Rattle.words.specs.Pieces.{flat, wordsOf}
+use Rattle.utf8.specs.Utf8.{isUtf8}
+use Rattle.expr.specs.Equation.{equationsWords}
+use Rattle.permutation.specs.Left.{allocateVarsLeft, setVarLeft, setVarsLeft, addPermutationLeft, allocatePermutationLeft, addEquationLeft}
+use Rattle.instance.specs.Parts.{pairVars, has}
+use Rattle.instance.specs.Held.{labelAsks}
+use Rattle.instance.specs.Validated.{termwiseAsks}
+use Rattle.encoding.specs.Read.{Rooms}
+use Rattle.history.specs.Ledger.{Ledger, known}
+use Rattle.history.specs.Calls.{Call, Allocate, Set, SetList, Record, Mint, Equate}
+
+-- the lengths of the three stores; no call changes them
+pub record Lengths : Type 0 where
+  pub slots : ℕ
+  pub queries : ℕ
+  pub equations : ℕ
+
+-- ---- calls: 1 is never answered, nor 2 of the slots or a count
+unfoldable pub left : ℕ → Lengths → Ledger → Call → ℕ
+left w lengths l (Allocate n) = firstNo (allocateVarsLeft (l .count) (lengths .slots) n)
+left w lengths l (Set p) = firstNo (setVarLeft (l .count) (l .sets) p)
+left w lengths l (SetList vars values) = setVarsLeft (l .count) (l .sets) vars values
+left w lengths l (Record input output) =
+    firstNo (addPermutationLeft w (length (l .queries)) (lengths .queries) input output)
+left w lengths l (Mint input) =
+    firstNo (allocatePermutationLeft w (l .count) (lengths .slots) (length (l .queries)) (lengths .queries) input)
+left w lengths l (Equate terms image) = firstNo (addEquationLeft (l .equations) (lengths .equations) terms image)
+
+-- ---- the gate
+-- of the n wires from i on, how many pass the test?
+abbrev pub numberOf : (ℕ → Bool) → (i n : ℕ) → ℕ
+numberOf test i zero = 0
+numberOf test i (suc n) = pick (test i) 1 0 + numberOf test (suc i) n
+
+-- how many wires are public: those that a set names
+abbrev pub publicCount : Ledger → ℕ
+publicCount l = numberOf (has (pairVars (l .sets))) 0 (l .count)
+
+-- 2 only of sizes, 11 only of the label, 10, 16, 13, and then 14 and 15; 1 and 12 are never answered
+unfoldable pub compileLeft : Lengths → Ledger → (label : List ℕ) → (publics scratch : ℕ) → List Question
+compileLeft lengths l label publics scratch =
+    storeAsks (lengths .queries) ++ (storeAsks (lengths .equations)
+    ++ (storeAsks publics ++ (storeAsks scratch ++ (labelAsks (length label)
+    ++ (question 11 (isUtf8 label)
+    ∷ question 10 (leb (2 * publicCount l) publics)
+    ∷ question 16 (leb (l .count) scratch)
+    ∷ question 13 (allBelow (l .count) (flat (l .queries)))
+    ∷ termwiseAsks (l .count) (known l) (l .equations))))))
+
+-- ---- after an accepted gate
+-- the bytes of an SFRI of the ledger's parts with a label of n bytes
+abbrev pub instanceLength : ℕ → Ledger → ℕ → ℕ
+instanceLength w l n =
+    33 + n + 8 * publicCount l + 8 * (w * length (l .queries)) + 4 * length (equationsWords (l .equations))
+
+-- SFRI written: 2 and 11 only of the label, 10
+unfoldable pub instanceWriteLeft : ℕ → Ledger → (label : List ℕ) → (out : ℕ) → List Question
+instanceWriteLeft w l label out =
+    labelAsks (length label)
+    ++ (question 11 (isUtf8 label) ∷ question 10 (leb (instanceLength w l (length label)) out) ∷ [])
+
+-- SFRI read: 2 only of sizes, 10 of each store, 16; none of 20 to 28, 3, 4 and 12 to 15
+unfoldable pub instanceReadLeft : ℕ → Ledger → Rooms → List Question
+instanceReadLeft w l rooms =
+    storeAsks (rooms .publics) ++ (storeAsks (rooms .queries) ++ (storeAsks (rooms .equations) ++ (storeAsks (rooms .scratch)
+    ++ (question 10 (leb (2 * publicCount l) (rooms .publics))
+    ∷ question 10 (leb (wordsOf w (length (l .queries))) (rooms .queries))
+    ∷ question 10 (leb (length (equationsWords (l .equations))) (rooms .equations))
+    ∷ question 16 (leb (l .count) (rooms .scratch))
+    ∷ []))))
+
+-- SFRW written: 2, 11 whether the held units are below p, 10
+unfoldable pub witnessWriteLeft : (w steps : ℕ) → List ℕ → (out : ℕ) → List Question
+witnessWriteLeft w steps trace out =
+    storeAsks (length trace)
+    ++ (question 2 (leb (wordsOf w steps) (length trace))
+    ∷ question 11 (allBelow prime (take (wordsOf w steps) trace))
+    ∷ question 10 (leb (17 + 8 * (w * steps)) out)
+    ∷ [])
+
+-- SFRW read: 2 of the store's size, 10
+unfoldable pub witnessReadLeft : (w steps room : ℕ) → List Question
+witnessReadLeft w steps room = storeAsks room ++ (question 10 (leb (wordsOf w steps) room) ∷ [])

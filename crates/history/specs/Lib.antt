@@ -1,0 +1,6 @@
+pub mod Ledger
+pub mod Sat
+pub mod Calls
+pub mod Left
+pub mod Demand
+pub mod Whole

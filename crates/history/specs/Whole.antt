@@ -1,0 +1,184 @@
+-- Demand 3, the one claim: about what an accepted fresh leaves, any list of calls after it, the gate, both byte
+-- forms written and read, and the check of what was read.
+--
+--   (1) each call answers the first of its questions that says no, and an accepted allocate or mint the ledger's
+--       count as it was before (`told`)
+--   (2) which questions the gate, the writes and the reads can still refuse with: by the ledger and the sizes of
+--       what is lent alone (`gates`, `writes`, `reads`)
+--   (3) what was read is what was written: width and counts, label bytes, held words, steps (`same`)
+--   (4) the check of what was read answers 0 or 31 to 35, and 0 exactly where the ledger at the gate has an
+--       assignment as document 01 demands (`checks`)
+--
+-- Nothing is assumed but that fresh accepted: any width, any words in the stores, any list of calls with refused
+-- ones among them, any label (another at the write than at the gate too), trace, sizes and scratch. The ledger is
+-- fed calls and answers and never sees a state; the check is of what was read back; an assignment is there for
+-- known wires and for no other; what a step is comes from the permutation's definition. Every answer and every
+-- store here is the definition that the open function's contract cites. Assumes nothing.
+use Prim.Native.Nat.{ℕ, _≤_}
+use mathlib.Core.Path.{_≡_}
+use mathlib.Core.Bool.{true}
+use mathlib.Core.List.{List}
+use lib.ListN.{length, take, drop}
+use Rattle.limits.specs.Numbers.{maxCount}
+use Rattle.limits.specs.Questions.{firstNo}
+use Rattle.words.specs.Pieces.{wordsOf}
+use Rattle.narg.specs.Reader.{Got}
+use Rattle.permutation.specs.declared.Outcome.{Outcome}
+use Rattle.permutation.specs.declared.Outcome.the-variants as outcome
+use Rattle.permutation.specs.Answers.{outcomeNumber}
+use Rattle.permute.specs.Parameters.{parametersOf, soundParameters}
+use Rattle.instance.specs.Parts.{heldPublics, heldQueries, heldEquations, partsOf}
+use Rattle.instance.specs.Gate.{compile, compilePublics}
+use Rattle.instance.specs.declared.PermutationInstance.{PermutationInstance}
+use Rattle.instance.specs.declared.Compiled.{Compiled}
+use Rattle.validity.specs.Valid.{stepsOf, isWitnessValid}
+use Rattle.encoding.specs.Read.{Rooms, File}
+use Rattle.encoding.specs.Answers.{writtenOf, writtenOut, instanceToBytes, instanceToBytesNo, witnessToBytes, witnessToBytesNo, instanceFromBytes, witnessFromBytes, instanceAnswer, publicsAfter, queriesAfter, equationsAfter, witnessAnswer, traceAfter, labelStart}
+use Rattle.encoding.specs.declared.Written.{Written}
+use Rattle.encoding.specs.declared.InstanceRead.{InstanceRead}
+use Rattle.encoding.specs.declared.WitnessRead.{WitnessRead}
+use Rattle.history.specs.Ledger.{Ledger}
+use Rattle.history.specs.Sat.{Evaluates}
+use Rattle.history.specs.Calls.{Call, State, fresh, firstLedger, log, final, ledgerOf}
+use Rattle.history.specs.Left.{compileLeft, instanceWriteLeft, instanceReadLeft, witnessWriteLeft, witnessReadLeft}
+use Rattle.history.specs.Demand.{lengthsOf, AllTold, Checked}
+
+-- accepted: the outcome says so
+abbrev pub Accepted : Outcome → Type 0
+Accepted o = o ≡ outcome.Accepted
+
+-- ---- a trace through its bytes
+-- lent: a step count, the trace store, the output, and the store that is read into
+pub record TraceLent : Type 0 where
+  pub steps : ℕ
+  pub trace : List ℕ
+  pub out : List ℕ
+  pub room : ℕ
+
+module _ (w : ℕ) (t : TraceLent) where
+  abbrev witnessNo : ℕ
+  witnessNo = witnessToBytesNo w (t .steps) (t .trace) (length (t .out))
+
+  -- SFRW written: the answer, and exactly the bytes that it counts
+  abbrev pub witnessWritten : Written
+  witnessWritten = writtenOf witnessNo (witnessToBytes w (t .steps) (t .trace))
+
+  abbrev pub witnessBytesMade : List ℕ
+  witnessBytesMade = take (witnessWritten .len) (writtenOut witnessNo (witnessToBytes w (t .steps) (t .trace)) (t .out))
+
+  -- and read: the answer, and the store
+  abbrev witnessGot : Got (List (List ℕ))
+  witnessGot = witnessFromBytes w witnessBytesMade (t .room)
+
+  abbrev pub witnessReadBack : WitnessRead
+  witnessReadBack = witnessAnswer witnessGot
+
+  abbrev pub traceReadBack : List ℕ
+  traceReadBack = traceAfter (t .room) witnessGot
+
+  -- (2), (3) of SFRW
+  pub record Traced : Type 0 where
+    pub writes : outcomeNumber (witnessWritten .outcome) ≡ firstNo (witnessWriteLeft w (t .steps) (t .trace) (length (t .out)))
+    pub reads : Accepted (witnessWritten .outcome) → outcomeNumber (witnessReadBack .outcome) ≡ firstNo (witnessReadLeft w (t .steps) (t .room))
+    -- read equals written in step count and held words
+    pub same-steps : Accepted (witnessWritten .outcome) → Accepted (witnessReadBack .outcome) → witnessReadBack .steps ≡ t .steps
+    pub same-words : Accepted (witnessWritten .outcome) → Accepted (witnessReadBack .outcome)
+        → take (wordsOf w (t .steps)) traceReadBack ≡ take (wordsOf w (t .steps)) (t .trace)
+
+-- ---- an instance through its bytes
+-- lent: the label, the output, and the lengths of the stores that are read into
+pub record FileLent : Type 0 where
+  pub label : List ℕ
+  pub out : List ℕ
+  pub rooms : Rooms
+
+-- the gate's answer, and the publics that it makes
+abbrev pub compiled : State → (label publics scratch : List ℕ) → Compiled
+compiled s label publics scratch = compile (s .relation) label (s .slots) (s .queries) (s .equations) publics scratch
+
+abbrev pub publicsMade : State → (label publics scratch : List ℕ) → List ℕ
+publicsMade s label publics scratch = compilePublics (s .relation) label (s .slots) (s .queries) (s .equations) publics scratch
+
+-- `ins` and `made`: the instance and the publics that the gate made
+module _ (w : ℕ) (s : State) (ins : PermutationInstance) (made : List ℕ) (f : FileLent) where
+  abbrev instanceNo : ℕ
+  instanceNo = instanceToBytesNo ins (f .label) made (s .queries) (s .equations) (length (f .out))
+
+  abbrev instanceBytesMeant : List ℕ
+  instanceBytesMeant = instanceToBytes ins (f .label) made (s .queries) (s .equations)
+
+  -- SFRI written: the answer, and exactly the bytes that it counts
+  abbrev pub instanceWritten : Written
+  instanceWritten = writtenOf instanceNo instanceBytesMeant
+
+  abbrev pub instanceBytesMade : List ℕ
+  instanceBytesMade = take (instanceWritten .len) (writtenOut instanceNo instanceBytesMeant (f .out))
+
+  -- and read: the answer, the label, and the stores
+  abbrev instanceGot : Got File
+  instanceGot = instanceFromBytes w instanceBytesMade (f .rooms)
+
+  abbrev pub instanceReadBack : InstanceRead
+  instanceReadBack = instanceAnswer w instanceGot
+
+  abbrev pub labelReadBack : List ℕ
+  labelReadBack = take (instanceReadBack .label) (drop labelStart instanceBytesMade)
+
+  abbrev pub publicsReadBack : List ℕ
+  publicsReadBack = publicsAfter (f .rooms .publics) instanceGot
+
+  abbrev pub queriesReadBack : List ℕ
+  queriesReadBack = queriesAfter (f .rooms .queries) instanceGot
+
+  abbrev pub equationsReadBack : List ℕ
+  equationsReadBack = equationsAfter (f .rooms .equations) instanceGot
+
+  -- (3) read equals written in width and counts, label bytes, and held words
+  pub record SameFile : Type 0 where
+    pub instance : instanceReadBack .instance ≡ ins
+    pub label : labelReadBack ≡ f .label
+    pub publics : heldPublics ins publicsReadBack ≡ heldPublics ins made
+    pub queries : heldQueries ins queriesReadBack ≡ heldQueries ins (s .queries)
+    pub equations : heldEquations ins equationsReadBack ≡ heldEquations ins (s .equations)
+
+  -- (2) to (4) of SFRI, beside the ledger
+  pub record Filed (l : Ledger) : Type 0 where
+    pub writes : outcomeNumber (instanceWritten .outcome) ≡ firstNo (instanceWriteLeft w l (f .label) (length (f .out)))
+    pub reads : Accepted (instanceWritten .outcome) → outcomeNumber (instanceReadBack .outcome) ≡ firstNo (instanceReadLeft w l (f .rooms))
+    pub same : Accepted (instanceWritten .outcome) → Accepted (instanceReadBack .outcome) → SameFile
+    -- the check of what was read, for every trace through its bytes, every sheet that 17 lets through, and
+    -- every scratch that 2 and 16 do
+    pub checks : Accepted (instanceWritten .outcome) → Accepted (instanceReadBack .outcome)
+        → (t : TraceLent) → Accepted (witnessWritten w t .outcome) → Accepted (witnessReadBack w t .outcome)
+        → (rounds : ℕ) (params : List ℕ) → soundParameters w rounds params ≡ true
+        → (scratch : ℕ) → instanceReadBack .instance .vars ≤ scratch → scratch ≤ maxCount
+        → Checked (Evaluates w (parametersOf w rounds params)) l
+        (partsOf (instanceReadBack .instance) publicsReadBack queriesReadBack equationsReadBack)
+        (stepsOf w (witnessReadBack w t .steps) (traceReadBack w t))
+        (outcomeNumber (isWitnessValid (instanceReadBack .instance) labelReadBack publicsReadBack queriesReadBack equationsReadBack
+        (witnessReadBack w t .steps) (traceReadBack w t) rounds params scratch))
+
+-- ---- the whole
+module _ (w : ℕ) (slots queries equations : List ℕ) (cs : List Call) where
+  -- what fresh leaves, what the calls leave, and the ledger at the gate
+  abbrev pub begin : State
+  begin = fresh w slots queries equations
+
+  abbrev pub last : State
+  last = final begin cs
+
+  abbrev pub lastLedger : Ledger
+  lastLedger = ledgerOf w firstLedger (log begin cs)
+
+  pub record Whole : Type 0 where
+    -- (1) along the list
+    pub told : AllTold w begin firstLedger cs
+    -- (2) the gate answers by the ledger and the sizes, those of the stores being what they were at first
+    pub gates : (label publics scratch : List ℕ)
+        → outcomeNumber (compiled last label publics scratch .outcome)
+        ≡ firstNo (compileLeft (lengthsOf begin) lastLedger label (length publics) (length scratch))
+    -- (2) to (4) after a gate that accepts; the label that is written may be another than the gate's
+    pub gated : (label publics scratch : List ℕ) → Accepted (compiled last label publics scratch .outcome)
+        → (f : FileLent) → Filed w last (compiled last label publics scratch .instance) (publicsMade last label publics scratch) f lastLedger
+    -- (2), (3) of a trace
+    pub traced : (t : TraceLent) → Traced w t

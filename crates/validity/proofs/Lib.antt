@@ -1,0 +1,11 @@
+pub mod Below
+pub mod Scratch
+pub mod Publics
+pub mod Cells
+pub mod Steps
+pub mod Reduced
+pub mod Sums
+pub mod Equations
+pub mod Asked
+pub mod Checked
+pub mod Examples

@@ -1,0 +1,59 @@
+-- `is_witness_valid` on held parts, gated or not: 1, 2, 17, 11, 16, and then the check. Assumes nothing.
+use Prim.Native.Nat.{ℕ, _+_, _*_, _≤_}
+use mathlib.Core.Path.{_≡_}
+use mathlib.Core.Bool.{true}
+use mathlib.Core.List.{List, [], _∷_, _++_}
+use lib.Dec.{leb}
+use lib.ListN.{length, take}
+use Rattle.limits.specs.Numbers.{prime}
+use Rattle.limits.specs.Questions.{Question, question, firstNo, _▸_}
+use Rattle.limits.specs.Asks.{widthAsks, storeAsks}
+use Rattle.words.specs.Store.{allBelow}
+use Rattle.words.specs.Pieces.{wordsOf, pieces}
+use Rattle.permutation.specs.Answers.{outcomeOf}
+use Rattle.permutation.specs.declared.Outcome.{Outcome}
+use Rattle.permute.specs.Parameters.{soundParameters, isEvaluation}
+use Rattle.instance.specs.Parts.{heldPublics, heldEquations, partsOf}
+use Rattle.instance.specs.Held.{labelAsks, partsAsks, heldAsks, publicsSound, equationsSound}
+use Rattle.instance.specs.declared.PermutationInstance.{PermutationInstance}
+use Rattle.validity.specs.Check.{checkNo}
+
+-- the first `steps` steps of a trace
+abbrev pub stepsOf : ℕ → ℕ → List ℕ → List (List ℕ)
+stepsOf width steps trace = pieces (width + width) steps (take (wordsOf width steps) trace)
+
+abbrev pub isWitnessValidAsks : PermutationInstance → (label publics queries equations : List ℕ)
+    → (steps : ℕ) (trace : List ℕ) (rounds : ℕ) (params : List ℕ) (scratch : ℕ) → List Question
+isWitnessValidAsks ins label publics queries equations steps trace rounds params scratch =
+    widthAsks (ins .width)
+    ++ (partsAsks ins (length publics) (length queries) (length equations)
+    ++ (storeAsks (length trace) ++ (storeAsks (length params) ++ (storeAsks scratch ++ (labelAsks (length label)
+    ++ (question 2 (leb (wordsOf (ins .width) steps) (length trace))
+    ∷ question 17 (soundParameters (ins .width) rounds params)
+    ∷ (heldAsks ins label publics queries equations
+    ++ (question 11 (allBelow prime (take (wordsOf (ins .width) steps) trace))
+    ∷ question 16 (leb (ins .vars) scratch)
+    ∷ []))))))))
+
+unfoldable pub isWitnessValidNo : PermutationInstance → (label publics queries equations : List ℕ)
+    → (steps : ℕ) (trace : List ℕ) (rounds : ℕ) (params : List ℕ) (scratch : ℕ) → ℕ
+isWitnessValidNo ins label publics queries equations steps trace rounds params scratch =
+    firstNo (isWitnessValidAsks ins label publics queries equations steps trace rounds params scratch)
+    ▸ checkNo (isEvaluation (ins .width) rounds params) (partsOf ins publics queries equations)
+    (stepsOf (ins .width) steps trace)
+
+-- yes is Accepted; scratch is all 0 afterwards
+abbrev pub isWitnessValid : PermutationInstance → (label publics queries equations : List ℕ)
+    → (steps : ℕ) (trace : List ℕ) (rounds : ℕ) (params : List ℕ) (scratch : ℕ) → Outcome
+isWitnessValid ins label publics queries equations steps trace rounds params scratch =
+    outcomeOf (isWitnessValidNo ins label publics queries equations steps trace rounds params scratch)
+
+-- what 2 and 11 said yes to, as far as the check looks at it: the counts fit the stores, and what is held is
+-- sound
+pub record Sound (ins : PermutationInstance) (publics queries equations : List ℕ) (steps : ℕ) (trace : List ℕ) : Type 0 where
+  pub fitPublics : 2 * ins .publics ≤ length publics
+  pub fitQueries : wordsOf (ins .width) (ins .queries) ≤ length queries
+  pub fitTrace : wordsOf (ins .width) steps ≤ length trace
+  pub units : allBelow prime (take (wordsOf (ins .width) steps) trace) ≡ true
+  pub public : publicsSound (ins .publics) (heldPublics ins publics) ≡ true
+  pub linear : equationsSound (ins .equations) (heldEquations ins equations) ≡ true
