@@ -53,13 +53,11 @@ sfr_place sfr_read_units(const uint8_t *bytes, size_t len, size_t at,
 sfr_place sfr_read_vars(const uint8_t *bytes, size_t len, size_t at,
                         uint32_t *out, size_t out_len, size_t place, uint32_t n);
 
-/* ---- Relations. The archive has these once the relation has landed. ---- */
-#ifdef SFR_RELATION
-
+/* ---- Relations. ---- */
 /* A relation's record, handed in and back by value. `words` counts the used words of the equation store. */
 typedef struct {
     uint32_t width;
-    uint32_t vars_count;
+    uint32_t vars;
     uint32_t queries;
     uint32_t equations;
     uint32_t words;
@@ -124,11 +122,7 @@ sfr_value sfr_value_of(sfr_relation rel, const uint32_t *slots, size_t slots_len
 
 sfr_flag sfr_is_allocated(sfr_relation rel, uint32_t var);
 
-#endif /* SFR_RELATION */
-
-/* ---- Permutations by their parameters (rounds and words), and traces. Proposed; from the witness landing on. ---- */
-#ifdef SFR_WITNESS
-
+/* ---- Permutations by their parameters (rounds and words), and traces. ---- */
 typedef struct {
     uint32_t width;
     uint32_t steps;
@@ -165,14 +159,10 @@ sfr_written sfr_witness_to_bytes(sfr_trace rec, const uint32_t *trace, size_t tr
 sfr_trace_answer sfr_witness_from_bytes(uint32_t width, const uint8_t *bytes, size_t len,
                                         uint32_t *trace, size_t trace_len);
 
-#endif /* SFR_WITNESS */
-
-/* ---- Instances. Proposed; from the instance landing on, after relation and witness. ---- */
-#ifdef SFR_INSTANCE
-
+/* ---- Instances. ---- */
 typedef struct {
     uint32_t width;
-    uint32_t vars_count;
+    uint32_t vars;
     uint32_t queries;
     uint32_t equations;
     uint32_t words;
@@ -217,11 +207,7 @@ sfr_instance_read sfr_instance_from_bytes(uint32_t width, const uint8_t *bytes, 
 
 sfr_value sfr_public_value(sfr_instance ins, const uint32_t *publics, size_t publics_len, uint32_t var);
 
-#endif /* SFR_INSTANCE */
-
-/* ---- The check. Proposed; from the check landing on, after instance. ---- */
-#ifdef SFR_CHECK
-
+/* ---- The check. ---- */
 /* The trace has the instance's width. Scratch is all 0 after every call. */
 uint32_t sfr_is_witness_valid(sfr_instance ins,
                               const uint8_t *label, size_t label_len,
@@ -231,8 +217,6 @@ uint32_t sfr_is_witness_valid(sfr_instance ins,
                               uint32_t steps, const uint32_t *trace, size_t trace_len,
                               uint32_t rounds, const uint32_t *words, size_t words_len,
                               uint32_t *scratch, size_t scratch_len);
-
-#endif /* SFR_CHECK */
 
 #ifdef __cplusplus
 }

@@ -1,2 +1,5 @@
 pub mod Leaves
 pub mod Relation
+pub mod Trace
+pub mod Gate
+pub mod Sfri

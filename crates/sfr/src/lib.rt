@@ -20,7 +20,11 @@ use narg::Item;
 use narg::Put;
 use narg::Word;
 
+mod check;
+mod gate;
 mod relation;
+mod sfri;
+mod trace;
 
 // A word that was read: number 0 and the place after it, or 20, value 0 and the place that was given.
 #[repr(C)]

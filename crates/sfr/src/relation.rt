@@ -94,21 +94,35 @@ pub extern "C" fn sfr_new(width: u32, slots: &mut [u32]) -> SfrRelationAnswer
 }
 
 #[no_mangle]
-pub extern "C" fn sfr_allocate_vars(rel: PermutationRelation, slots: &mut [u32], n: u32) -> SfrRelationAnswer
+pub extern "C" fn sfr_allocate_vars(
+    rel: PermutationRelation,
+    slots: &mut [u32],
+    n: u32,
+) -> SfrRelationAnswer
     ensures { λ r. ⌜ (r ≡ allocatedAnswer (allocateVars rel (now (slots .entry)) n)) × (now (slots .exit) ≡ allocateVarsSlots rel (now (slots .entry)) n) ⌝ }
 {
     allocated_answer(permutation::allocate_vars(rel, slots, n))
 }
 
 #[no_mangle]
-pub extern "C" fn sfr_set_var(rel: PermutationRelation, slots: &mut [u32], var: u32, value: u32) -> u32
+pub extern "C" fn sfr_set_var(
+    rel: PermutationRelation,
+    slots: &mut [u32],
+    var: u32,
+    value: u32,
+) -> u32
     ensures { λ r. ⌜ (r ≡ outcomeNo (setVar rel (now (slots .entry)) (pair var value))) × (now (slots .exit) ≡ setVarSlots rel (now (slots .entry)) (pair var value)) ⌝ }
 {
     outcome_no(permutation::set_var(rel, slots, FieldVar(var), BabyBearUnit(value)))
 }
 
 #[no_mangle]
-pub extern "C" fn sfr_set_vars(rel: PermutationRelation, slots: &mut [u32], vars: &[u32], values: &[u32]) -> SfrTally
+pub extern "C" fn sfr_set_vars(
+    rel: PermutationRelation,
+    slots: &mut [u32],
+    vars: &[u32],
+    values: &[u32],
+) -> SfrTally
     ensures { λ r. ⌜ (r ≡ tallyOf (setVars rel (now (slots .entry)) (now (vars .entry)) (now (values .entry)))) × (now (slots .exit) ≡ setVarsSlots rel (now (slots .entry)) (now (vars .entry)) (now (values .entry))) ⌝ }
 {
     let r = permutation::set_vars(rel, slots, vars, values);
@@ -121,21 +135,37 @@ pub extern "C" fn sfr_set_vars(rel: PermutationRelation, slots: &mut [u32], vars
 }
 
 #[no_mangle]
-pub extern "C" fn sfr_add_permutation(rel: PermutationRelation, queries: &mut [u32], input: &[u32], output: &[u32]) -> SfrRelationAnswer
+pub extern "C" fn sfr_add_permutation(
+    rel: PermutationRelation,
+    queries: &mut [u32],
+    input: &[u32],
+    output: &[u32],
+) -> SfrRelationAnswer
     ensures { λ r. ⌜ (r ≡ recordedAnswer (addPermutation rel (now (queries .entry)) (now (input .entry)) (now (output .entry)))) × (now (queries .exit) ≡ addPermutationQueries rel (now (queries .entry)) (now (input .entry)) (now (output .entry))) ⌝ }
 {
     recorded_answer(permutation::add_permutation(rel, queries, input, output))
 }
 
 #[no_mangle]
-pub extern "C" fn sfr_allocate_permutation(rel: PermutationRelation, slots: &mut [u32], queries: &mut [u32], input: &[u32]) -> SfrRelationAnswer
+pub extern "C" fn sfr_allocate_permutation(
+    rel: PermutationRelation,
+    slots: &mut [u32],
+    queries: &mut [u32],
+    input: &[u32],
+) -> SfrRelationAnswer
     ensures { λ r. ⌜ (r ≡ allocatedAnswer (allocatePermutation rel (now (slots .entry)) (now (queries .entry)) (now (input .entry)))) × (now (slots .exit) ≡ allocatePermutationSlots rel (now (slots .entry)) (now (queries .entry)) (now (input .entry))) × (now (queries .exit) ≡ allocatePermutationQueries rel (now (slots .entry)) (now (queries .entry)) (now (input .entry))) ⌝ }
 {
     allocated_answer(permutation::allocate_permutation(rel, slots, queries, input))
 }
 
 #[no_mangle]
-pub extern "C" fn sfr_add_equation(rel: PermutationRelation, equations: &mut [u32], vars: &[u32], weights: &[u32], image: u32) -> SfrRelationAnswer
+pub extern "C" fn sfr_add_equation(
+    rel: PermutationRelation,
+    equations: &mut [u32],
+    vars: &[u32],
+    weights: &[u32],
+    image: u32,
+) -> SfrRelationAnswer
     ensures { λ r. ⌜ (r ≡ recordedAnswer (addEquation rel (now (equations .entry)) (termsOf (now (vars .entry)) (now (weights .entry))) image)) × (now (equations .exit) ≡ addEquationEquations rel (now (equations .entry)) (termsOf (now (vars .entry)) (now (weights .entry))) image) ⌝ }
 {
     recorded_answer(permutation::add_equation(rel, equations, vars, weights, BabyBearUnit(image)))

@@ -16,7 +16,7 @@ same-length : tie.Need-same-length
 same-length c = search needs
 
 returns : tie.Need-returns
-returns c = 
+returns c =
     let r = c .before .before .before .add-permutation in
     (c .recorded-answer .ensures ∙ ap recordedAnswer (r .ensures .0), r .ensures .1)
 

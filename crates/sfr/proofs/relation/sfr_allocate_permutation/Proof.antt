@@ -19,7 +19,7 @@ same-length-2 : tie.Need-same-length-2
 same-length-2 c = search needs
 
 returns : tie.Need-returns
-returns c = 
+returns c =
     let r = c .before .before .before .before .before .allocate-permutation in
     (c .allocated-answer .ensures ∙ ap allocatedAnswer (r .ensures .0), r .ensures .1, r .ensures .2)
 

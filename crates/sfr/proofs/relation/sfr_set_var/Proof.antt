@@ -16,7 +16,7 @@ same-length : tie.Need-same-length
 same-length c = search needs
 
 returns : tie.Need-returns
-returns c = 
+returns c =
     let r = c .before .before .before .set-var in
     (c .outcome-no .ensures ∙ ap outcomeNo (r .ensures .0), r .ensures .1)
 

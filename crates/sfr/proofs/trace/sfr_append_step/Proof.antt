@@ -1,0 +1,25 @@
+-- `sfr::trace::sfr_append_step` meets its contract: what the call answers, as a struct.
+-- Assumes nothing.
+use mathlib.Core.Path.{ap, _∙_}
+use Rattle.sfr.specs.Trace.{tracedAnswer}
+use borrow.Author.Needs.{needs}
+use Rattle.sfr.proofs.trace.sfr_append_step.Statement.{statement}
+use Rattle.sfr.proofs.trace.sfr_append_step.Tie as tie
+
+add-permutation-requires : tie.Need-add-permutation-requires
+add-permutation-requires c κs = search needs
+
+traced-answer-requires : tie.Need-traced-answer-requires
+traced-answer-requires c κs = search needs
+
+same-length : tie.Need-same-length
+same-length c = search needs
+
+returns : tie.Need-returns
+returns c =
+    let r = c .before .before .before .add-permutation in
+    (c .traced-answer .ensures ∙ ap tracedAnswer (r .ensures .0), r .ensures .1)
+
+pub sfr-append-step-spec : {M : Type 1} → statement M
+sfr-append-step-spec =
+    tie.close (tie.spec add-permutation-requires traced-answer-requires same-length returns)

@@ -1,0 +1,50 @@
+// The gate and the value of a wire in an instance, for C.
+
+ghost use mathlib.Core.Path.{_≡_};
+ghost use lib.ListN.{length, replicate};
+ghost use Rattle.instance.specs.Gate.{compile, compilePublics, publicValue};
+ghost use Rattle.sfr.specs.Relation.{valueAnswer};
+ghost use Rattle.sfr.specs.Gate.{compiledAnswer};
+use crate::relation::SfrValue;
+use crate::relation::outcome_no;
+use crate::relation::value_answer;
+use allocator::FieldVar;
+use instance::PermutationInstance;
+use permutation::PermutationRelation;
+
+// The gate's number with the instance's record, of zeros after a refusal.
+#[repr(C)]
+pub struct SfrInstanceAnswer {
+    pub number: u32,
+    pub instance: PermutationInstance,
+}
+
+#[no_mangle]
+pub extern "C" fn sfr_compile(
+    rel: PermutationRelation,
+    label: &[u8],
+    slots: &[u32],
+    queries: &[u32],
+    equations: &[u32],
+    publics: &mut [u32],
+    scratch: &mut [u32],
+) -> SfrInstanceAnswer
+    ensures { λ r. ⌜ (r ≡ compiledAnswer (compile rel (now (label .entry)) (now (slots .entry)) (now (queries .entry)) (now (equations .entry)) (now (publics .entry)) (now (scratch .entry))))
+        × (now (publics .exit) ≡ compilePublics rel (now (label .entry)) (now (slots .entry)) (now (queries .entry)) (now (equations .entry)) (now (publics .entry)) (now (scratch .entry)))
+        × (now (scratch .exit) ≡ replicate (length (now (scratch .entry))) 0) ⌝ }
+{
+    let made = instance::compile(rel, label, slots, queries, equations, publics, scratch);
+    let o = made.outcome;
+    let instance = made.instance;
+    SfrInstanceAnswer {
+        number: outcome_no(o),
+        instance,
+    }
+}
+
+#[no_mangle]
+pub extern "C" fn sfr_public_value(ins: PermutationInstance, publics: &[u32], var: u32) -> SfrValue
+    ensures { λ r. ⌜ r ≡ valueAnswer (publicValue ins (now (publics .entry)) var) ⌝ }
+{
+    value_answer(instance::value(ins, publics, FieldVar(var)))
+}

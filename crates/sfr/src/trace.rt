@@ -1,0 +1,117 @@
+// The permutation by its parameters and traces of it, for C. A trace's record is handed in and back by value.
+
+ghost use mathlib.Core.Path.{_≡_};
+ghost use lib.ListN.{length};
+ghost use Rattle.permute.specs.Parameters.{permuteNo, permuted};
+ghost use Rattle.witness.specs.Trace.{addPermutation, addPermutationTrace, allocatePermutation, allocatePermutationTrace};
+ghost use Rattle.encoding.specs.Answers.{writtenOf, writtenOut, witnessToBytesNo, witnessToBytes, witnessFromBytes, witnessAnswer, traceAfter};
+ghost use Rattle.sfr.specs.Trace.{tracedAnswer, writtenAnswer, traceRead};
+use crate::relation::outcome_no;
+use encoding::Written;
+use permutation::Outcome;
+use witness::PermutationWitness;
+use witness::Traced;
+
+// A call's number with the trace's record beside it.
+#[repr(C)]
+pub struct SfrTraceAnswer {
+    pub number: u32,
+    pub trace: PermutationWitness,
+}
+
+// How many bytes were written, 0 after a refusal.
+#[repr(C)]
+pub struct SfrWritten {
+    pub number: u32,
+    pub len: usize,
+}
+
+#[no_mangle]
+pub extern "C" fn sfr_permute(width: u32, rounds: u32, params: &[u32], state: &mut [u32]) -> u32
+    ensures { λ r. ⌜ (r ≡ permuteNo width rounds (now (params .entry)) (now (state .entry))) × (now (state .exit) ≡ permuted width rounds (now (params .entry)) (now (state .entry))) ⌝ }
+{
+    permute::permute(width, rounds, params, state)
+}
+
+fn traced_answer(t: Traced) -> SfrTraceAnswer
+    ensures { λ r. ⌜ r ≡ tracedAnswer t ⌝ }
+{
+    let o = t.outcome;
+    let trace = t.witness;
+    SfrTraceAnswer {
+        number: outcome_no(o),
+        trace,
+    }
+}
+
+#[no_mangle]
+pub extern "C" fn sfr_append_step(
+    rec: PermutationWitness,
+    trace: &mut [u32],
+    input: &[u32],
+    output: &[u32],
+) -> SfrTraceAnswer
+    ensures { λ r. ⌜ (r ≡ tracedAnswer (addPermutation rec (now (trace .entry)) (now (input .entry)) (now (output .entry)))) × (now (trace .exit) ≡ addPermutationTrace rec (now (trace .entry)) (now (input .entry)) (now (output .entry))) ⌝ }
+{
+    traced_answer(witness::add_permutation(rec, trace, input, output))
+}
+
+#[no_mangle]
+pub extern "C" fn sfr_evaluate_step(
+    rec: PermutationWitness,
+    trace: &mut [u32],
+    input: &[u32],
+    rounds: u32,
+    params: &[u32],
+) -> SfrTraceAnswer
+    ensures { λ r. ⌜ (r ≡ tracedAnswer (allocatePermutation rec (now (trace .entry)) (now (input .entry)) rounds (now (params .entry)))) × (now (trace .exit) ≡ allocatePermutationTrace rec (now (trace .entry)) (now (input .entry)) rounds (now (params .entry))) ⌝ }
+{
+    traced_answer(witness::allocate_permutation(rec, trace, input, rounds, params))
+}
+
+// What writing answers, for C.
+pub(crate) fn written_answer(w: Written) -> SfrWritten
+    ensures { λ r. ⌜ r ≡ writtenAnswer w ⌝ }
+{
+    let o = w.outcome;
+    SfrWritten {
+        number: outcome_no(o),
+        len: w.len,
+    }
+}
+
+#[no_mangle]
+pub extern "C" fn sfr_witness_to_bytes(
+    rec: PermutationWitness,
+    trace: &[u32],
+    out: &mut [u8],
+) -> SfrWritten
+    ensures { λ r. ⌜ (r ≡ writtenAnswer (writtenOf (witnessToBytesNo (rec .width) (rec .steps) (now (trace .entry)) (length (now (out .entry)))) (witnessToBytes (rec .width) (rec .steps) (now (trace .entry))))) × (now (out .exit) ≡ writtenOut (witnessToBytesNo (rec .width) (rec .steps) (now (trace .entry)) (length (now (out .entry)))) (witnessToBytes (rec .width) (rec .steps) (now (trace .entry))) (now (out .entry))) ⌝ }
+{
+    written_answer(encoding::witness_to_bytes(rec.width, rec.steps, trace, out))
+}
+
+#[no_mangle]
+pub extern "C" fn sfr_witness_from_bytes(
+    width: u32,
+    bytes: &[u8],
+    trace: &mut [u32],
+) -> SfrTraceAnswer
+    ensures { λ r. ⌜ (r ≡ traceRead width (witnessAnswer (witnessFromBytes width (now (bytes .entry)) (length (now (trace .entry)))))) × (now (trace .exit) ≡ traceAfter (length (now (trace .entry))) (witnessFromBytes width (now (bytes .entry)) (length (now (trace .entry))))) ⌝ }
+{
+    let read = encoding::witness_from_bytes(width, bytes, trace);
+    let o = read.outcome;
+    match o {
+        Outcome::Accepted => SfrTraceAnswer {
+            number: 0,
+            trace: PermutationWitness {
+                width,
+                steps: read.steps,
+            },
+        },
+        Outcome::Refused(k) => SfrTraceAnswer {
+            number: k,
+            trace: PermutationWitness { width: 0, steps: 0 },
+        },
+    }
+}
