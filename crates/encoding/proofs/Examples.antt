@@ -10,7 +10,7 @@ use Rattle.utf8.specs.Utf8.{rows, follow, isUtf8}
 use Rattle.narg.specs.Bytes.{u32Bytes}
 use Rattle.narg.specs.Reader.{Got, got, stop, word, part, below}
 use Rattle.allocator.specs.Slots.{Pair, pair}
-use Rattle.expr.specs.Equation.{Term, equation}
+use Rattle.expr.specs.Equation.{equation}
 use Rattle.instance.specs.Parts.{Parts}
 use Rattle.instance.specs.Validated.{gateNo}
 use Rattle.encoding.specs.Form.{version, headerBytes, instanceBytes}
@@ -41,17 +41,10 @@ abbrev outcome : Got File → ℕ
 outcome (got f rest) = 0
 outcome (stop k) = k
 
-pub bytes-of-A : length (bytesOf [] instanceA) ≡ 73
-unfolding instanceBytes headerBytes u32Bytes
-bytes-of-A = refl
-
-pub reads-A : reading (bytesOf [] instanceA) ≡ got (file [] instanceA) []
-unfolding instanceBytes headerBytes u32Bytes readInstance readFile readHeader readMagic readLabel readParts readPublics readQueries readEquations word part below isUtf8 follow rows gateNo allBelow ask _▸_
-reads-A = refl
-
--- 72 of them, one more byte, equal public wires and one more byte, the labels C0 80, ED A0 80 and F4 8F BF BF
-abbrev pub examples : List ℕ
-examples =
+-- what is read of: 72 of A's bytes; one more byte; equal public wires and one more byte; A with the labels C0 80,
+-- ED A0 80 and F4 8F BF BF
+abbrev pub outcomes : List ℕ
+outcomes =
     outcome (reading (take 72 (bytesOf [] instanceA)))
     ∷ outcome (reading (bytesOf [] instanceA ++ (0 ∷ [])))
     ∷ outcome (reading (bytesOf [] (withPublics (pair 2 5 ∷ pair 2 5 ∷ [])) ++ (0 ∷ [])))
@@ -60,6 +53,9 @@ examples =
     ∷ outcome (reading (bytesOf (0xF4 ∷ 0x8F ∷ 0xBF ∷ 0xBF ∷ []) instanceA))
     ∷ []
 
-pub read-examples : examples ≡ 20 ∷ 28 ∷ 27 ∷ 25 ∷ 25 ∷ 0 ∷ []
+-- A is 73 bytes and reads back; and the outcomes
+pub examples : (length (bytesOf [] instanceA) ≡ 73)
+    × (reading (bytesOf [] instanceA) ≡ got (file [] instanceA) [])
+    × (outcomes ≡ 20 ∷ 28 ∷ 27 ∷ 25 ∷ 25 ∷ 0 ∷ [])
 unfolding instanceBytes headerBytes u32Bytes readInstance readFile readHeader readMagic readLabel readParts readPublics readQueries readEquations word part below isUtf8 follow rows gateNo allBelow ask _▸_
-read-examples = refl
+examples = (refl, refl, refl)

@@ -205,8 +205,6 @@ module _ (width label : ℕ) (s p₀ p₁ q₀ q₁ e₀ e₁ : List ℕ) (at va
       queries = lq .stored;
       equations = le .stored;
       publicsFit = lp .fits;
-      queriesFit = lq .fits;
-      equationsFit = le .fits;
     };
     labelIs = refl;
   }

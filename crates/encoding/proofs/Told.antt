@@ -54,11 +54,6 @@ module _ {A : Type 0} (g : Got (List A)) (wordsOf : List A → List ℕ) (bytes 
   unfolding ToldList
   list-got n words next l = l
 
-  -- the answer of another reader, whose list it is
-  pub list-as : (r : Field) (n words : ℕ) (next : Cursor) → r ≡ Read n words next → Listed g wordsOf bytes before after n words next → ToldList g wordsOf bytes before after r
-  unfolding ToldList
-  list-as r n words next e l = rw e l
-
   pub listed-stop : (r : Field) (k : ℕ) → r ≡ Refused k → ToldList g wordsOf bytes before after r → g ≡ stop k
   unfolding ToldList
   listed-stop r k e t = subst (ToldList g wordsOf bytes before after) e t

@@ -33,8 +33,6 @@ pub record Holds (width : ℕ) (parts : Parts) (ins : PermutationInstance) (p₀
   pub queries : q ≡ putWords 0 (flat (parts .queries)) q₀
   pub equations : e ≡ putWords 0 (equationsWords (parts .equations)) e₀
   pub publicsFit : length (pairWords (parts .publics)) ≤ length p₀
-  pub queriesFit : length (flat (parts .queries)) ≤ length q₀
-  pub equationsFit : length (equationsWords (parts .equations)) ≤ length e₀
 
 -- ---- the parts, with the length of the label before them handed on
 pub record PartsGiven (width label : ℕ) (g : Got Parts) (bytes p₀ p q₀ q e₀ e : List ℕ) (ins : PermutationInstance) (n : ℕ) (next : Cursor) : Type 0 where

@@ -52,8 +52,8 @@ pub struct WitnessRead {
     pub steps: u32,
 }
 
-// What a reader of a part answers: a number that the part says (a count, a length), how many words it takes in
-// its store, and the cursor past it; or the number of the question that said no.
+// What a reader of a field or a part answers: two numbers (a count and how many words the part takes in its store; a
+// wire and a unit; a length or a word, and 0), and the cursor past it; or the number of the question that said no.
 enum Field {
     Read(u32, u32, Cursor),
     Refused(u32),

@@ -28,7 +28,7 @@ use Rattle.narg.specs.Reader.{word, part, below}
 use Rattle.encoding.specs.Form.{headerBytes, instanceBytes, witnessBytes}
 use Rattle.encoding.specs.Read.{readMagic, readHeader, readLabel, readPublics, readQueries, readEquations, readParts, readInstance, readFile, readSteps, readWitness}
 use Rattle.encoding.specs.Answers.{instanceToBytesNo, witnessToBytesNo, instanceFromBytes, witnessFromBytes}
-use Rattle.encoding.proofs.Examples.{examples as reads, read-examples}
+use Rattle.encoding.proofs.Examples.{outcomes as reads, examples as on-bytes}
 use Rattle.permutation.proofs.Examples.{Examples, examples}
 use Rattle.history.specs.Sat.{Sat, Evaluates}
 use Rattle.history.specs.Calls.{Call, Allocate, Set, SetList, Record, Mint, Equate, Entry, answer, after, noted, ledger, log}
@@ -195,7 +195,7 @@ starred =
       calls-are = examples;
       weightless = (gate-34, no-34, no-15);
       without-terms = (yes-termless, no-35);
-      labels = read-examples;
+      labels = on-bytes .2;
       turned = (refl, refl);
       A-is = (yes-A, no-31, no-32, no-33);
     }

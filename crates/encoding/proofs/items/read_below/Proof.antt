@@ -5,6 +5,7 @@ use Rattle.narg.proofs.Fields.{below-short, below-not, below-yes}
 use Rattle.narg.proofs.At.{wordAt-stop}
 use Rattle.encoding.proofs.Magic.{word-next}
 use Rattle.encoding.proofs.Told.{tell-stop, tell-got}
+use native.Mathlib.Omega.{arith}
 use borrow.Author.Needs.{needs}
 use Rattle.encoding.proofs.items.read_below.Statement.{statement}
 use Rattle.encoding.proofs.items.read_below.Tie as tie
@@ -24,12 +25,12 @@ returns c = tell-stop _ _ _ _ (below-short _ _ _ (wordAt-stop _ _ (sym (c .befor
 returns-2 : tie.Need-returns-2
 returns-2 c =
     let v = c .before .before in
-    tell-stop _ _ _ _ (below-not _ _ _ _ _ (word-next _ _ _ _ (sym (v .before .before .read-u32 .ensures) ∙ v .v .given .1)) (c .if1 .taken))
+    tell-stop _ _ _ _ (below-not _ _ _ _ _ (word-next _ _ _ _ (sym (v .before .before .read-u32 .ensures) ∙ v .v .given .1)) (omega (arith, c .if1 .taken)))
 
 returns-3 : tie.Need-returns-3
 returns-3 c =
     let v = c .before .before in
-    tell-got _ _ _ _ _ _ _ (below-yes _ _ _ _ _ (word-next _ _ _ _ (sym (v .before .before .read-u32 .ensures) ∙ v .v .given .1)) (c .if1 .left)) refl
+    tell-got _ _ _ _ _ _ _ (below-yes _ _ _ _ _ (word-next _ _ _ _ (sym (v .before .before .read-u32 .ensures) ∙ v .v .given .1)) (omega (arith, c .if1 .left))) refl
 
 pub read-below-spec : {M : Type 1} → statement M
 read-below-spec =

@@ -38,7 +38,7 @@ shared-slice-read-if1-2 : tie.Need-shared-slice-read-if1-2 Inv-loop μ-loop
 shared-slice-read-if1-2 c = search needs
 
 returns : tie.Need-returns Inv-loop μ-loop
-returns c = order-no (now (c .before .before .before .before .before .args .publics)) (c .before .before .before .before .loop .at) (c .before .before .before .before .loop .left) _ (c .before .before .before .before .loop .inv .2) (c .before .before .before .loop-test .taken) (c .if1 .taken)
+returns c = order-no (now (c .before .before .before .before .before .args .publics)) (c .before .before .before .before .loop .at) (c .before .before .before .before .loop .left) _ (c .before .before .before .before .loop .inv .2) (c .before .before .before .loop-test .taken) (omega (arith, c .if1 .taken))
 
 add-at : tie.Need-add-at Inv-loop μ-loop
 add-at c = omega (arith, c .before .before .before .before .loop .inv .0)
@@ -50,7 +50,7 @@ loop-less : tie.Need-loop-less Inv-loop μ-loop
 loop-less c = search needs
 
 loop-again : tie.Need-loop-again Inv-loop μ-loop
-loop-again c = (omega (arith, c .before .before .before .before .loop .inv .0), omega (arith, c .before .before .before .before .loop .inv .1), order-more (now (c .before .before .before .before .before .args .publics)) (c .before .before .before .before .loop .at) (c .before .before .before .before .loop .left) _ (c .before .before .before .before .loop .inv .2) (c .before .before .before .loop-test .taken) (c .if1 .left))
+loop-again c = (omega (arith, c .before .before .before .before .loop .inv .0), omega (arith, c .before .before .before .before .loop .inv .1), order-more (now (c .before .before .before .before .before .args .publics)) (c .before .before .before .before .loop .at) (c .before .before .before .before .loop .left) _ (c .before .before .before .before .loop .inv .2) (c .before .before .before .loop-test .taken) (omega (arith, c .if1 .left)))
 
 returns-2 : tie.Need-returns-2 Inv-loop μ-loop
 returns-2 c = order-done (now (c .before .before .args .publics)) (c .before .loop .at) (c .before .loop .left) _ (c .before .loop .inv .2) (c .loop-test .left)
