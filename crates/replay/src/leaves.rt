@@ -6,6 +6,7 @@
 use crate::sample::Found;
 use crate::sample::Seen;
 use crate::sample::bytes_at;
+use crate::sample::low;
 use crate::sample::past_bytes;
 use crate::sample::same;
 use crate::sample::same_words;
@@ -66,11 +67,6 @@ pub fn read_word(sample: &[u8], c: Cursor) -> Seen {
         return same(sample, same(sample, begun, 20), 0);
     };
     same(sample, same(sample, begun, 0), value)
-}
-
-// The low 32 bits of a place.
-fn low(at: usize) -> u32 {
-    (at % 4294967296) as u32
 }
 
 // What an item case asks: units (0) or wires, from which place of its bytes, into which place of its store, how many.

@@ -3,21 +3,26 @@
 //
 // The sample comes on standard input (the file stdin beside src/). It was written by `cargo run --release -p driver
 // -- sample --seed 1` in oracle/, whose README.md says how it is laid out. Its answers come from Rust's own arithmetic,
-// UTF-8 and little-endian words and, for the calls on a relation, from the second reading of document 01 that stands
-// there; never from the proved library.
+// UTF-8 and little-endian words and, for the calls on relations, traces and instances, from the second reading of
+// document 01 that stands there; never from the proved library.
 //
 // Of the leaves it has the edges of p and of u32 added and multiplied pairwise; no byte, and one and two bytes, at the
 // ends of UTF-8's rows, with document 01's and RFC 3629's texts; a word read at and past every place of up to seven
 // bytes; and 2,500 random cases, units and wires read into a store among them. Of fresh, allocate, set, set list,
 // record, mint, equation, value and is it allocated it has document 01's examples, every count and argument at its
 // limits, and 1,200 random cases at widths 1 to 24, absurd records among them, with every number that a short store
-// can bring about. A line is printed for each operation, and last how many answers were replayed and how many are
-// different. A fault of the sample, as a case that is cut off, is printed and counts as a difference.
+// can bring about. Of evaluate and append a step and read SFRW it has 120 random cases each, and of gate, read SFRI and
+// check 200 each, most at widths 1 to 3, sound and led astray; the two writes are left out.
+//
+// A line is printed for each operation, and last how many answers were replayed and how many are different. A fault of
+// the sample, as a case that is cut off, is printed and counts as a difference.
 
+mod instances;
 mod leaves;
 mod relation;
 mod sample;
 mod tally;
+mod traces;
 
 use libc::STDIN_FILENO;
 use narg::Cursor;
@@ -48,6 +53,8 @@ fn replay_case(
         4 => leaves::read_word(sample, c),
         5 => leaves::read_item(sample, c, store),
         11..=19 => relation::call(op, sample, c, store, second, third),
+        21 | 22 | 24 => traces::call(op, sample, c, store, second, third),
+        31 | 33 | 41 => instances::call(op, sample, c, store, second, third),
         _ => sample::so_far(c, Found::Unknown),
     }
 }

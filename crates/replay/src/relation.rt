@@ -53,7 +53,7 @@ fn same_relation(sample: &[u8], seen: Seen, relation: PermutationRelation) -> Se
 }
 
 // The number of an outcome.
-fn same_outcome(sample: &[u8], seen: Seen, outcome: Outcome) -> Seen {
+pub fn same_outcome(sample: &[u8], seen: Seen, outcome: Outcome) -> Seen {
     match outcome {
         Outcome::Accepted => same(sample, seen, 0),
         Outcome::Refused(k) => same(sample, seen, k),

@@ -100,6 +100,11 @@ pub fn past_bytes(sample: &[u8], c: Cursor, len: u32) -> Cursor {
     Cursor { at: at + filled }
 }
 
+// The low 32 bits of a length or a place.
+pub fn low(n: usize) -> u32 {
+    (n % 4294967296) as u32
+}
+
 // The first difference is kept.
 fn first(found: Found, word: u64, here: u32, expected: u32) -> Found {
     let Found::Same = found else {

@@ -3,8 +3,8 @@
 use crate::sample::Found;
 use libc::STDOUT_FILENO;
 
-// An operation's number is below this; 0 and 6 to 10 are none.
-const KINDS: usize = 20;
+// An operation's number is below this.
+const KINDS: usize = 42;
 
 // How many differences are told.
 const TOLD: u64 = 10;
@@ -71,6 +71,12 @@ fn print_kind(op: u64) -> bool {
         17 => io::write_all(STDOUT_FILENO, b"equations"),
         18 => io::write_all(STDOUT_FILENO, b"values"),
         19 => io::write_all(STDOUT_FILENO, b"tests for allocation"),
+        21 => io::write_all(STDOUT_FILENO, b"evaluated steps"),
+        22 => io::write_all(STDOUT_FILENO, b"appended steps"),
+        24 => io::write_all(STDOUT_FILENO, b"reads of SFRW"),
+        31 => io::write_all(STDOUT_FILENO, b"gates"),
+        33 => io::write_all(STDOUT_FILENO, b"reads of SFRI"),
+        41 => io::write_all(STDOUT_FILENO, b"checks"),
         _ => io::write_all(STDOUT_FILENO, b"unknown"),
     }
 }
@@ -128,12 +134,15 @@ fn print_column(n: u64) {
     io::write_all(STDOUT_FILENO, &digits[..k]);
 }
 
-// Has an operation this number, which is at least 1 and below KINDS?
+// Has an operation this number?
 fn named(op: u64) -> bool {
-    if op < 6 {
-        return true;
+    match op {
+        1..=5 => true,
+        11..=19 => true,
+        21 | 22 | 24 => true,
+        31 | 33 | 41 => true,
+        _ => false,
     }
-    10 < op
 }
 
 // The line of an operation, and none where the number has no operation.

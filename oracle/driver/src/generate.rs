@@ -5,10 +5,9 @@ use std::collections::BTreeSet;
 use reading::{MAX_COUNT, P};
 use source::{Parts, Sheet};
 
-#[cfg(feature = "check")]
-use crate::held::Held;
 use crate::{
     calls::{Answer, Call, State},
+    held::Held,
     rng::Rng,
 };
 
@@ -38,6 +37,10 @@ pub struct Generator {
 impl Generator {
     pub fn new(mut rng: Rng) -> Self {
         let width = rng.width();
+        Self::of_width(rng, width)
+    }
+
+    pub fn of_width(mut rng: Rng, width: u32) -> Self {
         let mood = *rng.pick(&[
             Mood::Honest,
             Mood::Honest,
@@ -74,6 +77,18 @@ impl Generator {
             _ => rng.between(20, 90),
         };
         State::sized(slots, queries, equations)
+    }
+
+    /// The relation that a list of calls makes over these stores, by the second reading.
+    pub fn relation(&mut self, stores: State, most_calls: usize) -> State {
+        let mut state = stores;
+        state.new_relation(self.width);
+        for _ in 0..self.rng.below(most_calls) {
+            let call = self.call(&state);
+            let answer = state.run(&call);
+            self.note(&call, &answer);
+        }
+        state
     }
 
     /// A call that fits the mood, for a relation in this state.
@@ -146,7 +161,6 @@ impl Generator {
     }
 
     /// A step for each query, its inputs by the table: a witness, in an honest list.
-    #[cfg(feature = "check")]
     pub fn trace(&self, held: &Held) -> Vec<u32> {
         let width = self.width as usize;
         let (_, queries, _) = held.words();

@@ -1,6 +1,7 @@
 //! Compares source, second reading and proved library; see README.md.
 
 mod against_source;
+mod astray;
 mod calls;
 mod compared;
 #[cfg(test)]

@@ -2,10 +2,12 @@
 //!
 //! The file is a stream of u32 words, little-endian. A case is its operation, what is
 //! handed in, and what is expected. That comes from the standard library (`leaf.rs`) or,
-//! for the calls on a relation (`sample/relation.rs`), from the second reading, and never
-//! from the proved library. README.md says how each operation's cases are laid out.
+//! for the calls on a relation, a trace and an instance (`sample/`), from the second
+//! reading, and never from the proved library. README.md says how each operation's cases are laid out.
 
+mod instance;
 mod relation;
+mod trace;
 
 use std::{
     collections::BTreeMap,
@@ -19,10 +21,12 @@ use crate::{
     rng::{Rng, EDGES},
 };
 
-/// Random cases of leaves, and of calls on a relation, where no count is given: with the
-/// fixed ones they stay below 500 KB.
+/// Random cases of leaves, of calls on a relation, and of each call on a trace and on an
+/// instance, where no count is given: with the fixed ones they stay below 1 MiB.
 const LEAVES: u64 = 2_500;
 const RELATIONS: u64 = 1_200;
+const TRACES: u64 = 120;
+const INSTANCES: u64 = 200;
 
 pub fn run(options: &Options) -> bool {
     let mut rng = Rng::new(options.seed);
@@ -34,6 +38,12 @@ pub fn run(options: &Options) -> bool {
     sample.fixed_relations();
     for _ in 0..options.count.unwrap_or(RELATIONS) {
         sample.random_relation(&mut rng);
+    }
+    for _ in 0..options.count.unwrap_or(TRACES) {
+        sample.random_trace(&mut rng);
+    }
+    for _ in 0..options.count.unwrap_or(INSTANCES) {
+        sample.random_instance(&mut rng);
     }
     sample.words.push(0);
     let bytes: Vec<u8> = sample

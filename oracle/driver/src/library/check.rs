@@ -2,11 +2,9 @@
 
 use source::Sheet;
 
-use super::{
-    astray,
-    instance::{self, to_library},
-};
+use super::instance::to_library;
 use crate::{
+    astray,
     calls::DIRT,
     compared::{same, Compared, Log, Seen},
     generate::{self, Generator},
@@ -24,7 +22,8 @@ pub fn run(options: &Options) -> bool {
 fn list(seed: u64, seen: &mut Seen, log: &Log) -> Compared {
     let mut generator = Generator::new(Rng::new(seed));
     let width = generator.width;
-    let state = instance::relation(&mut generator);
+    let stores = generator.state();
+    let state = generator.relation(stores, 30);
     let (number, gated) = held::gate(&state, "", Room::AMPLE);
     if number == 0 {
         let trace = generator.trace(&gated);

@@ -2,8 +2,9 @@
 
 use reading::Instance;
 
-use super::{astray, side::to_library as to_relation};
+use super::side::to_library as to_relation;
 use crate::{
+    astray,
     calls::{State, DIRT},
     compared::{same, Compared, Log, Outcome, Seen},
     generate::{self, Generator},
@@ -40,21 +41,10 @@ fn from_library(ins: sfr::Instance) -> Instance {
     }
 }
 
-/// The relation that a list of calls makes, by the second reading.
-pub fn relation(generator: &mut Generator) -> State {
-    let mut state = generator.state();
-    state.new_relation(generator.width);
-    for _ in 0..generator.rng.below(30) {
-        let call = generator.call(&state);
-        let answer = state.run(&call);
-        generator.note(&call, &answer);
-    }
-    state
-}
-
 fn list(seed: u64, seen: &mut Seen, log: &Log) -> Compared {
     let mut generator = Generator::new(Rng::new(seed));
-    let state = relation(&mut generator);
+    let stores = generator.state();
+    let state = generator.relation(stores, 30);
     let rng = &mut generator.rng;
     let label = generate::label(rng).into_bytes();
     for _ in 0..8 {

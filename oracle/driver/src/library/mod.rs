@@ -5,8 +5,6 @@
 //! lent is compared afterwards. Sound inputs come from lists of calls; `astray` makes
 //! others of them, with records, stores and held words that no list of calls makes.
 
-#[cfg(any(feature = "relation", feature = "witness"))]
-mod astray;
 #[cfg(feature = "check")]
 pub mod check;
 #[cfg(feature = "instance")]

@@ -7,9 +7,10 @@
 
 use source::Relation;
 
-use super::{astray, large, side};
+use super::{large, side};
 use crate::{
     against_source::calls,
+    astray,
     calls::{Answer, Call, State},
     compared::{same, Compared, Log, Outcome, Seen},
     generate::Generator,

@@ -3,8 +3,8 @@
 use reading::Trace;
 use source::Sheet;
 
-use super::astray;
 use crate::{
+    astray,
     calls::DIRT,
     compared::{same, Compared, Log, Outcome, Seen},
     generate, held, lists,

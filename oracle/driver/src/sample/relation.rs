@@ -20,14 +20,14 @@ const NO_VARS: [u32; 4] = [MAX_COUNT, MAX_COUNT + 1, DIRT, u32::MAX];
 const NO_UNITS: [u32; 4] = [P, P + 1, DIRT, UNASSIGNED];
 
 impl Sample {
-    fn relation(&mut self, rel: Relation) {
+    pub fn relation(&mut self, rel: Relation) {
         self.words
             .extend([rel.width, rel.vars_count, rel.queries, rel.equations]);
         self.words.push(rel.words);
     }
 
     /// The length and the words.
-    fn list(&mut self, words: &[u32]) {
+    pub fn list(&mut self, words: &[u32]) {
         self.words.push(words.len() as u32);
         self.words.extend(words);
     }

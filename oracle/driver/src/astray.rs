@@ -1,17 +1,14 @@
 //! Inputs led astray: records, stores, sheets and labels that lie beside the sound ones.
 
-#[cfg(feature = "relation")]
 use reading::MAX_COUNT;
-#[cfg(feature = "witness")]
 use source::Sheet;
 
-#[cfg(feature = "relation")]
-use crate::calls::{State, DIRT};
-#[cfg(feature = "witness")]
-use crate::generate;
-#[cfg(feature = "instance")]
-use crate::held::Held;
-use crate::rng::Rng;
+use crate::{
+    calls::{State, DIRT},
+    generate,
+    held::Held,
+    rng::Rng,
+};
 
 /// A word at a bound or beside it, or any.
 pub fn near(rng: &mut Rng, word: u32) -> u32 {
@@ -24,7 +21,6 @@ pub fn near(rng: &mut Rng, word: u32) -> u32 {
 }
 
 /// A length at a bound or beside it, or shorter.
-#[cfg(feature = "witness")]
 pub fn near_len(rng: &mut Rng, len: usize) -> usize {
     match rng.below(4) {
         0 => len,
@@ -52,7 +48,6 @@ pub fn width(rng: &mut Rng) -> u32 {
 }
 
 /// A record or stores that calls alone don't make.
-#[cfg(feature = "relation")]
 pub fn state(rng: &mut Rng, state: &mut State) {
     let (slots, queries) = (state.slots.len() as u32, state.queries.len() as u32);
     let equations = state.equations.len() as u32;
@@ -88,7 +83,6 @@ pub fn state(rng: &mut Rng, state: &mut State) {
 }
 
 /// A sheet, sound or nearly so.
-#[cfg(feature = "witness")]
 pub fn sheet(rng: &mut Rng, width: u32) -> Sheet {
     let mut sheet = generate::sheet(rng, width);
     match rng.below(12) {
@@ -113,7 +107,6 @@ pub fn sheet(rng: &mut Rng, width: u32) -> Sheet {
 }
 
 /// A label whose bytes may be no text.
-#[cfg(feature = "instance")]
 pub fn label(rng: &mut Rng, label: &[u8]) -> Vec<u8> {
     let mut label = label.to_vec();
     if !label.is_empty() && rng.once_in(3) {
@@ -126,7 +119,6 @@ pub fn label(rng: &mut Rng, label: &[u8]) -> Vec<u8> {
 }
 
 /// A record or held words that no gate makes.
-#[cfg(feature = "instance")]
 pub fn held(rng: &mut Rng, held: &mut Held) {
     let (publics, queries) = (held.publics.len() as u32, held.queries.len() as u32);
     let equations = held.equations.len() as u32;

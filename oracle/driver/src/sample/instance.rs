@@ -1,0 +1,199 @@
+//! Operations 31, 33 and 41 of a sample: the gate, an instance's bytes read, and the check,
+//! with all that is lent to the call and with what the second reading says of it.
+
+use reading::Instance;
+use source::Sheet;
+
+use super::{
+    trace::{damaged, short_sheet, small_width},
+    Sample,
+};
+use crate::{
+    astray,
+    calls::{State, DIRT},
+    generate::{self, Generator},
+    held::{self, Held, Room},
+    rng::Rng,
+};
+
+impl Sample {
+    fn instance_record(&mut self, ins: Instance) {
+        self.words
+            .extend([ins.width, ins.vars_count, ins.queries, ins.equations]);
+        self.words.extend([ins.words, ins.publics]);
+    }
+
+    fn gate(&mut self, state: &State, label: &[u8], publics: usize, scratch: usize) {
+        self.case(31);
+        self.relation(state.rel);
+        self.bytes(label);
+        let (mut publics, mut scratch) = (vec![DIRT; publics], vec![DIRT; scratch]);
+        let (slots, queries, equations) = (&state.slots, &state.queries, &state.equations);
+        for store in [slots, queries, equations, &publics, &scratch] {
+            self.list(store);
+        }
+        let answer = reading::compile(
+            state.rel,
+            label,
+            slots,
+            queries,
+            equations,
+            &mut publics,
+            &mut scratch,
+        );
+        self.number(answer.number);
+        self.instance_record(answer.instance);
+        self.words.extend(publics);
+        self.words.extend(scratch);
+    }
+
+    /// The record, the label and the three stores of an instance.
+    fn held(&mut self, held: &Held) {
+        self.instance_record(held.ins);
+        self.bytes(&held.label);
+        for store in [&held.publics, &held.queries, &held.equations] {
+            self.list(store);
+        }
+    }
+
+    fn read_instance(&mut self, width: u32, bytes: &[u8], rooms: [usize; 4]) {
+        self.case(33);
+        self.words.push(width);
+        self.bytes(bytes);
+        let mut stores = rooms.map(|room| vec![DIRT; room]);
+        for store in &stores {
+            self.list(store);
+        }
+        let [publics, queries, equations, scratch] = &mut stores;
+        let answer =
+            reading::instance_from_bytes(width, bytes, publics, queries, equations, scratch);
+        self.number(answer.number);
+        self.instance_record(answer.instance);
+        self.words.push(answer.label.len() as u32);
+        for store in stores {
+            self.words.extend(store);
+        }
+    }
+
+    fn check(&mut self, held: &Held, steps: u32, trace: &[u32], sheet: &Sheet, scratch: usize) {
+        self.case(41);
+        self.held(held);
+        let mut scratch = vec![DIRT; scratch];
+        for store in [trace, &sheet.words, &scratch] {
+            self.list(store);
+        }
+        self.words.extend([steps, sheet.rounds]);
+        let number = reading::is_witness_valid(
+            held.ins,
+            &held.label,
+            &held.publics,
+            &held.queries,
+            &held.equations,
+            steps,
+            trace,
+            held::lent(sheet),
+            &mut scratch,
+        );
+        self.number(number);
+        self.words.extend(scratch);
+    }
+
+    /// A relation that calls make, or one led astray: the gate, and then what it makes or parts
+    /// that no gate has seen, read and checked.
+    pub fn random_instance(&mut self, rng: &mut Rng) {
+        let width = small_width(rng);
+        let mut generator = Generator::of_width(Rng::new(rng.next()), width);
+        generator.sheet = generate::sheet(rng, width);
+        while generator.sheet.words.len() > 100 {
+            generator.sheet = generate::sheet(rng, width);
+        }
+        let state = generator.relation(small_stores(rng, width as usize), 16);
+        let label = generate::label(rng);
+        self.random_gate(rng, &state, label.as_bytes());
+        let (number, mut gated) = held::gate(&state, &label, Room::AMPLE);
+        if number == 0 && rng.once_in(2) {
+            gated.publics.truncate(2 * gated.ins.publics as usize);
+            let trace = generator.trace(&gated);
+            self.random_read_instance(rng, &gated);
+            return self.random_check(rng, &gated, trace, &generator.sheet);
+        }
+        let parts = generate::ungated(rng, width);
+        let (trace, sheet) = generate::ungated_trace(rng, width, &parts, &generator.sheet);
+        let held = Held::from_parts(width, &parts);
+        self.random_read_instance(rng, &held);
+        self.random_check(rng, &held, trace, &sheet);
+    }
+
+    fn random_gate(&mut self, rng: &mut Rng, state: &State, label: &[u8]) {
+        let (mut state, mut label) = (state.clone(), label.to_vec());
+        if rng.once_in(2) {
+            astray::state(rng, &mut state);
+            label = astray::label(rng, &label);
+        }
+        let vars = (state.rel.vars_count as usize).min(state.slots.len());
+        let assigned = state.slots[..vars].iter().filter(|&&slot| slot != u32::MAX);
+        let (mut publics, mut scratch) = (2 * assigned.count(), vars);
+        if rng.once_in(4) {
+            publics = astray::near_len(rng, publics);
+            scratch = astray::near_len(rng, scratch);
+        }
+        self.gate(&state, &label, publics, scratch);
+    }
+
+    /// A read of the instance's bytes, whole or damaged.
+    fn random_read_instance(&mut self, rng: &mut Rng, held: &Held) {
+        let words = held.publics.len() + held.queries.len() + held.equations.len();
+        let (_, bytes) = held.write(33 + held.label.len() + 4 * words);
+        let later = (17 + held.label.len()..bytes.len()).step_by(4);
+        let fields: Vec<usize> = [5, 9, 13].into_iter().chain(later).collect();
+        let mut damaged = damaged(rng, &bytes, &fields);
+        if !held.label.is_empty() && damaged.len() > 17 && rng.once_in(6) {
+            // No text begins with it.
+            damaged[17] = 0xFF;
+        }
+        let bytes = if rng.once_in(3) { &bytes } else { &damaged };
+        let width = match rng.below(12) {
+            0 => astray::width(rng),
+            _ => held.ins.width,
+        };
+        let (publics, queries, equations) = held.words();
+        let mut rooms = [publics.len(), queries.len(), equations.len(), 0];
+        rooms[3] = held.ins.vars_count.min(99) as usize;
+        if rng.once_in(4) {
+            let at = rng.below(4);
+            rooms[at] = astray::near_len(rng, rooms[at]);
+        }
+        self.read_instance(width, bytes, rooms);
+    }
+
+    fn random_check(&mut self, rng: &mut Rng, held: &Held, trace: Vec<u32>, sheet: &Sheet) {
+        let width = held.ins.width;
+        let (mut held, mut trace, mut sheet) = (held.clone(), trace, sheet.clone());
+        if rng.once_in(3) {
+            trace = generate::damaged_trace(rng, width, &trace, &sheet);
+        }
+        let mut steps = trace.len() as u32 / (2 * width);
+        match rng.below(12) {
+            0 => steps = astray::near(rng, steps),
+            1 => astray::word(rng, &mut trace),
+            2 => sheet = short_sheet(rng, width),
+            3 | 4 => astray::held(rng, &mut held),
+            5 if rng.once_in(3) => held.ins.width = *rng.pick(&[0, 25, u32::MAX]),
+            _ => {}
+        }
+        let vars = held.ins.vars_count.min(99) as usize;
+        let scratch = match rng.below(6) {
+            0 => astray::near_len(rng, vars),
+            _ => vars + rng.below(3),
+        };
+        self.check(&held, steps, &trace, &sheet, scratch);
+    }
+}
+
+/// Dirty stores that hold some calls, and now and then too few words for them.
+fn small_stores(rng: &mut Rng, width: usize) -> State {
+    let slots = rng.between(1, 12) + 2 * width;
+    let queries = rng.between(0, 3) * 2 * width;
+    let equations = rng.between(0, 36);
+    State::sized(slots, queries, equations)
+}

@@ -1,0 +1,143 @@
+//! Operations 21, 22 and 24 of a sample: a step, or a read of a trace's bytes, with all that
+//! is lent to the call and with what the second reading says of it.
+
+use reading::Trace;
+use source::Sheet;
+
+use super::Sample;
+use crate::{astray, calls::DIRT, generate, held, rng::Rng};
+
+/// The longest sheet of a case.
+const SHEET: usize = 300;
+
+/// Widths of which most are small, so that a file holds many cases.
+pub fn small_width(rng: &mut Rng) -> u32 {
+    match rng.below(20) {
+        0 => rng.between(4, 6) as u32,
+        _ => rng.between(1, 3) as u32,
+    }
+}
+
+/// A sheet, sound or nearly so, and not long.
+pub fn short_sheet(rng: &mut Rng, width: u32) -> Sheet {
+    loop {
+        let sheet = match rng.below(3) {
+            0 => astray::sheet(rng, width),
+            _ => generate::sheet(rng, width),
+        };
+        if sheet.words.len() <= SHEET {
+            return sheet;
+        }
+    }
+}
+
+/// A list of `width` units; now and then not quite so long, or with another word in it.
+fn units(rng: &mut Rng, width: u32) -> Vec<u32> {
+    let mut len = width as usize;
+    if rng.once_in(8) {
+        len = astray::near_len(rng, len);
+    }
+    let mut list: Vec<u32> = (0..len).map(|_| rng.unit()).collect();
+    if rng.once_in(8) {
+        astray::word(rng, &mut list);
+    }
+    list
+}
+
+/// Damaged bytes; now and then just another version.
+pub fn damaged(rng: &mut Rng, bytes: &[u8], fields: &[usize]) -> Vec<u8> {
+    if !rng.once_in(12) || bytes.len() < 5 {
+        return generate::damaged(rng, bytes, fields);
+    }
+    let mut damaged = bytes.to_vec();
+    damaged[4] = *rng.pick(&[0, 2, 255]);
+    damaged
+}
+
+impl Sample {
+    fn trace_record(&mut self, rec: Trace) {
+        self.words.extend([rec.width, rec.steps]);
+    }
+
+    fn evaluate_step(&mut self, rec: Trace, mut trace: Vec<u32>, input: &[u32], sheet: &Sheet) {
+        self.case(21);
+        self.trace_record(rec);
+        self.list(&trace);
+        self.list(input);
+        self.list(&sheet.words);
+        self.words.push(sheet.rounds);
+        let answer = reading::evaluate_step(rec, &mut trace, input, held::lent(sheet));
+        self.number(answer.number);
+        self.trace_record(answer.trace);
+        self.words.extend(trace);
+    }
+
+    fn append_step(&mut self, rec: Trace, mut trace: Vec<u32>, input: &[u32], output: &[u32]) {
+        self.case(22);
+        self.trace_record(rec);
+        self.list(&trace);
+        self.list(input);
+        self.list(output);
+        let answer = reading::append_step(rec, &mut trace, input, output);
+        self.number(answer.number);
+        self.trace_record(answer.trace);
+        self.words.extend(trace);
+    }
+
+    fn read_witness(&mut self, width: u32, bytes: &[u8], room: usize) {
+        self.case(24);
+        self.words.push(width);
+        self.bytes(bytes);
+        let mut trace = vec![DIRT; room];
+        self.list(&trace);
+        let answer = reading::witness_from_bytes(width, bytes, &mut trace);
+        self.number(answer.number);
+        self.words.push(answer.trace.steps);
+        self.words.extend(trace);
+    }
+
+    /// A trace of some steps; each of the calls on it, as it is or led astray.
+    pub fn random_trace(&mut self, rng: &mut Rng) {
+        let width = small_width(rng);
+        let step = 2 * width as usize;
+        let steps = rng.below(5);
+        let mut rec = Trace {
+            width,
+            steps: steps as u32,
+        };
+        let mut trace: Vec<u32> = (0..steps * step).map(|_| rng.unit()).collect();
+        let spare = *rng.pick(&[step, step, step + 1, 2 * step, 0, step - 1]);
+        trace.resize(steps * step + spare, DIRT);
+        let (_, bytes) = held::write_witness(rec, &trace, 17 + 4 * steps * step);
+        if rng.once_in(3) {
+            let most = trace.len() as u32 / (2 * width);
+            match rng.below(4) {
+                0 => rec.width = astray::width(rng),
+                1 => rec.steps = astray::near(rng, most),
+                2 => rec.steps = rng.below(most as usize + 1) as u32,
+                _ => astray::word(rng, &mut trace),
+            }
+        }
+        let sheet = short_sheet(rng, width);
+        self.evaluate_step(rec, trace.clone(), &units(rng, width), &sheet);
+        self.append_step(rec, trace.clone(), &units(rng, width), &units(rng, width));
+        self.random_read(rng, width, &bytes);
+    }
+
+    /// Bytes as they were written, or damaged, into a store that may be too short.
+    fn random_read(&mut self, rng: &mut Rng, width: u32, bytes: &[u8]) {
+        let fields: Vec<usize> = (5..bytes.len()).step_by(4).collect();
+        let damaged = damaged(rng, bytes, &fields);
+        let bytes = if rng.once_in(3) { bytes } else { &damaged };
+        let exact = bytes.len().saturating_sub(17) / 4;
+        let room = match rng.below(3) {
+            0 => astray::near_len(rng, exact),
+            _ => exact + rng.below(4),
+        };
+        let width = match rng.below(10) {
+            0 => astray::width(rng),
+            _ => width,
+        };
+        self.read_witness(width, bytes, room);
+    }
+}
