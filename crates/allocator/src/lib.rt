@@ -14,6 +14,7 @@ use limits::P;
 use limits::UNASSIGNED;
 
 // A wire of a relation: a plain index. Wire 0 is the one that every relation assigns the value zero.
+#[repr(C)]
 pub struct FieldVar(pub u32);
 
 // What setting one wire answers.

@@ -1,4 +1,3 @@
 pub mod Mod
-pub mod Product
 pub mod Ring
 pub mod Units

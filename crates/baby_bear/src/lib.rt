@@ -8,6 +8,7 @@ ghost use Rattle.baby_bear.specs.Field.{addUnit, mulUnit, seventh, areUn
 ghost use Prim.Native.Nat.{max};
 use limits::P;
 
+#[repr(C)]
 pub struct BabyBearUnit(pub u32);
 
 // The sum modulo p (the source's `Ring::add`).

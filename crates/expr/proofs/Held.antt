@@ -14,7 +14,7 @@ use Rattle.words.proofs.Held.{begins-put}
 use Rattle.expr.specs.Equation.{Term, Equation, termVars, termWeights, equationsHeld, termWords, equationWords, equationSize, equationsWords, termsAt, equationAt, sizeAt, equationsAt, equationsEnd}
 
 -- ---- one equation
-length-terms : (ts : List Term) → length (termWords ts) ≡ 2 * length ts
+pub length-terms : (ts : List Term) → length (termWords ts) ≡ 2 * length ts
 length-terms [] = refl
 length-terms (t ∷ ts) = let e = length-terms ts in omega arith
 

@@ -1,52 +1,93 @@
--- Terms lent as two lists: how many they are, the lists that they come from, and the term at a place.
--- Assumes nothing.
-use Prim.Native.Nat.{ℕ, zero, suc, _+_, _≤_, _<_}
-use mathlib.Core.Path.{_≡_, refl, ap}
+-- Terms lent as records, taken one by one: how many they are, what the questions answer when one more is
+-- asked, and what is left to store when one more is stored. Assumes nothing.
+use Prim.Native.Nat.{ℕ, suc, _+_, _*_, _≤_, _<_, _^_}
+use mathlib.Core.Path.{_≡_, refl, sym, ap, _∙_}
+use mathlib.Core.Bool.{Bool, true, false, _&&_}
 use mathlib.Core.List.{List, [], _∷_}
-use native.Mathlib.Nat.{not-suc-le-zero, le-of-suc-le-suc}
 use native.Mathlib.Numerals.{add-one}
 use native.Mathlib.Omega.{arith}
-use lib.ListN.{length, take, drop, getD}
-use Rattle.expr.specs.Equation.{termsOf, termVars, termWeights}
+use lib.Dec.{ltb}
+use lib.ListN.{length, getD, set, drop, drop-of-length-le, length-set}
+use lib.Seq.{sets, drop-cons}
+use Rattle.limits.specs.Numbers.{prime, maxCount}
+use Rattle.limits.specs.Questions.{pick, ask, _▸_, firstNo}
+use Rattle.limits.proofs.Questions.{▸-zero, ▸-assoc, zero-▸}
+use Rattle.words.specs.Store.{allBelow}
+use Rattle.expr.specs.Equation.{termVars, termWeights, termWords, termsAsks}
+use Rattle.expr.specs.Weighted.{termsOf, askedTerm}
+use Rattle.expr.specs.declared.Weighted.{Weighted}
 
--- as many as the shorter list has words
-pub count-vars : (vars weights : List ℕ) → length vars ≤ length weights → length vars ≡ length (termsOf vars weights)
-count-vars [] weights h = refl
-count-vars (x ∷ vars) [] h = absurd (not-suc-le-zero h)
-count-vars (x ∷ vars) (v ∷ weights) h = ap suc (count-vars vars weights (le-of-suc-le-suc h))
+-- a record for what lies past the end
+abbrev pub noTerm : Weighted
+noTerm = record { var = record { 0 = 0 }; weight = record { 0 = 0 } }
 
-pub count-weights : (vars weights : List ℕ) → length weights ≤ length vars → length weights ≡ length (termsOf vars weights)
-count-weights [] [] h = refl
-count-weights [] (v ∷ weights) h = absurd (not-suc-le-zero h)
-count-weights (x ∷ vars) [] h = refl
-count-weights (x ∷ vars) (v ∷ weights) h = ap suc (count-weights vars weights (le-of-suc-le-suc h))
+-- a record takes 8 bytes, and its offset fits
+pub offset-fits : (i n : ℕ) → i < n → n * 8 < 2 ^ 63 → i * 8 < 2 ^ 64
+offset-fits i n l g = omega arith
 
--- no more than either
-pub count-within : (vars weights : List ℕ)
-    → (length (termsOf vars weights) ≤ length vars) × (length (termsOf vars weights) ≤ length weights)
-count-within [] weights = (omega arith, omega arith)
-count-within (x ∷ vars) [] = (omega arith, omega arith)
-count-within (x ∷ vars) (v ∷ weights) = let r = count-within vars weights in (omega arith, omega arith)
+pub length-termsOf : (ts : List Weighted) → length (termsOf ts) ≡ length ts
+length-termsOf [] = refl
+length-termsOf (t ∷ ts) = ap suc (length-termsOf ts)
 
--- their wires and weights begin the lists
-pub vars-taken : (vars weights : List ℕ) → take (length (termsOf vars weights)) vars ≡ termVars (termsOf vars weights)
-vars-taken [] weights = refl
-vars-taken (x ∷ vars) [] = refl
-vars-taken (x ∷ vars) (v ∷ weights) = ap (λ (l : List ℕ). x ∷ l) (vars-taken vars weights)
+-- ---- the questions
+-- from a no before, through the terms
+abbrev pub asked : List Weighted → ℕ → ℕ
+asked [] k = k
+asked (t ∷ ts) k = asked ts (askedTerm k t)
 
-pub weights-taken : (vars weights : List ℕ) → take (length (termsOf vars weights)) weights ≡ termWeights (termsOf vars weights)
-weights-taken [] weights = refl
-weights-taken (x ∷ vars) [] = refl
-weights-taken (x ∷ vars) (v ∷ weights) = ap (λ (l : List ℕ). v ∷ l) (weights-taken vars weights)
+pub asked-one : (ts : List Weighted) (i k : ℕ) → i < length ts
+    → asked (drop (i + 1) ts) (askedTerm k (getD ts i noTerm)) ≡ asked (drop i ts) k
+asked-one ts i k l =
+    ap (λ (j : ℕ). asked (drop j ts) (askedTerm k (getD ts i noTerm))) (add-one i)
+    ∙ ap (λ (us : List Weighted). asked us k) (sym (drop-cons ts i noTerm l))
 
--- the term at place i
-terms-suc : (vars weights : List ℕ) (i : ℕ) → i < length (termsOf vars weights)
-    → drop i (termsOf vars weights) ≡ record { var = getD vars i 0; weight = getD weights i 0 } ∷ drop (suc i) (termsOf vars weights)
-terms-suc [] weights i h = absurd (not-suc-le-zero h)
-terms-suc (x ∷ vars) [] i h = absurd (not-suc-le-zero h)
-terms-suc (x ∷ vars) (v ∷ weights) zero h = refl
-terms-suc (x ∷ vars) (v ∷ weights) (suc i) h = terms-suc vars weights i (le-of-suc-le-suc h)
+pub asked-all : (ts : List Weighted) (i k : ℕ) → length ts ≤ i → asked (drop i ts) k ≡ k
+asked-all ts i k l = ap (λ (us : List Weighted). asked us k) (drop-of-length-le ts l)
 
-pub terms-at : (vars weights : List ℕ) (i : ℕ) → i < length (termsOf vars weights)
-    → drop i (termsOf vars weights) ≡ record { var = getD vars i 0; weight = getD weights i 0 } ∷ drop (i + 1) (termsOf vars weights)
-terms-at vars weights i h = rw add-one (terms-suc vars weights i h)
+-- one term more before the others
+first-asked : (k : ℕ) (a b c d : Bool)
+    → ask 3 c ▸ (pick a (k ▸ ask 4 b) 3 ▸ ask 4 d) ≡ ask 3 (a && c) ▸ (k ▸ ask 4 (b && d))
+unfolding ask _▸_
+first-asked k true true c d = simp ▸-assoc
+first-asked k true false c d = simp ▸-assoc
+first-asked k false b true d = refl
+first-asked k false b false d = refl
+
+asked-from : (ts : List Weighted) (k : ℕ)
+    → asked ts k ≡ ask 3 (allBelow maxCount (termVars (termsOf ts))) ▸ (k ▸ ask 4 (allBelow prime (termWeights (termsOf ts))))
+unfolding allBelow ask _▸_
+asked-from [] k = sym (▸-zero k)
+asked-from (t ∷ ts) k =
+    asked-from ts (askedTerm k t)
+    ∙ first-asked k (ltb (t .var .0) maxCount) (ltb (t .weight .0) prime) (allBelow maxCount (termVars (termsOf ts))) (allBelow prime (termWeights (termsOf ts)))
+
+-- from no no before, it is the number of the first question that says no
+pub asked-terms : (ts : List Weighted) → asked ts 0 ≡ firstNo (termsAsks (termsOf ts))
+asked-terms ts = asked-from ts 0 ∙ simp (zero-▸, ▸-zero)
+
+-- ---- the words
+-- term i of those whose words start at place `at`
+abbrev pub putTerm : List ℕ → ℕ → ℕ → Weighted → List ℕ
+putTerm out at i t = set (set out (at + (i + i)) (t .var .0)) (at + (i + i) + 1) (t .weight .0)
+
+pub length-putTerm : (out : List ℕ) (at i : ℕ) (t : Weighted) → length (putTerm out at i t) ≡ length out
+length-putTerm out at i t = length-set (set out (at + (i + i)) (t .var .0)) (at + (i + i) + 1) (t .weight .0) ∙ length-set out (at + (i + i)) (t .var .0)
+
+pub stored-one : (ts : List Weighted) (out : List ℕ) (at i : ℕ) → i < length ts
+    → sets (putTerm out at i (getD ts i noTerm)) (at + ((i + 1) + (i + 1))) (termWords (termsOf (drop (i + 1) ts)))
+    ≡ sets out (at + (i + i)) (termWords (termsOf (drop i ts)))
+stored-one ts out at i l =
+    let t = getD ts i noTerm in
+    let e : at + ((i + 1) + (i + 1)) ≡ suc (suc (at + (i + i))) = omega arith in
+    ap (λ (k : ℕ). sets (putTerm out at i t) k (termWords (termsOf (drop (i + 1) ts)))) e
+    ∙ ap (λ (k : ℕ). sets (putTerm out at i t) (suc (suc (at + (i + i)))) (termWords (termsOf (drop k ts)))) (add-one i)
+    ∙ ap (λ (k : ℕ). sets (set (set out (at + (i + i)) (t .var .0)) k (t .weight .0)) (suc (suc (at + (i + i)))) (termWords (termsOf (drop (suc i) ts)))) (add-one (at + (i + i)))
+    ∙ ap (λ (us : List Weighted). sets out (at + (i + i)) (termWords (termsOf us))) (sym (drop-cons ts i noTerm l))
+
+pub stored-all : (ts : List Weighted) (out : List ℕ) (at i : ℕ) → length ts ≤ i
+    → sets out (at + (i + i)) (termWords (termsOf (drop i ts))) ≡ out
+stored-all ts out at i l = ap (λ (us : List Weighted). sets out (at + (i + i)) (termWords (termsOf us))) (drop-of-length-le ts l)
+
+pub nothing-stored : (ts : List Weighted) (out : List ℕ) (at : ℕ)
+    → sets out (at + (0 + 0)) (termWords (termsOf (drop 0 ts))) ≡ sets out at (termWords (termsOf ts))
+nothing-stored ts out at = let e : at + (0 + 0) ≡ at = omega arith in ap (λ (k : ℕ). sets out k (termWords (termsOf ts))) e

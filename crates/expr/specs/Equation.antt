@@ -22,12 +22,6 @@ pub record Equation : Type 0 where
 abbrev pub equation : List Term → ℕ → Equation
 equation terms image = record { terms = terms; image = image }
 
--- terms lent as two lists: their common pairs
-abbrev pub termsOf : List ℕ → List ℕ → List Term
-termsOf [] weights = []
-termsOf (x ∷ vars) [] = []
-termsOf (x ∷ vars) (v ∷ weights) = record { var = x; weight = v } ∷ termsOf vars weights
-
 abbrev pub termVars : List Term → List ℕ
 termVars [] = []
 termVars (t ∷ ts) = t .var ∷ termVars ts

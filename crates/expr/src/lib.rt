@@ -1,36 +1,60 @@
 // Linear equations as words of a store (the source's expr.rs): a term count, then wire and weight per term,
 // then the image.
 //
-// Terms are lent as two lists, wires and weights, and are the common pairs of the two, in order; repeats and
-// zero weights are kept. Each function is total and says what it answers and what every word of the store is
-// afterwards.
+// Terms are lent as a list of records, `Weighted`, in order; repeats and zero weights are kept. Each function
+// is total and says what it answers and what every word and record lent is afterwards.
 
 ghost use mathlib.Core.Path.{_≡_};
-ghost use Prim.Native.Nat.{_+_};
-ghost use lib.Dec.{leb};
-ghost use lib.ListN.{length};
-ghost use Rattle.limits.specs.Questions.{_▸_, firstNo};
-ghost use Rattle.expr.specs.Equation.{termsOf, equation, equationSize, termsAsks, fitEquation};
+ghost use mathlib.Core.Bool.{_&&_};
+ghost use mathlib.Core.List.{map};
+ghost use Prim.Native.Nat.{_+_, _*_};
+ghost use lib.Dec.{leb, ltb};
+ghost use lib.ListN.{length, set};
+ghost use lib.Seq.{sets};
+ghost use Rattle.limits.specs.Numbers.{prime};
+ghost use Rattle.limits.specs.Questions.{pick, ask, _▸_, firstNo};
+ghost use Rattle.expr.specs.Equation.{equation, equationSize, termWords, termsAsks, fitEquation};
+ghost use Rattle.expr.specs.Weighted.{termsOf, askedTerm, scaledBy, scaled, scaledTerms};
+use allocator::FieldVar;
+use baby_bear::BabyBearUnit;
 use limits::MAX_COUNT;
 use limits::P;
 
-// How many terms two lists lend: the length of the shorter.
-pub fn terms_count(vars: &[u32], weights: &[u32]) -> usize
-    ensures { λ r. ⌜ r ≡ length (termsOf (now (vars .entry)) (now (weights .entry))) ⌝ }
-{
-    if vars.len() <= weights.len() {
-        return vars.len();
-    }
-    weights.len()
+// A wire scaled by a constant: weight · var.
+#[repr(C)]
+pub struct Weighted {
+    pub var: FieldVar,
+    pub weight: BabyBearUnit,
 }
 
-// Questions 3 and 4 of the terms: every wire, then every weight.
-pub fn asked_terms(no: u32, vars: &[u32], weights: &[u32]) -> u32
-    ensures { λ r. ⌜ r ≡ no ▸ firstNo (termsAsks (termsOf (now (vars .entry)) (now (weights .entry)))) ⌝ }
+// What scaling answers.
+pub enum Scaled {
+    Accepted,
+    Refused(u32),
+}
+
+// The no of the terms before, and one term more: 3 for a wire of 2^30 or more, else what was said before,
+// else 4 for a weight that is no unit.
+fn asked_term(no: u32, t: Weighted) -> u32
+    ensures { λ r. ⌜ r ≡ askedTerm no t ⌝ }
 {
-    let n = terms_count(vars, weights);
-    let a = words::asked_below(no, &vars[..n], MAX_COUNT, 3);
-    words::asked_below(a, &weights[..n], P, 4)
+    if MAX_COUNT <= t.var.0 {
+        return 3;
+    }
+    limits::asked(no, t.weight.0 < P, 4)
+}
+
+// Questions 3 and 4 of the terms: every wire, then every weight. The terms are looked at once.
+pub fn asked_terms(terms: &[Weighted]) -> u32
+    ensures { λ r. ⌜ r ≡ firstNo (termsAsks (termsOf (now (terms .entry)))) ⌝ }
+{
+    let mut no: u32 = 0;
+    let mut i: usize = 0;
+    while i < terms.len() {
+        no = asked_term(no, terms[i]);
+        i = i + 1;
+    }
+    no
 }
 
 // Does a store of len words hold an equation of n terms at place `at`?
@@ -46,26 +70,108 @@ pub fn equation_fits(at: usize, n: usize, len: usize) -> bool
     n <= (len - at - 2) / 2
 }
 
-// The equation's words at place `at` of the store. Nothing is written where they do not fit, or where the
-// count of terms is no word.
-pub fn put_equation(out: &mut [u32], at: usize, vars: &[u32], weights: &[u32], image: u32)
-    ensures { λ _. ⌜ now (out .exit) ≡ fitEquation at (equation (termsOf (now (vars .entry)) (now (weights .entry))) image) (now (out .entry)) ⌝ }
+// One term's wire and weight, as the i-th of the terms whose words start at place `at`; what does not fit is
+// left out.
+fn put_term(out: &mut [u32], at: usize, i: usize, t: Weighted)
+    ensures { λ _. ⌜ now (out .exit) ≡ set (set (now (out .entry)) (at + (i + i)) (t .var .0)) (at + (i + i) + 1) (t .weight .0) ⌝ }
 {
-    let n = terms_count(vars, weights);
+    let wire = t.var.0;
+    let weight = t.weight.0;
+    if at < out.len() {
+        let left = out.len() - at;
+        if i < left {
+            let behind = left - i;
+            if i < behind {
+                out[at + (i + i)] = wire;
+                if i + 1 < behind {
+                    out[at + (i + i) + 1] = weight;
+                }
+            }
+        }
+    }
+}
+
+// The terms' words from place `at` on; what does not fit is left out.
+fn put_terms(terms: &[Weighted], out: &mut [u32], at: usize)
+    ensures { λ _. ⌜ now (out .exit) ≡ sets (now (out .entry)) at (termWords (termsOf (now (terms .entry)))) ⌝ }
+{
+    let mut i: usize = 0;
+    while i < terms.len() {
+        put_term(out, at, i, terms[i]);
+        i = i + 1;
+    }
+}
+
+// The words of an equation of n terms at place `at` but for its terms: the count and the image. The answer is
+// whether the equation fits; where it does not, nothing is written.
+fn put_ends(out: &mut [u32], at: usize, n: usize, image: u32) -> bool
+    ensures { λ r. ⌜ (r ≡ (ltb n 4294967296 && leb (at + equationSize n) (length (now (out .entry))))) × (now (out .exit) ≡ pick r (set (set (now (out .entry)) at n) (at + 1 + 2 * n) image) (now (out .entry))) ⌝ }
+{
     if 4294967295 < n {
-        return;
+        return false;
     }
     if !equation_fits(at, n, out.len()) {
-        return;
+        return false;
     }
     out[at] = n as u32;
-    let mut to = at + 1;
-    let mut i = 0;
-    while i < n {
-        out[to] = vars[i];
-        out[to + 1] = weights[i];
-        to += 2;
-        i += 1;
+    out[at + 1 + 2 * n] = image;
+    true
+}
+
+// The equation's words at place `at` of the store. Nothing is written where they do not fit, or where the
+// count of terms is no word.
+pub fn put_equation(out: &mut [u32], at: usize, terms: &[Weighted], image: u32)
+    ensures { λ _. ⌜ now (out .exit) ≡ fitEquation at (equation (termsOf (now (terms .entry))) image) (now (out .entry)) ⌝ }
+{
+    if put_ends(out, at, terms.len(), image) {
+        put_terms(terms, out, at + 1);
+        return;
+    } else {
+        return;
     }
-    out[to] = image;
+}
+
+// A term with its weight times the factor.
+fn scaled_term(t: Weighted, factor: BabyBearUnit) -> Weighted
+    ensures { λ r. ⌜ r ≡ scaledBy (factor .0) t ⌝ }
+{
+    let var = t.var;
+    let weight = baby_bear::mul(t.weight, factor);
+    Weighted {
+        var: var,
+        weight: weight,
+    }
+}
+
+// Every weight times the factor, with no question asked.
+fn scale_terms(terms: &mut [Weighted], factor: BabyBearUnit)
+    ensures { λ _. ⌜ now (terms .exit) ≡ map (scaledBy (factor .0)) (now (terms .entry)) ⌝ }
+{
+    let mut i: usize = 0;
+    while i < terms.len() {
+        terms[i] = scaled_term(terms[i], factor);
+        i = i + 1;
+    }
+}
+
+// Question 4 of the factor, after the answer so far.
+fn asked_factor(no: u32, factor: BabyBearUnit) -> u32
+    ensures { λ r. ⌜ r ≡ no ▸ ask 4 (ltb (factor .0) prime) ⌝ }
+{
+    limits::asked(no, factor.0 < P, 4)
+}
+
+// Every weight times the factor (the source's product of a sum and a unit). Questions 3 over all wires, 4 over
+// all weights and the factor; a refusal leaves the list as it was.
+pub fn scale(terms: &mut [Weighted], factor: BabyBearUnit) -> Scaled
+    ensures { λ r. ⌜ (r ≡ scaled (now (terms .entry)) (factor .0)) × (now (terms .exit) ≡ scaledTerms (now (terms .entry)) (factor .0)) ⌝ }
+{
+    let asked = asked_terms(terms);
+    let no = asked_factor(asked, factor);
+    if no != 0 {
+        return Scaled::Refused(no);
+    } else {
+        scale_terms(terms, factor);
+        return Scaled::Accepted;
+    }
 }

@@ -3,7 +3,7 @@
 use mathlib.Core.Path.{refl}
 use borrow.Author.Needs.{needs}
 use Rattle.baby_bear.specs.Field.{mulUnit}
-use Rattle.baby_bear.proofs.Product.{product-bits}
+use Rattle.limits.proofs.Product.{below}
 use Rattle.baby_bear.proofs.mul.Statement.{statement}
 use Rattle.baby_bear.proofs.mul.Tie as tie
 
@@ -14,7 +14,7 @@ cast-t4 : tie.Need-cast-t4
 cast-t4 c = search needs
 
 mul-t5 : tie.Need-mul-t5
-mul-t5 c = record { fits = product-bits 32 (search needs) (search needs) }
+mul-t5 c = record { fits = below 32 (search needs) (search needs) }
 
 cast-t6 : tie.Need-cast-t6
 cast-t6 c = search needs
