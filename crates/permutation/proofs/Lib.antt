@@ -1,6 +1,7 @@
 pub mod Chain
 pub mod Answered
 pub mod Accepted
+pub mod Equated
 pub mod Minted
 pub mod Sets
 pub mod Looked

@@ -7,9 +7,9 @@ use mathlib.Core.List.{List, [], _∷_, _++_, append-assoc}
 use mathlib.Core.Option.{Option, none, some}
 use native.Mathlib.Nat.{not-suc-le-zero}
 use native.Mathlib.Omega.{arith}
-use borrow.Author.Tests.{ltb-true, ltb-false, eqb-true, eqb-false}
-use lib.Dec.{eqb, ltb, eqb·suc-zero}
-use lib.ListN.{length, getD, set, take, drop, replicate, length-set, length-append, length-take, length-drop, length-replicate, List·getD-eq-default}
+use borrow.Author.Tests.{ltb-true, eqb-true, eqb-false}
+use lib.Dec.{eqb, eqb·suc-zero}
+use lib.ListN.{length, getD, set, take, drop, replicate, length-set, length-append, length-take, length-drop, length-replicate}
 use lib.Seq.{getD-set-same, getD-set-other, getD-take, length-take-le, take-set-lt, take-at}
 use Rattle.limits.specs.Numbers.{prime, unassigned, maxCount}
 use Rattle.limits.specs.Questions.{pick, onYes}
@@ -39,19 +39,6 @@ fresh-holds (x ∷ slots) h m = record {
     held : (k : ℕ) → slotUnit (getD (0 ∷ []) k unassigned) ≡ look (pair 0 0 ∷ []) k
     held zero = refl
     held (suc k) = rw (eqb·suc-zero k)
-
--- ---- only allocated wires are set
-pub sets-below : (n : ℕ) (slots : List ℕ) (sets : List Pair) → HoldsSlots n slots sets → (x v : ℕ) → look sets x ≡ some v → x < n
-sets-below n slots sets o x v e = go (ltb x n) refl
-  where
-    go : (b : Bool) → ltb x n ≡ b → x < n
-    go true t = ltb-true x n t
-    go false t =
-        let l : length (take n slots) ≡ n = length-take-le n slots (o .room) in
-        let f : length (take n slots) ≤ x = omega (arith, ltb-false x n t) in
-        let beyond : none ≡ look sets x = ap slotUnit (sym (List·getD-eq-default (take n slots) unassigned f)) ∙ o .held x in
-        let k : _≡_ {A = ℕ} 0 1 = cc in
-        omega arith
 
 -- ---- more wires
 padded : (l : List ℕ) (a x : ℕ) → getD (l ++ replicate a unassigned) x unassigned ≡ getD l x unassigned

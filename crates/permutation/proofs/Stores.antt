@@ -8,14 +8,14 @@ use borrow.Author.Tests.{lt-ltb}
 use lib.ListN.{length, length-append}
 use Rattle.limits.specs.Numbers.{prime, maxCount}
 use Rattle.words.specs.Store.{allBelow, putWords}
-use Rattle.words.specs.Pieces.{wordsOf, pieces, flat}
+use Rattle.words.specs.Pieces.{wordsOf, flat}
 use Rattle.words.proofs.Below.{allBelow-append}
 use Rattle.words.proofs.Lists.{all-append}
 use Rattle.words.proofs.Pieces.{wordsOf-suc}
-use Rattle.words.proofs.Held.{flat-snoc, pieces-held, pieces-put}
+use Rattle.words.proofs.Held.{flat-snoc, pieces-put}
 use Rattle.words.proofs.Written.{put-length}
-use Rattle.expr.specs.Equation.{Term, Equation, equation, termVars, termWeights, equationWords, equationSize, equationsWords, equationsAt, equationsEnd}
-use Rattle.expr.proofs.Held.{length-equation, equationsWords-snoc, equations-held, end-held, equations-put, equationsHeld-snoc}
+use Rattle.expr.specs.Equation.{Term, Equation, equation, termVars, termWeights, equationWords, equationSize, equationsWords}
+use Rattle.expr.proofs.Held.{length-equation, equationsWords-snoc, equations-put, equationsHeld-snoc}
 use Rattle.permutation.specs.Answers.{upFrom}
 use Rattle.permutation.specs.State.{HoldsQueries, HoldsEquations}
 
@@ -66,16 +66,3 @@ module _ (count used : ℕ) (store : List ℕ) (es : List Equation) (ts : List T
         begins = rw (o .uses) (equations-put es e store (o .begins));
         sized = λ s. rw kept m;
       }
-
--- ---- read back: the counts find the queries and the equations, which end at the used words
-pub queries-read : (width count : ℕ) (store : List ℕ) (qs : List (List ℕ)) → HoldsQueries width count store qs
-    → pieces (width + width) count store ≡ qs
-queries-read width count store qs o = rw (o .counts) (pieces-held (width + width) qs store (o .widths) (o .begins))
-
-pub equations-read : (count used : ℕ) (store : List ℕ) (es : List Equation) → HoldsEquations count used store es
-    → equationsAt count store ≡ es
-equations-read count used store es o = rw (o .counts) (equations-held es store (o .begins))
-
-pub equations-end : (count used : ℕ) (store : List ℕ) (es : List Equation) → HoldsEquations count used store es
-    → equationsEnd count store ≡ used
-equations-end count used store es o = rw (o .counts, o .uses) (end-held es store (o .begins))

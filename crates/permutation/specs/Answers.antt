@@ -1,6 +1,7 @@
 -- What each call on a relation answers, and what it leaves of record and stores: by its number, which is 0
 -- where it is accepted. Assumes nothing.
 use Prim.Native.Nat.{ℕ, zero, suc, _+_}
+use mathlib.Core.Bool.{Bool, true, false}
 use mathlib.Core.List.{List, [], _∷_, _++_}
 use lib.Dec.{eqb, ltb, leb}
 use lib.ListN.{length, getD, set}
@@ -53,6 +54,11 @@ abbrev pub isAllocatedNumber : IsAllocated → ℕ
 isAllocatedNumber isAllocated-is.Yes = 0
 isAllocatedNumber isAllocated-is.No = 0
 isAllocatedNumber (isAllocated-is.Refused k) = k
+
+-- is it accepted?
+abbrev pub isAccepted : Outcome → Bool
+isAccepted outcome.Accepted = true
+isAccepted (outcome.Refused k) = false
 
 -- the outcome with the record: the new one at 0, else the one that was given
 abbrev pub recordedOf : ℕ → PermutationRelation → PermutationRelation → Recorded

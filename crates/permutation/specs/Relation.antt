@@ -46,7 +46,7 @@ allocateVarsAsks rel len n = relationAsks rel len ++ growAsks (rel .vars) len n
 abbrev pub setVarAsks : PermutationRelation → List ℕ → Pair → List Question
 setVarAsks rel slots p = relationAsks rel (length slots) ++ pairAsks (rel .vars) slots p
 
--- set list: 1 and 2 come first, of the two lists too; then 3, 4, 7, 8 pair by pair; then 9
+-- set list: 1, and 2 of the two lists too; what follows, 3, 4, 7, 8 pair by pair and then 9, is `setVarsRun`
 abbrev pub setVarsAsks : PermutationRelation → ℕ → List ℕ → List ℕ → List Question
 setVarsAsks rel len vars values =
     relationAsks rel len ++ (storeAsks (length vars) ++ storeAsks (length values))

@@ -10,12 +10,13 @@ ghost use mathlib.Core.List.{_++_};
 ghost use Rattle.limits.specs.Questions.{firstNo};
 ghost use Rattle.limits.specs.Asks.{widthAsks};
 ghost use Rattle.allocator.specs.Slots.{pair, slotsAsks};
-ghost use Rattle.expr.specs.Equation.{termsOf};
-ghost use Rattle.permutation.specs.Numbers.{newNo, allocateVarsNo, setVarsNo, valueNo, isAllocatedNo, addPermutationNo, allocatePermutationNo, addEquationNo};
-ghost use Rattle.permutation.specs.Answers.{newRelation, newSlots, allocateVars, allocateVarsSlots, setVar, setVarSlots, setVars, setVarsSlots, valueOf, isAllocated};
+ghost use Rattle.expr.specs.Weighted.{termsOf};
+ghost use Rattle.permutation.specs.Numbers.{newNo, allocateVarsNo, setVarsNo, valueNo, isAllocatedNo, addPermutationNo, allocatePermutationNo, equationNo};
+ghost use Rattle.permutation.specs.Answers.{newRelation, newSlots, allocateVars, allocateVarsSlots, setVar, setVarSlots, setVars, setVarsSlots, valueOf, isAllocated, recordedOf, oneEquation, isAccepted};
 ghost use Rattle.permutation.specs.Answers.{addPermutation, addPermutationQueries, allocatePermutation, allocatePermutationSlots, allocatePermutationQueries, fitVars, addEquation, addEquationEquations};
 use allocator::FieldVar;
 use baby_bear::BabyBearUnit;
+use expr::Weighted;
 use limits::MAX_COUNT;
 use limits::P;
 use limits::UNASSIGNED;
@@ -412,15 +413,9 @@ pub fn allocate_permutation(
     }
 }
 
-// The number of an equation call.
-fn add_equation_no(
-    rel: PermutationRelation,
-    len: usize,
-    vars: &[u32],
-    weights: &[u32],
-    image: u32,
-) -> u32
-    ensures { λ r. ⌜ r ≡ addEquationNo rel len (termsOf (now (vars .entry)) (now (weights .entry))) image ⌝ }
+// The number of an equation call with n terms, whose own questions answered `asked`.
+fn add_equation_no(rel: PermutationRelation, len: usize, n: usize, asked: u32, image: u32) -> u32
+    ensures { λ r. ⌜ r ≡ equationNo rel len n asked image ⌝ }
 {
     let width = rel.width;
     let count = rel.vars;
@@ -431,34 +426,28 @@ fn add_equation_no(
     let no = limits::asked(no, used <= len, 2);
     let no = limits::asked(no, 2 * held <= len, 2);
     let no = limits::asked_count(no, count);
-    let no = expr::asked_terms(no, vars, weights);
+    let no = limits::asked(no, asked == 0, asked);
     let no = limits::asked(no, image < P, 4);
-    let n = expr::terms_count(vars, weights);
     limits::asked(no, expr::equation_fits(used, n, len), 10)
 }
 
-// Record an equation: the terms are the common pairs of two lists, wires and weights (the source's
-// `add_equation`). Questions 1, 2, 3, 4, 10.
-pub fn add_equation(
+// What an equation call answers: the record with one equation of n terms more, or as it was.
+fn equation_recorded(
     rel: PermutationRelation,
-    equations: &mut [u32],
-    vars: &[u32],
-    weights: &[u32],
-    image: BabyBearUnit,
+    len: usize,
+    n: usize,
+    asked: u32,
+    image: u32,
 ) -> Recorded
-    ensures { λ r. ⌜ (r ≡ addEquation rel (now (equations .entry)) (termsOf (now (vars .entry)) (now (weights .entry))) (image .0)) × (now (equations .exit) ≡ addEquationEquations rel (now (equations .entry)) (termsOf (now (vars .entry)) (now (weights .entry))) (image .0)) ⌝ }
+    ensures { λ r. ⌜ r ≡ recordedOf (equationNo rel len n asked image) (oneEquation rel n) rel ⌝ }
 {
-    let b = image.0;
-    let no = add_equation_no(rel, equations.len(), vars, weights, b);
+    let no = add_equation_no(rel, len, n, asked, image);
     if no != 0 {
         return Recorded {
             outcome: Outcome::Refused(no),
             relation: rel,
         };
     }
-    let n = expr::terms_count(vars, weights);
-    let used = rel.words as usize;
-    expr::put_equation(equations, used, vars, weights, b);
     Recorded {
         outcome: Outcome::Accepted,
         relation: PermutationRelation {
@@ -468,5 +457,35 @@ pub fn add_equation(
             equations: rel.equations + 1,
             words: rel.words + (2 + 2 * (n as u32)),
         },
+    }
+}
+
+// Is the call accepted?
+fn is_accepted(r: Recorded) -> bool
+    ensures { λ b. ⌜ b ≡ isAccepted (r .outcome) ⌝ }
+{
+    let o = r.outcome;
+    match o {
+        Outcome::Accepted => true,
+        Outcome::Refused(_) => false,
+    }
+}
+
+// Record an equation (the source's `add_equation`). Questions 1, 2, 3, 4, 10.
+pub fn add_equation(
+    rel: PermutationRelation,
+    equations: &mut [u32],
+    terms: &[Weighted],
+    image: BabyBearUnit,
+) -> Recorded
+    ensures { λ r. ⌜ (r ≡ addEquation rel (now (equations .entry)) (termsOf (now (terms .entry))) (image .0)) × (now (equations .exit) ≡ addEquationEquations rel (now (equations .entry)) (termsOf (now (terms .entry))) (image .0)) ⌝ }
+{
+    let asked = expr::asked_terms(terms);
+    let recorded = equation_recorded(rel, equations.len(), terms.len(), asked, image.0);
+    if is_accepted(recorded) {
+        expr::put_equation(equations, rel.words as usize, terms, image.0);
+        return recorded;
+    } else {
+        return recorded;
     }
 }

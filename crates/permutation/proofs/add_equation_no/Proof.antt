@@ -1,7 +1,8 @@
 -- `permutation::add_equation_no` meets its contract: its questions in a row.
 -- Assumes nothing.
 use Rattle.limits.proofs.Questions.{▸-assoc, zero-▸, ▸-zero}
-use Rattle.permutation.specs.Numbers.{addEquationNo}
+use Rattle.permutation.specs.Numbers.{equationNo}
+use Rattle.permutation.proofs.Equated.{ask-itself}
 use borrow.Author.Needs.{needs}
 use Rattle.permutation.proofs.add_equation_no.Statement.{statement}
 use Rattle.permutation.proofs.add_equation_no.Tie as tie
@@ -30,14 +31,8 @@ asked-requires-2 c κs = search needs
 asked-count-requires : tie.Need-asked-count-requires
 asked-count-requires c κs = search needs
 
-asked-terms-requires : tie.Need-asked-terms-requires
-asked-terms-requires c κs = search needs
-
 asked-requires-3 : tie.Need-asked-requires-3
 asked-requires-3 c κs = search needs
-
-terms-count-requires : tie.Need-terms-count-requires
-terms-count-requires c κs = search needs
 
 equation-fits-requires : tie.Need-equation-fits-requires
 equation-fits-requires c κs = search needs
@@ -45,22 +40,24 @@ equation-fits-requires c κs = search needs
 asked-requires-4 : tie.Need-asked-requires-4
 asked-requires-4 c κs = search needs
 
+asked-requires-5 : tie.Need-asked-requires-5
+asked-requires-5 c κs = search needs
+
 returns : tie.Need-returns
-unfolding addEquationNo
+unfolding equationNo
 returns c =
     rw (
-      c .asked4 .ensures,
+      c .asked5 .ensures,
       c .before .equation-fits .ensures,
-      c .before .before .terms-count .ensures,
+      c .before .before .asked4 .ensures,
       c .before .before .before .asked3 .ensures,
-      c .before .before .before .before .asked-terms .ensures,
-      c .before .before .before .before .before .asked-count .ensures,
-      c .before .before .before .before .before .before .asked2 .ensures,
-      c .before .before .before .before .before .before .before .asked .ensures,
-      c .before .before .before .before .before .before .before .before .asked-store .ensures,
-      c .before .before .before .before .before .before .before .before .before .asked-width .ensures,
+      c .before .before .before .before .asked-count .ensures,
+      c .before .before .before .before .before .asked2 .ensures,
+      c .before .before .before .before .before .before .asked .ensures,
+      c .before .before .before .before .before .before .before .asked-store .ensures,
+      c .before .before .before .before .before .before .before .before .asked-width .ensures,
     )
-    (simp (▸-assoc, zero-▸, ▸-zero))
+    (simp (ask-itself, ▸-assoc, zero-▸, ▸-zero))
 
 pub add-equation-no-spec : {M : Type 1} → statement M
 add-equation-no-spec =
@@ -74,9 +71,8 @@ add-equation-no-spec =
     mul-asked
     asked-requires-2
     asked-count-requires
-    asked-terms-requires
     asked-requires-3
-    terms-count-requires
-    equation-fits-requires
     asked-requires-4
+    equation-fits-requires
+    asked-requires-5
     returns)
