@@ -2,14 +2,11 @@
 -- follows from an answer, for those who call. Assumes nothing.
 use Prim.Native.Nat.{ℕ, _+_, _≤_, _<_}
 use mathlib.Core.Path.{_≡_, refl, sym, ap, _∙_}
-use mathlib.Core.Bool.{Bool, true, false}
 use mathlib.Core.List.{List}
 use native.Mathlib.Omega.{arith}
-use borrow.Author.Tests.{le-leb, lt-leb, leb-true, leb-false}
-use lib.Dec.{leb}
+use borrow.Author.Tests.{le-leb, lt-leb}
 use lib.ListN.{length, drop, getD, length-drop}
 use lib.Seq.{getD-drop, drop-drop}
-use Rattle.limits.specs.Questions.{pick}
 use Rattle.words.specs.Store.{putWords, fitWords}
 use Rattle.narg.specs.Bytes.{word4}
 use Rattle.narg.specs.Reader.{Got, got, stop, word}
@@ -24,11 +21,8 @@ use Rattle.narg.proofs.Words.{word-rest-at}
 never : (v : ℕ) (next : Cursor) → Short ≡ Read v next → ⊥
 never v next e = let z : _≡_ {A = ℕ} 0 1 = cc in omega arith
 
-never-put : (next : Cursor) → Full ≡ Written next → ⊥
-never-put next e = let z : _≡_ {A = ℕ} 0 1 = cc in omega arith
-
 -- ---- a word at a cursor
-word-at : (s : List ℕ) (at : ℕ) → at + 4 ≤ length s
+pub word-at : (s : List ℕ) (at : ℕ) → at + 4 ≤ length s
     → word (drop at s) ≡ got (word4 (getD s at 0) (getD s (at + 1) 0) (getD s (at + 2) 0) (getD s (at + 3) 0)) (drop (at + 4) s)
 word-at s at h =
     let z : at + 0 ≡ at = omega arith in
@@ -81,29 +75,6 @@ module _ (out : List ℕ) (at : ℕ) (bytes : List ℕ) {n : ℕ} (l : length by
   put-written last h w =
       let e = le-leb (at + length bytes) (length out) (omega arith) in (rw (e, l), simp e w)
 
-  -- for those who call: where it holds them, and from the answer
+  -- for those who call: where it holds them
   pub put-fits : at + n ≤ length out → (putAt out at bytes ≡ Written (cursor (at + n))) × (fitWords at bytes out ≡ putWords at bytes out)
   put-fits h = let w = put-written (putWords at bytes out) h refl in (sym (w .0), sym (w .1))
-
-  pub putAt-written : (next : Cursor) → putAt out at bytes ≡ Written next
-      → (at + n ≤ length out) × (next .at ≡ at + n) × (fitWords at bytes out ≡ putWords at bytes out)
-  unfolding putAt
-  putAt-written next e = go (leb (at + length bytes) (length out)) refl e
-    where
-      go : (b : Bool) → leb (at + length bytes) (length out) ≡ b → pick b (Written (cursor (at + length bytes))) Full ≡ Written next
-          → (at + n ≤ length out) × (next .at ≡ at + n) × (pick b (putWords at bytes out) out ≡ putWords at bytes out)
-      go true t f =
-          let h = leb-true (at + length bytes) (length out) t in
-          let c : cursor (at + length bytes) ≡ next = cc in
-          let p : at + length bytes ≡ next .at = ap (λ (x : Cursor). x .at) c in
-          (omega arith, omega arith, refl)
-      go false t f = absurd (never-put next f)
-
-  pub putAt-full : putAt out at bytes ≡ Full → (length out < at + n) × (fitWords at bytes out ≡ out)
-  unfolding putAt
-  putAt-full e = go (leb (at + length bytes) (length out)) refl e
-    where
-      go : (b : Bool) → leb (at + length bytes) (length out) ≡ b → pick b (Written (cursor (at + length bytes))) Full ≡ Full
-          → (length out < at + n) × (pick b (putWords at bytes out) out ≡ out)
-      go true t f = absurd (never-put (cursor (at + length bytes)) (sym f))
-      go false t f = let h = leb-false (at + length bytes) (length out) t in (omega arith, refl)

@@ -10,7 +10,7 @@ use native.Mathlib.Omega.{arith}
 use borrow.Author.Tests.{lt-ltb, le-ltb, ltb-true, le-leb, lt-leb, leb-true}
 use lib.Dec.{ltb, leb}
 use lib.ListN.{length, take, drop, getD, length-append, take-append-drop, length-drop}
-use lib.Seq.{take-append-seam, drop-append-seam, drop-drop, getD-drop, getD-append-add, length-take-le}
+use lib.Seq.{take-append-seam, drop-append-seam, drop-drop, getD-append-add, length-take-le}
 use Rattle.limits.specs.Questions.{pick}
 use Rattle.narg.specs.Bytes.{wordEnd, IsBytes, u32Bytes, word4}
 use Rattle.narg.specs.Reader.{Got, got, stop, onGot, _>>_, give, need, word, part, below}
@@ -20,9 +20,6 @@ pub never : {A : Type 0} {a : A} {r : List ℕ} {k : ℕ} → stop k ≡ got a r
 never e = let z : _≡_ {A = ℕ} 0 1 = cc in omega arith
 
 -- ---- bytes (of a lent slice, in a function's proof: `λ i. c .shared-slice-known .given i .fits`)
-pub isBytes-drop : (n : ℕ) (bytes : List ℕ) → IsBytes bytes → IsBytes (drop n bytes)
-isBytes-drop n bytes h i = rw (getD-drop n bytes i 0) (h (n + i))
-
 pub isBytes-rest : (bytes rest : List ℕ) → IsBytes (bytes ++ rest) → IsBytes rest
 isBytes-rest bytes rest h i = rw getD-append-add at (h (length bytes + i))
 

@@ -2,62 +2,100 @@
 -- ends, for the code's returns; and what follows from an answer, for those who call. Assumes nothing.
 use Prim.Native.Nat.{ℕ, suc, _+_, _*_, _-_, _≤_, _<_}
 use mathlib.Core.Path.{_≡_, refl, sym, ap, _∙_}
-use mathlib.Core.Bool.{Bool, true, false}
+use mathlib.Core.Bool.{Bool, true, false, _&&_}
 use mathlib.Core.List.{List, _∷_}
 use native.Mathlib.Omega.{arith}
-use borrow.Author.Tests.{le-leb, lt-leb, leb-true, leb-false}
-use lib.Dec.{leb}
-use lib.ListN.{length, drop}
+use borrow.Author.Tests.{ltb-true, ltb-false, le-leb, lt-leb, leb-true}
+use lib.Dec.{ltb, leb}
+use lib.ListN.{length, drop, getD, length-drop}
+use Rattle.limits.specs.Questions.{pick}
 use Rattle.words.specs.Store.{putWords}
-use Rattle.narg.specs.Reader.{Got, got, stop, onGot, _>>=_, _>>_, give, need, word, below, times, items}
-use Rattle.narg.specs.Cursor.{cursor, wordAt, item, itemOf, storeOf, wordsAt, wordsOut}
+use Rattle.narg.specs.Bytes.{word4}
+use Rattle.narg.specs.Reader.{Got, got, stop, onGot, _>>_, give, need, word, below, times}
+use Rattle.narg.specs.Cursor.{cursor, item, itemOf, storeOf, wordsAt, wordsOut}
 use Rattle.narg.specs.declared.Cursor.{Cursor}
-use Rattle.narg.specs.declared.Word.the-variants.{Read, Short}
 use Rattle.narg.specs.declared.Item.{Item}
 use Rattle.narg.specs.declared.Item.the-variants.{Read as ReadItem, Refused}
-use Rattle.narg.proofs.Fields.{never as never-stop, below-short, below-not, below-yes}
-use Rattle.narg.proofs.Lists.{times-stop, times-more, times-count, items-stop, items-full, items-more}
-use Rattle.narg.proofs.At.{wordAt-read, wordAt-stop}
+use Rattle.narg.proofs.Fields.{word-short, below-short, below-not, below-yes}
+use Rattle.narg.proofs.Lists.{times-stop, times-more, times-count}
+use Rattle.narg.proofs.At.{word-at}
 use Rattle.narg.proofs.Words.{words-rest-at, words-plain}
 
 -- an answer is one of two
 never : (next : Cursor) (k : ℕ) → ReadItem next ≡ Refused k → ⊥
 never next k e = let z : _≡_ {A = ℕ} 0 1 = cc in omega arith
 
--- ---- the questions of an item, word by word: what is left of them from a place on comes to `whole`
+-- ---- the questions of an item of n words, asked of the words that are there first
+-- what the words from the i-th on answer
+unfoldable pub askedFrom : (s : List ℕ) (at n bound k i : ℕ) → Item
+askedFrom s at n bound k i = itemOf (at + 4 * n) (times (below bound k) (n - i) (drop (at + 4 * i) s))
+
 -- a word before the others changes no answer
 cons-item : (to a : ℕ) (g : Got (List ℕ)) → itemOf to (onGot g (λ l. give (a ∷ l))) ≡ itemOf to g
 cons-item to a (got l r) = refl
 cons-item to a (stop k) = refl
 
-pred-is : (n : ℕ) → 0 < n → n ≡ suc (n - 1)
-pred-is n h = omega arith
+-- one test and then another
+pick-and : (a b : Bool) (x y : Item) → pick (a && b) x y ≡ pick a (pick b x y) y
+pick-and true b x y = refl
+pick-and false b x y = refl
 
-module _ (s : List ℕ) (at left bound k to : ℕ) (whole : Item) (e : itemOf to (times (below bound k) left (drop at s)) ≡ whole) where
-  pub ask-done : (next : Cursor) → next .at ≡ to → left ≤ 0 → ReadItem next ≡ whole
-  ask-done next h l = let z : left ≡ 0 = omega arith in ap (λ (m : ℕ). ReadItem (cursor m)) h ∙ (rw z at e)
+module _ (s : List ℕ) (at n bound k i : ℕ) where
+  asked-done : i ≡ n → askedFrom s at n bound k i ≡ ReadItem (cursor (at + 4 * i))
+  unfolding askedFrom
+  asked-done h = let z : n - n ≡ 0 = omega arith in rw (h, z)
 
-  module _ (pos : 0 < left) where
-    at-suc : itemOf to (times (below bound k) (suc (left - 1)) (drop at s)) ≡ whole
-    at-suc = ap (λ (n : ℕ). itemOf to (times (below bound k) n (drop at s))) (sym (pred-is left pos)) ∙ e
+  module _ (h : i < n) where
+    asked-suc : askedFrom s at n bound k i ≡ itemOf (at + 4 * n) (times (below bound k) (suc (n - (i + 1))) (drop (at + 4 * i) s))
+    unfolding askedFrom
+    asked-suc = let z : n - i ≡ suc (n - (i + 1)) = omega arith in rw z
 
-    pub ask-short : wordAt s at ≡ Short → Refused 20 ≡ whole
-    ask-short g =
-        sym (ap (itemOf to) (times-stop (below bound k) (drop at s) (left - 1) 20 (below-short bound k (drop at s) (wordAt-stop s at g)))) ∙ at-suc
+    asked-short : length s < at + 4 * i + 4 → askedFrom s at n bound k i ≡ Refused 20
+    asked-short l =
+        let bs = drop (at + 4 * i) s in
+        asked-suc ∙ ap (itemOf (at + 4 * n)) (times-stop (below bound k) bs (n - (i + 1)) 20 (below-short bound k bs (word-short bs (rw length-drop (omega arith)))))
 
-    module _ (v : ℕ) (next : Cursor) (g : wordAt s at ≡ Read v next) where
-      pub ask-not : bound ≤ v → Refused k ≡ whole
-      ask-not h =
-          let w = wordAt-read s at v next g in
-          sym (ap (itemOf to) (times-stop (below bound k) (drop at s) (left - 1) k (below-not bound k (drop at s) v (drop (at + 4) s) (w .reads) h))) ∙ at-suc
+    asked-more : (v : ℕ) → word (drop (at + 4 * i) s) ≡ got v (drop (at + 4 * i + 4) s)
+        → askedFrom s at n bound k i ≡ pick (ltb v bound) (askedFrom s at n bound k (i + 1)) (Refused k)
+    unfolding askedFrom
+    asked-more v w = go (ltb v bound) refl
+      where
+        go : (b : Bool) → ltb v bound ≡ b → askedFrom s at n bound k i ≡ pick b (askedFrom s at n bound k (i + 1)) (Refused k)
+        go true t =
+            let bs = drop (at + 4 * i) s in
+            let z : at + 4 * i + 4 ≡ at + 4 * (i + 1) = omega arith in
+            asked-suc
+            ∙ ap (itemOf (at + 4 * n)) (times-more (below bound k) bs (n - (i + 1)) v (drop (at + 4 * i + 4) s) (below-yes bound k bs v (drop (at + 4 * i + 4) s) w (ltb-true v bound t)))
+            ∙ cons-item (at + 4 * n) v (times (below bound k) (n - (i + 1)) (drop (at + 4 * i + 4) s))
+            ∙ ap (λ (m : ℕ). itemOf (at + 4 * n) (times (below bound k) (n - (i + 1)) (drop m s))) z
+        go false t =
+            let bs = drop (at + 4 * i) s in
+            asked-suc
+            ∙ ap (itemOf (at + 4 * n)) (times-stop (below bound k) bs (n - (i + 1)) k (below-not bound k bs v (drop (at + 4 * i + 4) s) w (ltb-false v bound t)))
 
-      pub ask-more : v < bound → itemOf to (times (below bound k) (left - 1) (drop (next .at) s)) ≡ whole
-      ask-more h =
-          let w = wordAt-read s at v next g in
-          ap (λ (n : ℕ). itemOf to (times (below bound k) (left - 1) (drop n s))) (w .past)
-          ∙ sym (cons-item to v (times (below bound k) (left - 1) (drop (at + 4) s)))
-          ∙ sym (ap (itemOf to) (times-more (below bound k) (drop at s) (left - 1) v (drop (at + 4) s) (below-yes bound k (drop at s) v (drop (at + 4) s) (w .reads) h)))
-          ∙ at-suc
+  asked-all : askedFrom s at n bound k 0 ≡ itemOf (at + 4 * n) (times (below bound k) n (drop at s))
+  unfolding askedFrom
+  asked-all = let x : n - 0 ≡ n = omega arith in let z : at + 4 * 0 ≡ at = omega arith in rw (x, z)
+
+  -- what the words before the i-th say, with those from it on still to be asked
+  module _ (says : Bool) (e : pick says (askedFrom s at n bound k i) (Refused k) ≡ askedFrom s at n bound k 0) where
+    pub ask-not : says ≡ false → Refused k ≡ itemOf (at + 4 * n) (times (below bound k) n (drop at s))
+    ask-not f = (rw f at e) ∙ asked-all
+
+    pub ask-short : says ≡ true → i < n → length s < at + 4 * i + 4 → Refused 20 ≡ itemOf (at + 4 * n) (times (below bound k) n (drop at s))
+    ask-short f h l = sym (asked-short h l) ∙ (rw f at e) ∙ asked-all
+
+    pub ask-done : says ≡ true → i ≡ n → ReadItem (cursor (at + 4 * i)) ≡ itemOf (at + 4 * n) (times (below bound k) n (drop at s))
+    ask-done f h = sym (asked-done h) ∙ (rw f at e) ∙ asked-all
+
+    pub ask-more : (v : ℕ) → i < n → at + 4 * i + 4 ≤ length s
+        → v ≡ word4 (getD s (at + 4 * i) 0) (getD s (at + 4 * i + 1) 0) (getD s (at + 4 * i + 2) 0) (getD s (at + 4 * i + 3) 0)
+        → pick (says && ltb v bound) (askedFrom s at n bound k (i + 1)) (Refused k) ≡ askedFrom s at n bound k 0
+    ask-more v h l f =
+        let w = word-at s (at + 4 * i) l ∙ ap (λ (x : ℕ). got x (drop (at + 4 * i + 4) s)) (sym f) in
+        pick-and says (ltb v bound) (askedFrom s at n bound k (i + 1)) (Refused k)
+        ∙ ap (λ (x : Item). pick says x (Refused k)) (sym (asked-more h v w))
+        ∙ e
 
 -- ---- an item that goes into a store
 module _ (s : List ℕ) (at : ℕ) (out : List ℕ) (place n bound k : ℕ) where
@@ -167,36 +205,3 @@ module _ (s : List ℕ) (at : ℕ) (out : List ℕ) (place n bound k : ℕ) wher
           → (item bound k n place (length out) (drop at s) ≡ stop j) × (storeOf place out g ≡ out)
       go (got ws r) w f = absurd (never (cursor (at + 4 * n)) j f)
       go (stop i) w f = let z : i ≡ j = cc in (w ∙ ap (λ (m : ℕ). stop m) z, refl)
-
-  -- such an item is the next of a list of items
-  module _ (m : ℕ) where
-    pub items-words : (next : Cursor) (g : WordsRead next)
-        → items (times (below bound k) n) length (length out) place (suc m) (drop at s)
-        ≡ (items (times (below bound k) n) length (length out) (place + n) m >>= λ l. give (g .ws ∷ l)) (drop (at + 4 * n) s)
-    items-words next g =
-        let c = g .count in
-        let h = g .room in
-        items-more (times (below bound k) n) (drop at s) length (length out) place m (g .ws) (drop (at + 4 * n) s) (g .reads) (omega arith)
-        ∙ ap (λ (u : ℕ). (items (times (below bound k) n) length (length out) (place + u) m >>= λ l. give (g .ws ∷ l)) (drop (at + 4 * n) s)) c
-
-    pub items-refused : (j : ℕ) → item bound k n place (length out) (drop at s) ≡ stop j
-        → items (times (below bound k) n) length (length out) place (suc m) (drop at s) ≡ stop j
-    unfolding item
-    items-refused j e = go (times (below bound k) n (drop at s)) refl e
-      where
-        asked : (ws r : List ℕ) (b : Bool) → leb (place + n) (length out) ≡ b → times (below bound k) n (drop at s) ≡ got ws r
-            → onGot (need 10 b r) (λ u. give ws) ≡ stop j → items (times (below bound k) n) length (length out) place (suc m) (drop at s) ≡ stop j
-        asked ws r true t w f = absurd (never-stop (sym f))
-        asked ws r false t w f =
-            let c = times-count (below bound k) n (drop at s) ws r w in
-            let h = leb-false (place + n) (length out) t in
-            let z : 10 ≡ j = cc in
-            items-full (times (below bound k) n) (drop at s) length (length out) place m ws r w (omega arith) ∙ ap (λ (x : ℕ). stop x) z
-
-        go : (g : Got (List ℕ)) → times (below bound k) n (drop at s) ≡ g
-            → onGot g (λ ws. need 10 (leb (place + n) (length out)) >> give ws) ≡ stop j
-            → items (times (below bound k) n) length (length out) place (suc m) (drop at s) ≡ stop j
-        go (got ws r) w f = asked ws r (leb (place + n) (length out)) refl w f
-        go (stop i) w f =
-            let z : i ≡ j = cc in
-            items-stop (times (below bound k) n) (drop at s) length (length out) place m i w ∙ ap (λ (x : ℕ). stop x) z

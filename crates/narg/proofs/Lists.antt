@@ -1,7 +1,7 @@
 -- Lists in bytes: items one after the other, written and read. One law serves every list of a byte form: it is
 -- over the item's reader p, its bytes enc and, for what goes into a store, its size.
 -- Assumes nothing.
-use Prim.Native.Nat.{ℕ, zero, suc, _+_, _*_, _≤_, _<_}
+use Prim.Native.Nat.{ℕ, zero, suc, _+_, _*_, _≤_}
 use mathlib.Core.Path.{_≡_, refl, sym, ap, _∙_}
 use mathlib.Core.Bool.{Bool, true, false}
 use mathlib.Core.List.{List, [], _∷_, _++_, append-assoc}
@@ -9,7 +9,7 @@ use native.Mathlib.Omega.{arith}
 use borrow.Author.Tests.{le-leb, lt-leb, leb-true, leb-false}
 use lib.Dec.{leb}
 use lib.ListN.{length, drop, length-append, length-drop}
-use lib.Seq.{drop-drop, drop-append-seam}
+use lib.Seq.{drop-drop}
 use Rattle.words.specs.Store.{All}
 use Rattle.narg.specs.Bytes.{IsBytes}
 use Rattle.narg.specs.Reader.{Got, got, stop, Reader, onGot, orStop, _>>=_, _>>_, give, need, times, items, each, sizes}
@@ -55,12 +55,6 @@ module _ {A : Type 0} (p : Reader A) (bs : List ℕ) where
   times-more n a r e = rw e
 
   module _ (size : A → ℕ) (room used n : ℕ) where
-    pub items-stop : (k : ℕ) → p bs ≡ stop k → items p size room used (suc n) bs ≡ stop k
-    items-stop k e = rw e
-
-    pub items-full : (a : A) (r : List ℕ) → p bs ≡ got a r → room < used + size a → items p size room used (suc n) bs ≡ stop 10
-    items-full a r e h = rw (e, lt-leb (used + size a) room h)
-
     pub items-more : (a : A) (r : List ℕ) → p bs ≡ got a r → used + size a ≤ room
         → items p size room used (suc n) bs ≡ (items p size room (used + size a) n >>= λ l. give (a ∷ l)) r
     items-more a r e h = rw (e, le-leb (used + size a) room h)
@@ -159,12 +153,6 @@ module _ {A : Type 0} (p : Reader A) (enc : A → List ℕ) (back : (bs : List �
       let c = items-cons p bs xs r size room used n e in
       read-cons n bs xs r (λ a. used + size a ≤ room) (λ a. items p size room (used + size a) n) h c
       (λ b. items-back size room (used + size (c .item)) n (c .rest) (c .list) r b (c .others))
-
--- what is left is the rest of the bytes, at the place past what was written
-pub back-rest : (bytes r bs : List ℕ) → bytes ++ r ≡ bs → (length bytes ≤ length bs) × (r ≡ drop (length bytes) bs)
-back-rest bytes r bs e =
-    let l = length-append bytes r in
-    let m = ap length e in (omega arith, sym (ap (drop (length bytes)) (sym e) ∙ drop-append-seam bytes r))
 
 -- and the store holds what was read
 pub items-room : {A : Type 0} (p : Reader A) (size : A → ℕ) (room used n : ℕ) (bs : List ℕ) (xs : List A) (r : List ℕ) → items p size room used n bs ≡ got xs r

@@ -4,7 +4,7 @@
 // end. Every function answers on every input; what is refused writes nothing.
 
 ghost use mathlib.Core.Path.{_≡_};
-ghost use Prim.Native.Nat.{_+_, _*_, _-_, _≤_};
+ghost use Prim.Native.Nat.{_+_, _*_, _-_, _/_, _≤_, min};
 ghost use lib.ListN.{length, drop};
 ghost use Rattle.limits.specs.Numbers.{prime, maxCount};
 ghost use Rattle.words.specs.Store.{putWords, fitWords};
@@ -104,23 +104,45 @@ pub fn put_words(out: &mut [u8], c: Cursor, words: &[u32]) -> Put
     Put::Written(Cursor { at: at + 4 * i })
 }
 
-// The questions of an item of n words at the cursor: each is there (20) and below the bound (k).
+// How many of n words the bytes hold from a place on, when there are len of them.
+fn words_held(len: usize, at: usize, n: usize) -> usize
+    ensures { λ r. ⌜ r ≡ min n ((len - at) / 4) ⌝ }
+{
+    if len < at {
+        return 0;
+    }
+    let whole = (len - at) / 4;
+    if whole < n { whole } else { n }
+}
+
+// The questions of an item of n words at the cursor: each is there (20) and below the bound (k). A word that is not
+// there stands behind all that are, so these come first, in a loop that has no exit of its own.
 fn ask_words(bytes: &[u8], c: Cursor, n: u32, bound: u32, k: u32) -> Item
     ensures { λ r. ⌜ r ≡ itemOf (c .at + 4 * n) (times (below bound k) n (drop (c .at) (now (bytes .entry)))) ⌝ }
 {
-    let mut next = c;
-    let mut left = n;
-    while 0 < left {
-        let Word::Read(v, after) = read_u32(bytes, next) else {
-            return Item::Refused(20);
-        };
-        if bound <= v {
-            return Item::Refused(k);
-        }
-        next = after;
-        left -= 1;
+    let at = c.at;
+    let wanted = n as usize;
+    let held = words_held(bytes.len(), at, wanted);
+    let mut below = true;
+    let mut i = 0;
+    while i < held {
+        let from = at + 4 * i;
+        let v = word4(
+            bytes[from],
+            bytes[from + 1],
+            bytes[from + 2],
+            bytes[from + 3],
+        );
+        below = below & (v < bound);
+        i += 1;
     }
-    Item::Read(next)
+    if !below {
+        return Item::Refused(k);
+    }
+    if held < wanted {
+        return Item::Refused(20);
+    }
+    Item::Read(Cursor { at: at + 4 * i })
 }
 
 // The n words at the place of the store, where the bytes and the store hold them.

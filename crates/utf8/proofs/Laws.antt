@@ -187,7 +187,3 @@ isUtf8-iff s = (isUtf8-sound s, isUtf8-complete s)
 -- so an answer that is the test's says both
 pub isUtf8-says : (r : Bool) (s : List ℕ) → r ≡ isUtf8 s → (r ≡ isUtf8 s) × ((r ≡ true) ↔ Utf8 s)
 isUtf8-says r s e = (e, (λ t. isUtf8-sound s (sym e ∙ t), λ u. e ∙ isUtf8-complete s u))
-
-pub isUtf8-nil : isUtf8 [] ≡ true
-unfolding follow isUtf8
-isUtf8-nil = refl

@@ -38,18 +38,17 @@ pub fn put(out: &mut [u32], at: usize, words: &[u32])
     }
 }
 
-// Is every word of s below the bound?
+// Is every word of s below the bound? (Each word is looked at, so that the loop has no exit of its own.)
 pub fn all_below(s: &[u32], bound: u32) -> bool
     ensures { λ r. ⌜ r ≡ allBelow bound (now (s .entry)) ⌝ }
 {
+    let mut below = true;
     let mut i = 0;
     while i < s.len() {
-        if bound <= s[i] {
-            return false;
-        }
+        below = below & (s[i] < bound);
         i += 1;
     }
-    true
+    below
 }
 
 // Question k, whether every word of s is below the bound; not looked at where an earlier question said no.

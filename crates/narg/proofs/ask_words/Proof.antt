@@ -1,80 +1,102 @@
--- `narg::ask_words` meets its contract: the questions that are left from the place on come to the answer of all of
--- them, and the place is as far from the end as the words that are left say.
+-- `narg::ask_words` meets its contract: what the words so far say and what those that are left answer come together
+-- to the answer of all of them.
 -- Assumes nothing.
-use Prim.Native.Nat.{_+_, _*_}
-use mathlib.Core.Path.{_≡_, refl, sym, _∙_}
+use Prim.Native.Nat.{_-_, _/_, _≤_, min}
+use mathlib.Core.Path.{_≡_, refl}
 use native.Mathlib.Omega.{arith}
 use borrow.Author.Needs.{needs}
+use borrow.Author.Tests.{not-true, not-false}
 use denote.Ref.{now}
-use lib.ListN.{drop}
-use Rattle.narg.specs.Reader.{below, times}
-use Rattle.narg.specs.Cursor.{itemOf}
-use Rattle.narg.proofs.At.{wordAt-read}
-use Rattle.narg.proofs.Items.{ask-done, ask-short, ask-not, ask-more}
+use lib.ListN.{length}
+use Rattle.limits.specs.Questions.{pick}
+use Rattle.narg.specs.declared.Item.the-variants.{Refused}
+use Rattle.narg.proofs.Items.{askedFrom, ask-not, ask-short, ask-done, ask-more}
 use Rattle.narg.proofs.ask_words.Statement.{statement}
 use Rattle.narg.proofs.ask_words.Tie as tie
 
 abbrev Inv-loop : tie.InvT-loop
-Inv-loop bytes n bound k next₀ left₀ next left =
-    (next .at + 4 * left ≡ next₀ .at + 4 * n)
-    × (itemOf (next₀ .at + 4 * n) (times (below bound k) left (drop (next .at) bytes))
-    ≡ itemOf (next₀ .at + 4 * n) (times (below bound k) n (drop (next₀ .at) bytes)))
+Inv-loop bytes n bound k at wanted held below₀ i₀ below i =
+    (i ≤ held)
+    × (held ≡ min n ((length bytes - at) / 4))
+    × (pick below (askedFrom bytes at n bound k i) (Refused k) ≡ askedFrom bytes at n bound k 0)
 
 abbrev μ-loop : tie.MeasureT-loop
-μ-loop bytes n bound k next₀ left₀ next left = left
+μ-loop bytes n bound k at wanted held below₀ i₀ below i = held - i
+
+words-held-requires : tie.Need-words-held-requires Inv-loop μ-loop
+words-held-requires c κs = search needs
 
 loop-holds : tie.Need-loop-holds Inv-loop μ-loop
-loop-holds c = (refl, refl)
+loop-holds c = (omega arith, c .words-held .ensures, refl)
 
-read-u32-requires : tie.Need-read-u32-requires Inv-loop μ-loop
-read-u32-requires c κs = search needs
+mul-from : tie.Need-mul-from Inv-loop μ-loop
+mul-from c = search needs
 
-enum-known-v : tie.Need-enum-known-v Inv-loop μ-loop
-enum-known-v c = search needs
+add-from : tie.Need-add-from Inv-loop μ-loop
+add-from c = search needs
 
-enum-told : tie.Need-enum-told Inv-loop μ-loop
-enum-told c = search needs
+shared-slice-read-word4 : tie.Need-shared-slice-read-word4 Inv-loop μ-loop
+shared-slice-read-word4 c = search needs
 
-returns : tie.Need-returns Inv-loop μ-loop
-returns c =
-    let r = c .before .before in
-    let l = r .before .before .loop in
-    let a = r .before .before .before .before .args in
-    ask-short (now (a .bytes)) (l .next .at) (l .left) (a .bound) (a .k) (a .c .at + 4 * a .n) _ (l .inv .1) (r .before .loop-test .taken)
-    (sym (r .read-u32 .ensures) ∙ c .enum-told .given .1)
+add-word4 : tie.Need-add-word4 Inv-loop μ-loop
+add-word4 c = search needs
 
-returns-2 : tie.Need-returns-2 Inv-loop μ-loop
-returns-2 c =
-    let w = c .before .before in
-    let r = w .before .before in
-    let l = r .before .before .loop in
-    let a = r .before .before .before .before .args in
-    ask-not (now (a .bytes)) (l .next .at) (l .left) (a .bound) (a .k) (a .c .at + 4 * a .n) _ (l .inv .1) (r .before .loop-test .taken) _ _
-    (sym (r .read-u32 .ensures) ∙ w .v .given .1) (c .if1 .taken)
+shared-slice-read-word4-2 : tie.Need-shared-slice-read-word4-2 Inv-loop μ-loop
+shared-slice-read-word4-2 c = search needs
 
-sub-left : tie.Need-sub-left Inv-loop μ-loop
-sub-left c = search needs
+add-word4-2 : tie.Need-add-word4-2 Inv-loop μ-loop
+add-word4-2 c = search needs
+
+shared-slice-read-word4-3 : tie.Need-shared-slice-read-word4-3 Inv-loop μ-loop
+shared-slice-read-word4-3 c = search needs
+
+add-word4-3 : tie.Need-add-word4-3 Inv-loop μ-loop
+add-word4-3 c = search needs
+
+shared-slice-read-word4-4 : tie.Need-shared-slice-read-word4-4 Inv-loop μ-loop
+shared-slice-read-word4-4 c = search needs
+
+word4-requires : tie.Need-word4-requires Inv-loop μ-loop
+word4-requires c κs = search needs
+
+add-i : tie.Need-add-i Inv-loop μ-loop
+add-i c = search needs
 
 loop-less : tie.Need-loop-less Inv-loop μ-loop
 loop-less c = search needs
 
 loop-again : tie.Need-loop-again Inv-loop μ-loop
 loop-again c =
-    let w = c .before .before in
-    let r = w .before .before in
-    let l = r .before .before .loop in
-    let a = r .before .before .before .before .args in
-    let g = sym (r .read-u32 .ensures) ∙ w .v .given .1 in
-    let p = wordAt-read (now (a .bytes)) (l .next .at) _ _ g .past in (
-      omega (arith, p),
-      ask-more (now (a .bytes)) (l .next .at) (l .left) (a .bound) (a .k) (a .c .at + 4 * a .n) _ (l .inv .1) (r .before .loop-test .taken) _ _ g (c .if1 .left),
+    let l = c .before .before .before .before .before .before .loop in
+    let a = c .before .before .before .before .before .before .before .before .before .args in (
+      omega arith,
+      l .inv .1,
+      ask-more (now (a .bytes)) (a .c .at) (a .n) (a .bound) (a .k) (l .i) (l .below) (l .inv .2) _ (omega arith) (omega arith) (c .word4 .ensures),
     )
+
+returns : tie.Need-returns Inv-loop μ-loop
+returns c =
+    let l = c .before .before .loop in
+    let a = c .before .before .before .before .before .args in
+    ask-not (now (a .bytes)) (a .c .at) (a .n) (a .bound) (a .k) (l .i) (l .below) (l .inv .2) (not-true _ (c .if1 .taken))
+
+returns-2 : tie.Need-returns-2 Inv-loop μ-loop
+returns-2 c =
+    let l = c .before .before .before .loop in
+    let a = c .before .before .before .before .before .before .args in
+    ask-short (now (a .bytes)) (a .c .at) (a .n) (a .bound) (a .k) (l .i) (l .below) (l .inv .2) (not-false _ (c .before .if1 .left)) (omega arith) (omega arith)
+
+mul-t13 : tie.Need-mul-t13 Inv-loop μ-loop
+mul-t13 c = search needs
+
+add-t27 : tie.Need-add-t27 Inv-loop μ-loop
+add-t27 c = search needs
 
 returns-3 : tie.Need-returns-3 Inv-loop μ-loop
 returns-3 c =
-    let l = c .before .loop in
-    let a = c .before .before .before .args in
-    ask-done (now (a .bytes)) (l .next .at) (l .left) (a .bound) (a .k) (a .c .at + 4 * a .n) _ (l .inv .1) (l .next) (omega arith) (omega arith)
+    let l = c .before .before .before .loop in
+    let a = c .before .before .before .before .before .before .args in
+    ask-done (now (a .bytes)) (a .c .at) (a .n) (a .bound) (a .k) (l .i) (l .below) (l .inv .2) (not-false _ (c .before .if1 .left)) (omega arith)
 
 pub ask-words-spec : {M : Type 1} → statement M
 ask-words-spec =
@@ -82,13 +104,23 @@ ask-words-spec =
     (tie.spec
     Inv-loop
     μ-loop
+    words-held-requires
     loop-holds
-    read-u32-requires
-    enum-known-v
-    enum-told
-    returns
-    returns-2
-    sub-left
+    mul-from
+    add-from
+    shared-slice-read-word4
+    add-word4
+    shared-slice-read-word4-2
+    add-word4-2
+    shared-slice-read-word4-3
+    add-word4-3
+    shared-slice-read-word4-4
+    word4-requires
+    add-i
     loop-less
     loop-again
+    returns
+    returns-2
+    mul-t13
+    add-t27
     returns-3)
