@@ -17,7 +17,7 @@ use Rattle.words.specs.Store.{putWords, All}
 use Rattle.words.specs.Pieces.{wordsOf, flat}
 use Rattle.words.proofs.Held.{flat-length, pieces-flat}
 use Rattle.utf8.specs.Utf8.{isUtf8}
-use Rattle.narg.specs.Reader.{Got, got, stop, word, part, wire, times, items}
+use Rattle.narg.specs.Reader.{Got, got, stop, word, wire, times, items}
 use Rattle.narg.specs.Cursor.{wordAt}
 use Rattle.narg.specs.declared.Cursor.{Cursor}
 use Rattle.narg.specs.declared.Word.the-variants.{Read as ReadWord, Short}

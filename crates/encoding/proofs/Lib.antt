@@ -1,6 +1,4 @@
 pub mod Fields
-pub mod Reading
-pub mod Back
 pub mod Length
 pub mod Stored
 pub mod Told
@@ -10,4 +8,3 @@ pub mod Steps
 pub mod Held
 pub mod Equations
 pub mod Files
-pub mod Examples

@@ -15,14 +15,10 @@ use Rattle.encoding.specs.Read.{readEquation, sizeOf}
 
 -- ---- a field
 module _ {A : Type 0} (g : Got A) (f : A → ℕ) (bytes : List ℕ) where
-  -- a refusal, as it is or as another reader answered it
+  -- a refusal
   pub tell-stop : (k : ℕ) → g ≡ stop k → Told g f bytes (Refused k)
   unfolding Told
   tell-stop k e = e
-
-  pub tell-on : (r : Field) (k : ℕ) → r ≡ Refused k → g ≡ stop k → Told g f bytes r
-  unfolding Told
-  tell-on r k e s = rw e s
 
   pub tell-got : (n words : ℕ) (next : Cursor) (a : A) → g ≡ got a (drop (next .at) bytes) → n ≡ f a → Told g f bytes (Read n words next)
   unfolding Told

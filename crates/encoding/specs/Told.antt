@@ -7,13 +7,16 @@ use mathlib.Core.List.{List}
 use lib.Dec.{leb}
 use lib.ListN.{length, drop}
 use Rattle.words.specs.Store.{putWords}
-use Rattle.narg.specs.Reader.{Got, got, stop, _>>=_, need}
+use Rattle.narg.specs.Reader.{Got, got, stop, _>>=_, need, number}
+use Rattle.narg.specs.Cursor.{wordAt}
 use Rattle.narg.specs.declared.Cursor.{Cursor}
+use Rattle.narg.specs.declared.Word.{Word}
 use Rattle.narg.specs.declared.Item.{Item}
 use Rattle.narg.specs.declared.Item.the-variants.{Read as ReadItem, Refused as RefusedItem}
+use Rattle.reader.specs.At.{partAt}
 use Rattle.allocator.specs.Slots.{Pair, pair}
 use Rattle.expr.specs.Equation.{Term, Equation, termWords, equationWords}
-use Rattle.encoding.specs.Read.{readEquation, sizeOf}
+use Rattle.encoding.specs.Read.{readMagic, readHeader, readEquation, sizeOf}
 use Rattle.encoding.specs.declared.Field.{Field}
 use Rattle.encoding.specs.declared.Field.the-variants.{Read, Refused}
 
@@ -36,6 +39,18 @@ pub record Given {A : Type 0} (g : Got A) (numberOf : A → ℕ) (bytes : List �
 unfoldable pub Told : {A : Type 0} → Got A → (A → ℕ) → (bytes : List ℕ) → Field → Type 0
 Told g numberOf bytes (Read n words next) = Given g numberOf bytes n next
 Told g numberOf bytes (Refused k) = g ≡ stop k
+
+-- ---- a header by its fields: of whatever bytes these are the fields
+-- magic and version: their number, 0 where they end at byte 5
+abbrev pub ToldMagic : (last version : ℕ) (magic mark : List ℕ) (k : ℕ) → Type 0
+ToldMagic last version magic mark k =
+    (s : List ℕ) → magic ≡ partAt s 0 4 → mark ≡ partAt s 4 1 → readMagic last version s ≡ number k (drop 5 s)
+
+-- then the width and the unit length
+abbrev pub ToldHeader : (last version width : ℕ) (magic mark : List ℕ) (w unit : Word) → Field → Type 0
+ToldHeader last version width magic mark w unit r =
+    (s : List ℕ) → magic ≡ partAt s 0 4 → mark ≡ partAt s 4 1 → w ≡ wordAt s 5 → unit ≡ wordAt s 9
+    → Told (readHeader last version width s) (λ u. 0) s r
 
 -- ---- a list of items: their count and how many words they take, written from the start of a store on
 pub record Listed {A : Type 0} (g : Got (List A)) (wordsOf : List A → List ℕ) (bytes before after : List ℕ) (n words : ℕ) (next : Cursor) : Type 0 where

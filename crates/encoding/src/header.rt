@@ -7,8 +7,8 @@ ghost use lib.Dec.{eqb};
 ghost use lib.ListN.{length};
 ghost use Rattle.words.specs.Store.{putWords};
 ghost use Rattle.encoding.specs.Form.{headerBytes};
-ghost use Rattle.encoding.specs.Read.{readMagic, readHeader};
-ghost use Rattle.encoding.specs.Told.{Told};
+ghost use Rattle.encoding.specs.Read.{readHeader};
+ghost use Rattle.encoding.specs.Told.{Told, ToldMagic, ToldHeader};
 use crate::Field;
 use narg::Cursor;
 use narg::Word;
@@ -43,44 +43,65 @@ fn is_magic(a: u8, b: u8, c: u8, d: u8, last: u8) -> bool
     d == last
 }
 
-// Magic and version at the front. Questions 21 and 22, each after 20.
-fn read_magic(bytes: &[u8], last: u8, version: u8) -> Field
-    ensures { λ r. ⌜ Told (readMagic last version (now (bytes .entry))) (λ u. 0) (now (bytes .entry)) r ⌝ }
+// The number that magic and version (the byte in `mark`) answer, or 0. Questions 21 and 22, each after 20.
+fn magic_no(magic: &[u8], mark: &[u8], last: u8, version: u8) -> u32
+    ensures { λ r. ⌜ ToldMagic last version (now (magic .entry)) (now (mark .entry)) r ⌝ }
 {
-    if bytes.len() < 4 {
-        return Field::Refused(20);
+    if magic.len() < 4 {
+        return 20;
     }
-    if !is_magic(bytes[0], bytes[1], bytes[2], bytes[3], last) {
-        return Field::Refused(21);
+    if !is_magic(magic[0], magic[1], magic[2], magic[3], last) {
+        return 21;
     }
-    if bytes.len() < 5 {
-        return Field::Refused(20);
+    if mark.len() < 1 {
+        return 20;
     }
-    if bytes[4] != version {
-        return Field::Refused(22);
+    if mark[0] != version {
+        return 22;
     }
-    Field::Read(0, 0, Cursor { at: 5 })
+    0
 }
 
-// A header of that form, version and width. Questions 21 to 24, each after 20.
-pub(crate) fn read_header(bytes: &[u8], last: u8, version: u8, width: u32) -> Field
-    ensures { λ r. ⌜ Told (readHeader last version width (now (bytes .entry))) (λ u. 0) (now (bytes .entry)) r ⌝ }
+// What the fields of a header answer, whatever bytes they are the fields of. Questions 21 to 24, each after 20.
+fn header_answer<'a>(
+    magic: &'a [u8],
+    mark: &'a [u8],
+    w: Word,
+    unit: Word,
+    last: u8,
+    version: u8,
+    width: u32,
+) -> Field
+    ensures { λ r. ⌜ ToldHeader last version width (now (magic .entry)) (now (mark .entry)) w unit r ⌝ }
 {
-    let magic = read_magic(bytes, last, version);
-    let Field::Read(_, _, c) = magic else {
-        return magic;
-    };
-    let Word::Read(w, after) = narg::read_u32(bytes, c) else {
+    let no = magic_no(magic, mark, last, version);
+    if no != 0 {
+        return Field::Refused(no);
+    }
+    let Word::Read(n, _) = w else {
         return Field::Refused(20);
     };
-    if w != width {
+    if n != width {
         return Field::Refused(23);
     }
-    let Word::Read(unit, next) = narg::read_u32(bytes, after) else {
+    let Word::Read(len, next) = unit else {
         return Field::Refused(20);
     };
-    if unit != 4 {
+    if len != 4 {
         return Field::Refused(24);
     }
     Field::Read(0, 0, next)
+}
+
+// A header of that form, version and width, through a reader: each field where it stands, none or short where the
+// bytes end before it. Questions 21 to 24, each after 20.
+pub(crate) fn read_header(bytes: &[u8], last: u8, version: u8, width: u32) -> Field
+    ensures { λ r. ⌜ Told (readHeader last version width (now (bytes .entry))) (λ u. 0) (now (bytes .entry)) r ⌝ }
+{
+    let start = reader::new(bytes);
+    let magic = reader::take(start, 4);
+    let mark = reader::take(reader::moved(start, Cursor { at: 4 }), 1);
+    let w = reader::read_u32(reader::moved(start, Cursor { at: 5 }));
+    let unit = reader::read_u32(reader::moved(start, Cursor { at: 9 }));
+    header_answer(magic, mark, w, unit, last, version, width)
 }

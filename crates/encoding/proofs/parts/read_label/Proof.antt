@@ -3,7 +3,6 @@
 use Prim.Native.Nat.{_-_}
 use mathlib.Core.Path.{sym, _∙_}
 use native.Mathlib.Omega.{arith}
-use lib.ListN.{length}
 use borrow.Author.Tests.{not-true, not-false}
 use Rattle.encoding.proofs.Files.{label-short, label-start, label-cut, label-bad, label-yes, label-length}
 use Rattle.encoding.proofs.Told.{tell-stop, tell-got}
