@@ -1,0 +1,183 @@
+-- What was written is read: the bytes of sound parts are read as those parts, up to the questions that are
+-- left, which are 10 of each store, 27, 16 and 12 to 15; the bytes of sound steps up to 10 of the trace.
+-- Assumes nothing.
+use Prim.Native.Nat.{ℕ, zero, suc, _+_, _*_, _<_}
+use mathlib.Core.Path.{_≡_, refl, ap, _∙_}
+use mathlib.Core.Bool.{Bool, true, false}
+use mathlib.Core.List.{List, [], _∷_, _++_, append-assoc, append-nil}
+use native.Mathlib.Omega.{arith}
+use borrow.Author.Tests.{eq-eqb}
+use lib.Dec.{leb}
+use lib.ListN.{length}
+use Rattle.limits.specs.Numbers.{prime, maxCount}
+use Rattle.limits.specs.Questions.{ask, _▸_, Question, question, firstNo}
+use Rattle.limits.proofs.Questions.{▸-zero, zero-▸, ▸-assoc}
+use Rattle.words.specs.Store.{All}
+use Rattle.words.specs.Pieces.{wordsOf}
+use Rattle.utf8.specs.Utf8.{isUtf8}
+use Rattle.narg.specs.Bytes.{wordEnd, u32Bytes}
+use Rattle.narg.specs.Reader.{Got, got, Reader, onGot, orStop, _>>=_, _>>_, give, need, number, word, wire, unit, times, items, each, sizes}
+use Rattle.narg.proofs.Fields.{word-law, part-law}
+use Rattle.narg.proofs.Lists.{items-law}
+use Rattle.allocator.specs.Slots.{Pair}
+use Rattle.expr.specs.Equation.{Equation, equationsWords}
+use Rattle.instance.specs.Parts.{Parts}
+use Rattle.instance.specs.Validated.{gateNo}
+use Rattle.encoding.specs.Form.{letterI, letterW, headerBytes, labelBytes, pairBytes, pieceBytes, equationBytes, partsBytes, instanceBytes, witnessBytes}
+use Rattle.encoding.specs.Read.{Rooms, File, readMagic, readHeader, readLabel, readPair, readEquation, pairSize, pieceSize, sizeOf, readPublics, readQueries, readEquations, readParts, readSteps, increasing, gated, ended, file, readFile, readInstance, readWitness}
+use Rattle.encoding.specs.Sound.{SoundPair, SoundEquation, SoundPiece, SoundFile, SoundSteps, roomAsks, orderAsks, gotAfter}
+use Rattle.encoding.proofs.Fields.{pair-law, equation-law, piece-law, sizes-pairs, sizes-pieces, sizes-equations}
+
+-- ---- readers after a number
+pub onGot-after : {A B : Type 0} (k : ℕ) (a : A) (r : List ℕ) (next : A → Reader B) → onGot (gotAfter k (got a r)) next ≡ gotAfter k (next a r)
+onGot-after zero a r next = refl
+onGot-after (suc k) a r next = refl
+
+pub after-after : {A : Type 0} (j k : ℕ) (g : Got A) → gotAfter j (gotAfter k g) ≡ gotAfter (j ▸ k) g
+unfolding _▸_
+after-after zero k g = refl
+after-after (suc j) k g = refl
+
+pub orStop-after : {A : Type 0} (k : ℕ) (b : Bool) (g : Got A) → orStop b (suc k) g ≡ gotAfter (ask (suc k) b) g
+unfolding orStop ask
+orStop-after k true g = refl
+orStop-after k false g = refl
+
+pub need-after : {B : Type 0} (k : ℕ) (b : Bool) (bs : List ℕ) (next : Reader B) → (need (suc k) b >> next) bs ≡ gotAfter (ask (suc k) b) (next bs)
+unfolding ask
+need-after k true bs next = refl
+need-after k false bs next = refl
+
+pub number-after : {B : Type 0} (k : ℕ) (bs : List ℕ) (next : Reader B) → (number k >> next) bs ≡ gotAfter k (next bs)
+number-after zero bs next = refl
+number-after (suc k) bs next = refl
+
+-- ---- header and label
+pub header-law : (last version width : ℕ) (r : List ℕ) → width < wordEnd → readHeader last version width (headerBytes last version width ++ r) ≡ got tt r
+unfolding headerBytes readHeader readMagic
+header-law last version width r h =
+    rw (
+      eq-eqb last last refl,
+      eq-eqb version version refl,
+      append-assoc (u32Bytes width) (u32Bytes 4) r,
+      word-law width (u32Bytes 4 ++ r) h,
+      eq-eqb width width refl,
+      word-law 4 r (omega arith),
+    )
+
+label-law : (label r : List ℕ) → length label < wordEnd → isUtf8 label ≡ true → readLabel (labelBytes label ++ r) ≡ got label r
+unfolding readLabel
+label-law label r h u =
+    rw (append-assoc (u32Bytes (length label)) label r, word-law (length label) (label ++ r) h, part-law label r, u)
+
+-- ---- a count and as many items
+module _ {A : Type 0} (p : Reader A) (enc : A → List ℕ) (Good : A → Type 0) (law : (a : A) (r : List ℕ) → Good a → p (enc a ++ r) ≡ got a r) where
+  pub listed-law : (size : A → ℕ) (room : ℕ) (xs : List A) (r : List ℕ) (total : ℕ) → length xs < wordEnd → All Good xs → sizes size xs ≡ total
+      → (word >>= λ n. items p size room 0 n) (u32Bytes (length xs) ++ (each enc xs ++ r)) ≡ gotAfter (ask 10 (leb total room)) (got xs r)
+  listed-law size room xs r total h g t =
+      let z : 0 + sizes size xs ≡ total = omega arith in
+      rw (word-law (length xs) (each enc xs ++ r) h, items-law p enc Good law size room 0 xs r (omega arith) g, z)
+      (orStop-after 9 (leb total room) (got xs r))
+
+publics-law : (room : ℕ) (ps : List Pair) (r : List ℕ) → length ps < wordEnd → All SoundPair ps
+    → readPublics room (u32Bytes (length ps) ++ (each pairBytes ps ++ r)) ≡ gotAfter (ask 10 (leb (2 * length ps) room)) (got ps r)
+unfolding readPublics
+publics-law room ps r h g = listed-law readPair pairBytes SoundPair pair-law pairSize room ps r _ h g (sizes-pairs ps)
+
+queries-law : (width room : ℕ) (qs : List (List ℕ)) (r : List ℕ) → length qs < wordEnd → All (SoundPiece maxCount width) qs
+    → readQueries width room (u32Bytes (length qs) ++ (each pieceBytes qs ++ r)) ≡ gotAfter (ask 10 (leb (wordsOf width (length qs)) room)) (got qs r)
+unfolding readQueries
+queries-law width room qs r h g =
+    listed-law (times wire (width + width)) pieceBytes (SoundPiece maxCount width) (piece-law maxCount 3 width (omega arith)) (pieceSize width) room qs r _ h g
+    (sizes-pieces width qs)
+
+equations-law : (room : ℕ) (es : List Equation) (r : List ℕ) → length es < wordEnd → All SoundEquation es
+    → readEquations room (u32Bytes (length es) ++ (each equationBytes es ++ r)) ≡ gotAfter (ask 10 (leb (length (equationsWords es)) room)) (got es r)
+unfolding readEquations
+equations-law room es r h g =
+    listed-law readEquation equationBytes SoundEquation equation-law sizeOf room es r _ h g (sizes-equations es)
+
+-- ---- the parts: 10 of each store is left
+pub parts-law : (width : ℕ) (rooms : Rooms) (label : List ℕ) (parts : Parts) (r : List ℕ) → SoundFile width label parts
+    → readParts width rooms (partsBytes parts ++ r) ≡ gotAfter (firstNo (roomAsks width rooms parts)) (got parts r)
+unfolding readParts
+parts-law width rooms label parts r s =
+    let ps = parts .publics in
+    let qs = parts .queries in
+    let es = parts .equations in
+    let re = u32Bytes (length es) ++ (each equationBytes es ++ r) in
+    let rq = u32Bytes (length qs) ++ (each pieceBytes qs ++ re) in
+    let rp = u32Bytes (length ps) ++ (each pairBytes ps ++ rq) in
+    let e : partsBytes parts ++ r ≡ u32Bytes (parts .vars) ++ rp = simp append-assoc in
+    rw (
+      e,
+      word-law (parts .vars) rp (s .vars),
+      publics-law (rooms .publics) ps rq (s .publicsCount) (s .publics),
+      onGot-after _ ps rq _,
+      queries-law width (rooms .queries) qs re (s .queriesCount) (s .queries),
+      onGot-after _ qs re _,
+      equations-law (rooms .equations) es r (s .equationsCount) (s .equations),
+      onGot-after _ es r _,
+      after-after,
+      after-after,
+      ▸-assoc,
+      ▸-zero,
+    )
+
+-- ---- after the parts: 27, then 16 and 12 to 15
+abbrev fileAsks : ℕ → Rooms → Parts → List Question
+fileAsks width rooms parts = roomAsks width rooms parts ++ (question 27 (increasing (parts .publics)) ∷ [])
+
+pub file-law : (version width : ℕ) (rooms : Rooms) (label : List ℕ) (parts : Parts) → SoundFile width label parts
+    → readFile version width rooms (instanceBytes version width label parts) ≡ gotAfter (firstNo (fileAsks width rooms parts)) (got (file label parts) [])
+unfolding readFile instanceBytes
+file-law version width rooms label parts s =
+    rw (
+      header-law letterI version width (labelBytes label ++ partsBytes parts) (s .widthFits),
+      label-law label (partsBytes parts) (s .labelLength) (s .labelUtf8),
+      ← append-nil (partsBytes parts),
+      parts-law width rooms label parts [] s,
+      onGot-after _ parts [] _,
+      need-after 26 (increasing (parts .publics)) [] (give (file label parts)),
+      after-after,
+    )
+    (simp (▸-assoc, ▸-zero))
+
+gate-law : (scratch : ℕ) (f : File) → (gated scratch (f .parts) >> ended >> give f) [] ≡ gotAfter (gateNo (f .parts) scratch) (got f [])
+gate-law scratch f = number-after (gateNo (f .parts) scratch) [] (ended >> give f)
+
+-- ---- SFRI
+pub read-written : (version width : ℕ) (rooms : Rooms) (label : List ℕ) (parts : Parts) → SoundFile width label parts
+    → readInstance version width rooms (instanceBytes version width label parts)
+    ≡ gotAfter (firstNo (roomAsks width rooms parts ++ orderAsks rooms parts)) (got (file label parts) [])
+unfolding readInstance gateNo
+read-written version width rooms label parts s =
+    let f = file label parts in
+    let k = firstNo (fileAsks width rooms parts) in
+    let n = gateNo parts (rooms .scratch) in
+    let e : k ▸ n ≡ firstNo (roomAsks width rooms parts ++ orderAsks rooms parts) = simp (▸-assoc, zero-▸, ▸-zero) in
+    ap (λ (g : Got File). onGot g (λ x. gated (rooms .scratch) (x .parts) >> ended >> give x)) (file-law version width rooms label parts s)
+    ∙ onGot-after k f [] (λ x. gated (rooms .scratch) (x .parts) >> ended >> give x)
+    ∙ ap (gotAfter k) (gate-law (rooms .scratch) f)
+    ∙ after-after k n (got f [])
+    ∙ ap (λ (m : ℕ). gotAfter m (got f [])) e
+
+-- ---- SFRW
+pub steps-law : (width room : ℕ) (steps : List (List ℕ)) (r : List ℕ) → SoundSteps width steps
+    → readSteps width room (u32Bytes (length steps) ++ (each pieceBytes steps ++ r)) ≡ gotAfter (ask 10 (leb (wordsOf width (length steps)) room)) (got steps r)
+unfolding readSteps
+steps-law width room steps r s =
+    listed-law (times unit (width + width)) pieceBytes (SoundPiece prime width) (piece-law prime 4 width (omega arith)) (pieceSize width) room steps r _ (s .count) (s .pieces)
+    (sizes-pieces width steps)
+
+pub read-witness-written : (version width room : ℕ) (steps : List (List ℕ)) → SoundSteps width steps
+    → readWitness version width room (witnessBytes version width steps)
+    ≡ gotAfter (ask 10 (leb (wordsOf width (length steps)) room)) (got steps [])
+unfolding readWitness witnessBytes
+read-witness-written version width room steps s =
+    rw (
+      header-law letterW version width (u32Bytes (length steps) ++ each pieceBytes steps) (s .widthFits),
+      ← append-nil (each pieceBytes steps),
+      steps-law width room steps [] s,
+      onGot-after _ steps [] _,
+    )
