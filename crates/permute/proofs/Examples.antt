@@ -1,14 +1,15 @@
 -- The worked permutation of document 01, computed from the definitions: w = 1, one round, kind 0, constant
--- 2013265920, matrix 5. 2 gives 5 and 3 gives 640; (2, 5) and (3, 640) are evaluations, (2, 6) is none.
--- Assumes nothing.
+-- 2013265920, matrix 5. 2 gives 5 and 3 gives 640; (2, 5) and (3, 640) are evaluations, (2, 6) is none. Of
+-- the steps (2, 5), (2, 6), (3, 640) one is an evaluation up to the first that is none. Assumes nothing.
 use Prim.Native.Nat.{ℕ}
 use mathlib.Core.Path.{_≡_, refl}
 use mathlib.Core.Bool.{true, false}
 use mathlib.Core.List.{List, [], _∷_}
 use Rattle.limits.specs.Questions.{ask, _▸_}
+use Rattle.words.specs.Pieces.{pieces}
 use Rattle.baby_bear.specs.Field.{addUnit, mulUnit, seventh, areUnits, dotUnits}
 use Rattle.permute.specs.Permute.{addConstants, raise, timesMatrix, runRound, runRounds, permute}
-use Rattle.permute.specs.Parameters.{roundsOf, rowsOf, parametersOf, soundKinds, unitConstants, unitRows, soundParameters, permuteNo, sameWords, isEvaluation}
+use Rattle.permute.specs.Parameters.{roundsOf, rowsOf, parametersOf, soundKinds, unitConstants, unitRows, soundParameters, permuteNo, sameWords, isEvaluation, leading}
 
 abbrev words : List ℕ
 words = 0 ∷ 2013265920 ∷ 5 ∷ []
@@ -17,5 +18,6 @@ pub worked : (soundParameters 1 1 words ≡ true)
     × (permute (parametersOf 1 1 words) (2 ∷ []) ≡ 5 ∷ []) × (permute (parametersOf 1 1 words) (3 ∷ []) ≡ 640 ∷ [])
     × (isEvaluation 1 1 words (2 ∷ 5 ∷ []) ≡ true) × (isEvaluation 1 1 words (3 ∷ 640 ∷ []) ≡ true)
     × (isEvaluation 1 1 words (2 ∷ 6 ∷ []) ≡ false)
-unfolding ask _▸_ addUnit mulUnit seventh areUnits dotUnits addConstants raise timesMatrix runRound runRounds roundsOf rowsOf soundKinds unitConstants unitRows soundParameters permuteNo sameWords isEvaluation
-worked = (refl, refl, refl, refl, refl, refl)
+    × (leading (isEvaluation 1 1 words) (pieces 2 3 (2 ∷ 5 ∷ 2 ∷ 6 ∷ 3 ∷ 640 ∷ [])) ≡ 1)
+unfolding ask _▸_ addUnit mulUnit seventh areUnits dotUnits addConstants raise timesMatrix runRound runRounds roundsOf rowsOf soundKinds unitConstants unitRows soundParameters permuteNo sameWords isEvaluation leading
+worked = (refl, refl, refl, refl, refl, refl, refl)

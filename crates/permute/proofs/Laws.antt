@@ -1,15 +1,14 @@
 -- Laws of a permutation for its callers: when it is accepted, what it then leaves, that this is w units, and
 -- what an evaluation is. Assumes nothing.
-use Prim.Native.Nat.{ℕ, _+_, _-_, _*_, _≤_, _<_}
+use Prim.Native.Nat.{ℕ, _+_, _*_, _≤_}
 use mathlib.Core.Path.{_≡_, refl, sym, ap, _∙_}
-use mathlib.Core.Bool.{Bool, true, false}
+use mathlib.Core.Bool.{true, false}
 use mathlib.Core.List.{List}
 use native.Mathlib.Omega.{arith}
 use native.Mathlib.Nat.{mul-le-mul}
 use borrow.Author.Tests.{leb-true, le-leb, eqb-true, eq-eqb, ne-eqb}
 use lib.Dec.{eqb}
-use lib.ListN.{length, take, drop, length-take, length-drop}
-use lib.Seq.{take-all}
+use lib.ListN.{length, take, drop}
 use Rattle.limits.proofs.Questions.{accepted-says, ask-yes, join, onYes-yes, onYes-no}
 use Rattle.baby_bear.specs.Field.{areUnits}
 use Rattle.baby_bear.proofs.Units.{both-true, true-both}
@@ -97,7 +96,7 @@ module _ (w rounds : ℕ) (words step : List ℕ) where
   is-evaluation z e =
       true-both _ _ (eq-eqb _ 0 z) (ap (sameWords (permute (parametersOf w rounds words) (take w step))) (sym e) ∙ sameWords-refl _)
 
-  pub not-evaluation : (permuteNo w rounds words (take w step) ≡ 0 → ⊥) → false ≡ isEvaluation w rounds words step
+  pub not-evaluation : (permuteNo w rounds words (take w step) ≡ 0 → ⊥) → isEvaluation w rounds words step ≡ false
   unfolding isEvaluation
   not-evaluation h = simp (ne-eqb (permuteNo w rounds words (take w step)) 0 h)
 
@@ -105,27 +104,3 @@ module _ (w rounds : ℕ) (words step : List ℕ) where
       → sameWords (permute (parametersOf w rounds words) (take w step)) (drop w step) ≡ isEvaluation w rounds words step
   unfolding isEvaluation
   evaluation-by z = simp (eq-eqb (permuteNo w rounds words (take w step)) 0 z)
-
-  pub too-wide : 24 < w → false ≡ isEvaluation w rounds words step
-  too-wide h = not-evaluation (λ z. absurd (omega (arith, accepted-is w rounds words (take w step) z .most)))
-
-  pub too-few : length step < w → false ≡ isEvaluation w rounds words step
-  too-few h =
-      not-evaluation (λ z. absurd (omega (arith, simp length-take at (accepted-is w rounds words (take w step) z .size))))
-
--- ---- an evaluation as the code finds it: `state` is the first part of the step, `after` what it is turned into
-module _ (w rounds : ℕ) (words step state : List ℕ) (e : state ≡ take (w - 0) step) where
-  first-is : permuteNo w rounds words state ≡ permuteNo w rounds words (take w step)
-  first-is = let z : w - 0 ≡ w = omega arith in ap (permuteNo w rounds words) (e ∙ rw z)
-
-  pub evaluates-no : (n : ℕ) → n ≡ permuteNo w rounds words state → (n ≡ 0 → ⊥) → false ≡ isEvaluation w rounds words step
-  evaluates-no n en h = not-evaluation w rounds words step (λ z. h (en ∙ first-is ∙ z))
-
-  pub evaluates-yes : (n : ℕ) → n ≡ permuteNo w rounds words state → n ≡ 0 → (after : List ℕ) → after ≡ permuted w rounds words state
-      → (r : Bool) → r ≡ sameWords after (take (length step - w) (drop w step)) → r ≡ isEvaluation w rounds words step
-  evaluates-yes n en z after ea r er =
-      let y : w - 0 ≡ w = omega arith in
-      let a : after ≡ permute (parametersOf w rounds words) (take w step) =
-      ea ∙ permuted-yes w rounds words state (sym en ∙ z) ∙ ap (permute (parametersOf w rounds words)) (e ∙ rw y) in
-      let t : take (length step - w) (drop w step) ≡ drop w step = take-all (length step - w) (drop w step) (simp length-drop (omega arith)) in
-      er ∙ rw (a, t) (evaluation-by w rounds words step (sym first-is ∙ sym en ∙ z))

@@ -1,5 +1,5 @@
 pub mod Fill
-pub mod Dot
+pub mod Columns
 pub mod Times
 pub mod Mix
 pub mod Keeps
@@ -7,4 +7,5 @@ pub mod Parameters
 pub mod Run
 pub mod Words
 pub mod Laws
+pub mod Trace
 pub mod Examples

@@ -117,11 +117,11 @@ same-says true b f g = sym (f refl)
 same-says false true f g = g refl
 same-says false false f g = refl
 
-refused : (a : Bool) → (a ≡ true → ⊥) → false ≡ a
+pub refused : (a : Bool) → (a ≡ true → ⊥) → false ≡ a
 refused true f = absurd (f refl)
 refused false f = refl
 
-never : (a : Bool) → a ≡ false → a ≡ true → ⊥
+pub never : (a : Bool) → a ≡ false → a ≡ true → ⊥
 never a e f = let z : _≡_ {A = Bool} false true = cc in let y : _≡_ {A = ℕ} 0 1 = cc in omega arith
 
 -- the length, with the square taken away first

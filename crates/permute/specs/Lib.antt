@@ -1,2 +1,3 @@
 pub mod Permute
 pub mod Parameters
+pub mod Columns

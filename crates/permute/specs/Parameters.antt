@@ -1,12 +1,12 @@
 -- Parameters as words, question 17, and the two questions that other calls put to them: what a state is
--- turned into, and whether a step is an evaluation. Assumes nothing.
+-- turned into, and whether a step is an evaluation; and how many steps of a trace are. Assumes nothing.
 use Prim.Native.Nat.{ℕ, zero, suc, _+_, _*_}
 use mathlib.Core.Bool.{Bool, true, false, _&&_}
 use mathlib.Core.List.{List, [], _∷_}
 use lib.Dec.{leb, ltb, eqb}
 use lib.ListN.{length, getD, take, drop}
 use Rattle.limits.specs.Numbers.{maxCount, maxWidth}
-use Rattle.limits.specs.Questions.{Question, question, firstNo, onYes}
+use Rattle.limits.specs.Questions.{Question, question, firstNo, onYes, pick}
 use Rattle.baby_bear.specs.Field.{areUnits}
 use Rattle.permute.specs.Permute.{Round, roundOf, Parameters, permute}
 
@@ -84,3 +84,8 @@ unfoldable pub isEvaluation : ℕ → ℕ → List ℕ → List ℕ → Bool
 isEvaluation w rounds words step =
     eqb (permuteNo w rounds words (take w step)) 0
     && sameWords (permute (parametersOf w rounds words) (take w step)) (drop w step)
+
+-- how many steps at the front have a property, up to the first that has it not
+unfoldable pub leading : (List ℕ → Bool) → List (List ℕ) → ℕ
+leading evaluation [] = 0
+leading evaluation (s ∷ steps) = pick (evaluation s) (suc (leading evaluation steps)) 0

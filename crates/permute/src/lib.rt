@@ -1,15 +1,17 @@
-// A permutation of units by its parameters: question 17, a state turned in place, and whether a step is an
-// evaluation.
+// A permutation of units by its parameters: question 17, a state turned in place, and how many steps of a
+// trace are evaluations.
 //
 // The parameters (document 01's sheet, in place of the source's `Permutation`) are lent as words: R rounds,
 // each a kind and w constants, then the w·w words of the matrix, row by row. Every function answers on every
 // input; what it answers is a definition of specs/.
 
 ghost use mathlib.Core.Path.{_≡_};
-ghost use Prim.Native.Nat.{_≤_};
+ghost use mathlib.Core.Bool.{true};
+ghost use Prim.Native.Nat.{_+_, _≤_, _<_};
 ghost use lib.ListN.{length};
 ghost use Rattle.limits.specs.Questions.{_▸_, ask};
-ghost use Rattle.permute.specs.Parameters.{soundParameters, permuteNo, permuted, isEvaluation, sameWords};
+ghost use Rattle.words.specs.Pieces.{pieces};
+ghost use Rattle.permute.specs.Parameters.{soundParameters, permuteNo, permuted, sameWords, isEvaluation, leading};
 use limits::MAX_COUNT;
 use limits::MAX_WIDTH;
 
@@ -50,32 +52,68 @@ pub fn permute(width: u32, rounds: u32, params: &[u32], state: &mut [u32]) -> u3
     0
 }
 
-// Does the permutation turn the step's first w units into its last w?
-pub fn is_evaluation(width: u32, rounds: u32, params: &[u32], step: &[u32]) -> bool
-    ensures { λ r. ⌜ r ≡ isEvaluation width rounds (now (params .entry)) (now (step .entry)) ⌝ }
+// How many of the trace's first steps are evaluations, one after the other, up to the first that is none? A
+// step is a piece of 2w words. Question 17 is put once for all of them.
+pub fn evaluations(width: u32, rounds: u32, params: &[u32], trace: &[u32], steps: u32) -> u32
+    ensures { λ r. ⌜ r ≡ leading (isEvaluation width rounds (now (params .entry))) (pieces (width + width) steps (now (trace .entry))) ⌝ }
 {
-    let w = width as usize;
-    if MAX_WIDTH < width {
-        return false;
+    if width < 1 {
+        return 0;
     }
-    if step.len() < w {
-        return false;
+    if MAX_WIDTH < width {
+        return 0;
+    }
+    if !sound::sound_parameters(width, rounds, params) {
+        return 0;
     }
     let mut state = [0u32; 24];
-    evaluates(width, rounds, params, step, &mut state[0..w])
+    leading(
+        rounds as usize,
+        params,
+        trace,
+        steps,
+        &mut state[0..width as usize],
+    )
 }
 
-// The same, with room for the state.
-fn evaluates(width: u32, rounds: u32, params: &[u32], step: &[u32], state: &mut [u32]) -> bool
-    requires { ⌜ (length (now state) ≡ width) × (width ≤ length (now step)) ⌝ }
-    ensures { λ r. ⌜ r ≡ isEvaluation width rounds (now (params .entry)) (now (step .entry)) ⌝ }
+// The same for sound parameters, with room for the state.
+fn leading(rounds: usize, params: &[u32], trace: &[u32], steps: u32, state: &mut [u32]) -> u32
+    requires { ⌜ (soundParameters (length (now state)) rounds (now params) ≡ true)
+        × (0 < length (now state)) × (length (now state) ≤ 24) ⌝ }
+    ensures { λ r. ⌜ r ≡ leading (isEvaluation (length (now (state .entry))) rounds (now (params .entry)))
+        (pieces (length (now (state .entry)) + length (now (state .entry))) steps (now (trace .entry))) ⌝ }
 {
-    let w = width as usize;
-    copy(&step[0..w], &mut *state);
-    let no = permute(width, rounds, params, &mut *state);
-    if no != 0 {
+    let size = state.len() + state.len();
+    let mut i = 0;
+    let mut at = 0;
+    while i < steps {
+        if trace.len() - at < size {
+            return i;
+        }
+        let end = at + size;
+        if !evaluates(rounds, params, &trace[at..end], &mut *state) {
+            return i;
+        }
+        at = end;
+        i += 1;
+    }
+    i
+}
+
+// Does the permutation turn the step's first w units into its last w? They are turned in the room for the
+// state.
+fn evaluates(rounds: usize, params: &[u32], step: &[u32], state: &mut [u32]) -> bool
+    requires { ⌜ (soundParameters (length (now state)) rounds (now params) ≡ true)
+        × (0 < length (now state)) × (length (now state) ≤ 24) × (length (now state) ≤ length (now step)) ⌝ }
+    ensures { λ r. ⌜ r ≡ isEvaluation (length (now (state .entry))) rounds (now (params .entry)) (now (step .entry)) ⌝ }
+{
+    let w = state.len();
+    let first = &step[0..w];
+    if !baby_bear::are_units(first) {
         return false;
     }
+    copy(first, &mut *state);
+    rounds::run_rounds(rounds, params, &mut *state);
     same_words(state, &step[w..])
 }
 

@@ -10,8 +10,10 @@ ghost use lib.ListN.{length};
 ghost use Rattle.limits.specs.Numbers.{prime};
 ghost use Rattle.baby_bear.specs.Field.{areUnits, addUnit, seventh};
 ghost use Rattle.permute.specs.Permute.{addConstants, raise, roundOf, runRound, permute};
-ghost use Rattle.permute.specs.Parameters.{rowsOf, parametersOf, soundParameters};
+ghost use Rattle.permute.specs.Parameters.{parametersOf, soundParameters};
+ghost use Rattle.permute.specs.Columns.{turnedRows};
 use crate::matrix::times_matrix;
+use crate::matrix::turn_matrix;
 use baby_bear::BabyBearUnit;
 use limits::P;
 
@@ -63,16 +65,16 @@ fn mix(kind: u32, constants: &[u32], x: &[u32], out: &mut [u32])
     }
 }
 
-// One round, in place; `mixed` is for what stands between its halves.
-fn run_round(kind: u32, constants: &[u32], matrix: &[u32], state: &mut [u32], mixed: &mut [u32])
-    requires { ⌜ (areUnits (now constants) ≡ true) × (areUnits (now matrix) ≡ true) × (areUnits (now state) ≡ true)
-        × (length (now constants) ≡ length (now state)) × (length (now matrix) ≡ length (now state) * length (now state))
+// One round, in place, with the matrix by columns; `mixed` is for what stands between its halves.
+fn run_round(kind: u32, constants: &[u32], columns: &[u64], state: &mut [u32], mixed: &mut [u32])
+    requires { ⌜ (areUnits (now constants) ≡ true) × (areUnits (now columns) ≡ true) × (areUnits (now state) ≡ true)
+        × (length (now constants) ≡ length (now state)) × (length (now state) * length (now state) ≤ length (now columns))
         × (length (now mixed) ≡ length (now state)) × (0 < length (now state)) × (length (now state) ≤ 24) ⌝ }
-    ensures { λ _. ⌜ now (state .exit) ≡ runRound (rowsOf (length (now (state .entry))) (length (now (state .entry))) (now (matrix .entry)))
+    ensures { λ _. ⌜ now (state .exit) ≡ runRound (turnedRows (length (now (state .entry))) (length (now (state .entry))) 0 (now (columns .entry)))
         (roundOf kind (now (constants .entry))) (now (state .entry)) ⌝ }
 {
     mix(kind, constants, state, &mut *mixed);
-    times_matrix(matrix, mixed, state);
+    times_matrix(columns, mixed, state);
 }
 
 // All rounds, in place.
@@ -83,7 +85,8 @@ pub(crate) fn run_rounds(rounds: usize, params: &[u32], state: &mut [u32])
 {
     let w = state.len();
     let start = rounds * (w + 1);
-    let matrix = &params[start..];
+    let mut columns = [0u64; 576];
+    turn_matrix(&params[start..], w, &mut columns);
     let mut mixed = [0u32; 24];
     let mut i = 0;
     let mut at = 0;
@@ -93,7 +96,7 @@ pub(crate) fn run_rounds(rounds: usize, params: &[u32], state: &mut [u32])
         run_round(
             params[at],
             &params[first..end],
-            matrix,
+            &columns,
             &mut *state,
             &mut mixed[0..w],
         );

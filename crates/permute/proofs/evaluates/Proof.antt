@@ -1,32 +1,39 @@
 -- `permute::evaluates` meets its contract: the first w words are copied, turned and compared with the others.
 -- Assumes nothing.
+use mathlib.Core.Path.{sym, _∙_}
 use borrow.Author.Needs.{needs}
-use Rattle.permute.proofs.Laws.{evaluates-no, evaluates-yes}
+use borrow.Author.Tests.{not-true, not-false}
+use denote.Ref.{now}
+use Rattle.permute.proofs.Trace.{not-units, rounds-asked, evaluates-is}
 use Rattle.permute.proofs.evaluates.Statement.{statement}
 use Rattle.permute.proofs.evaluates.Tie as tie
 
-sub-copy : tie.Need-sub-copy
-sub-copy c = search needs
+sub-first : tie.Need-sub-first
+sub-first c = search needs
 
-part-copy-start : tie.Need-part-copy-start
-part-copy-start c = search needs
+part-first-start : tie.Need-part-first-start
+part-first-start c = search needs
 
-part-copy-end : tie.Need-part-copy-end
-part-copy-end c = search needs
+part-first-end : tie.Need-part-first-end
+part-first-end c = search needs
+
+are-units-requires : tie.Need-are-units-requires
+are-units-requires c κs = search needs
+
+returns : tie.Need-returns
+returns c =
+    let r = c .before .before .before .before .before .before in
+    let p = r .pre in
+    not-units _ _ _ (now (r .args .step)) (p .0) (p .1) (p .2) (p .3) (sym (c .before .are-units .ensures) ∙ not-true _ (c .if1 .taken))
 
 copy-requires : tie.Need-copy-requires
 copy-requires c κs = search needs
 
-permute-requires : tie.Need-permute-requires
-permute-requires c κs = search needs
-
-same-length : tie.Need-same-length
-same-length c = search needs
-
-returns : tie.Need-returns
-returns c =
-    let g = c .before .before .before .before .before .before .before .before .before .before .before .before .before .args in
-    evaluates-no _ _ _ (g .step .now) _ (c .before .before .before .before .before .before .before .copy .ensures) _ (c .before .before .before .permute .ensures .0) (c .if1 .taken)
+run-rounds-requires : tie.Need-run-rounds-requires
+run-rounds-requires c κs =
+    let r = c .before .before .before .before .before .before .before .before .before .before .before in
+    let p = r .pre in
+    rounds-asked _ _ _ (now (r .args .step)) (p .0) (p .1) (p .2) (p .3) (sym (c .before .before .before .before .before .before .are-units .ensures) ∙ not-false _ (c .before .before .before .before .before .if1 .left)) _ (c .before .before .before .copy .ensures)
 
 mul-same-words : tie.Need-mul-same-words
 mul-same-words c = search needs
@@ -43,30 +50,31 @@ part-same-words-end c = search needs
 same-words-requires : tie.Need-same-words-requires
 same-words-requires c κs = search needs
 
-same-length-2 : tie.Need-same-length-2
-same-length-2 c = search needs
+same-length : tie.Need-same-length
+same-length c = search needs
 
 returns-2 : tie.Need-returns-2
 returns-2 c =
-    let g = c .before .before .before .before .before .before .before .before .before .before .before .before .before .before .before .before .args in
-    evaluates-yes _ _ _ (g .step .now) _ (c .before .before .before .before .before .before .before .before .before .before .copy .ensures) _ (c .before .before .before .before .before .before .permute .ensures .0) (c .before .before .before .if1 .left) _ (c .before .before .before .before .before .before .permute .ensures .1)
-    _ (c .same-words .ensures)
+    let r = c .before .before .before .before .before .before .before .before .before .before .before .before .before .before .before .before .before in
+    let p = r .pre in
+    evaluates-is _ _ _ (now (r .args .step)) (p .0) (p .1) (p .2) (p .3) (sym (c .before .before .before .before .before .before .before .before .before .before .before .before .are-units .ensures) ∙ not-false _ (c .before .before .before .before .before .before .before .before .before .before .before .if1 .left)) _ (c .before .before .before .before .before .before .before .before .before .copy .ensures)
+    _ (c .before .before .before .before .before .run-rounds .ensures) _ (c .same-words .ensures)
 
 pub evaluates-spec : {M : Type 1} → statement M
 evaluates-spec =
     tie.close
     (tie.spec
-    sub-copy
-    part-copy-start
-    part-copy-end
-    copy-requires
-    permute-requires
-    same-length
+    sub-first
+    part-first-start
+    part-first-end
+    are-units-requires
     returns
+    copy-requires
+    run-rounds-requires
     mul-same-words
     sub-same-words
     part-same-words-start
     part-same-words-end
     same-words-requires
-    same-length-2
+    same-length
     returns-2)

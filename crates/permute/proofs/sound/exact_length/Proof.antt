@@ -2,13 +2,13 @@
 -- Assumes nothing.
 use native.Mathlib.Omega.{arith}
 use borrow.Author.Needs.{needs}
-use Rattle.baby_bear.proofs.Product.{product-bits}
+use Rattle.limits.proofs.Product.{below}
 use Rattle.permute.proofs.Parameters.{too-short, square-away, rounds-fit}
 use Rattle.permute.proofs.sound.exact_length.Statement.{statement}
 use Rattle.permute.proofs.sound.exact_length.Tie as tie
 
 mul-square : tie.Need-mul-square
-mul-square c = record { fits = product-bits 32 (search needs) (search needs) }
+mul-square c = record { fits = below 32 (search needs) (search needs) }
 
 returns : tie.Need-returns
 returns c = too-short _ _ _ (c .if1 .taken)
