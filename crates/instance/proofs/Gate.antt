@@ -12,7 +12,6 @@ use Rattle.words.specs.Store.{allBelow, putWords}
 use Rattle.words.specs.Pieces.{wordsOf, pieces, flat}
 use Rattle.expr.specs.Equation.{equationsAt}
 use Rattle.permutation.specs.Relation.{relationAsks}
-use Rattle.permutation.specs.Answers.{outcomeOf}
 use Rattle.permutation.specs.declared.Outcome.the-variants as outcome
 use Rattle.permutation.specs.declared.PermutationRelation.{PermutationRelation}
 use Rattle.instance.specs.Parts.{Parts, pairVars, pairWords, has, partsOf}
@@ -115,28 +114,7 @@ module _ (rel : PermutationRelation) (label slots queries equations publics scra
       firstNo-append (preparedAsks rel label slots queries equations (length publics) (length scratch))
       (gateAsks (compiledParts rel slots queries equations) (length scratch))
 
-  -- ---- the answer and the publics, by the number
-  pub compile-yes : number ≡ 0
-      → (compile rel label slots queries equations publics scratch ≡ record { outcome = outcome.Accepted; instance = instanceOf rel (length (publicsOf rel slots)) })
-      × (compilePublics rel label slots queries equations publics scratch ≡ publicsStore (length publics) (publicsOf rel slots))
-  unfolding compile compilePublics
-  compile-yes e = (rw e, rw e)
-
-  pub compile-no : (k : ℕ) → number ≡ suc k
-      → (compile rel label slots queries equations publics scratch ≡ refusedBy (suc k))
-      × (compilePublics rel label slots queries equations publics scratch ≡ replicate (length publics) 0)
-  unfolding compile compilePublics
-  compile-no k e = (rw e, rw e)
-
-  pub accepted-number : compile rel label slots queries equations publics scratch .outcome ≡ outcome.Accepted → number ≡ 0
-  unfolding compile
-  accepted-number e = go number e
-    where
-      go : (k : ℕ) → outcomeOf k ≡ outcome.Accepted → k ≡ 0
-      go zero z = refl
-      go (suc k) z = cc
-
-  -- a refusal answers its number and leaves zeros
+  -- ---- the answer and the publics, by the number: a refusal answers its number and leaves zeros
   abbrev pub Refuses : ℕ → Type 0
   Refuses k =
       (refusedBy k ≡ compile rel label slots queries equations publics scratch)

@@ -1,6 +1,6 @@
 -- The publics of a relation: the assigned wires in index order. Assumes nothing.
 use Prim.Native.Nat.{ℕ, zero, suc, _+_, _*_, _-_, _≤_, _<_}
-use mathlib.Core.Path.{_≡_, refl, ap, ap₂, _∙_}
+use mathlib.Core.Path.{_≡_, refl, ap, _∙_}
 use mathlib.Core.Bool.{Bool, true, false}
 use mathlib.Core.List.{List, [], _∷_, _++_}
 use native.Mathlib.Omega.{arith}
@@ -8,11 +8,11 @@ use native.Mathlib.Numerals.{add-one}
 use native.Mathlib.Nat.{min-le-left, min-le-right}
 use borrow.Author.Tests.{eq-eqb, ne-eqb}
 use lib.Dec.{eqb}
-use lib.ListN.{length, take, drop, getD, set, replicate, length-append, length-replicate, length-take, drop-of-length-le}
+use lib.ListN.{length, take, drop, getD, set, replicate, length-take, drop-of-length-le}
 use lib.Seq.{drop-cons, sets}
 use Rattle.limits.specs.Numbers.{unassigned}
 use Rattle.limits.specs.Questions.{pick}
-use Rattle.words.specs.Store.{putWords, Begins}
+use Rattle.words.specs.Store.{putWords}
 use Rattle.words.proofs.Written.{sets-put}
 use Rattle.allocator.specs.Slots.{Pair, pair}
 use Rattle.instance.specs.Parts.{pairWords}
@@ -55,9 +55,6 @@ fewer i (x ∷ s) = go (eqb x unassigned) (fewer (suc i) s)
 pub take-few : (n : ℕ) (slots : List ℕ) → length (take n slots) ≤ n
 take-few n slots = simp length-take (min-le-left n (length slots))
 
-pub publics-few : (n : ℕ) (slots : List ℕ) → length (publicsFrom 0 (take n slots)) ≤ n
-publics-few n slots = omega (arith, fewer 0 (take n slots), take-few n slots)
-
 pub publics-fewer : (n : ℕ) (slots : List ℕ) → length (publicsFrom 0 (take n slots)) ≤ length slots
 publics-fewer n slots =
     let h = fewer 0 (take n slots) in
@@ -89,16 +86,6 @@ drop-replicate : (n k v : ℕ) → drop k (replicate n v) ≡ replicate (n - k) 
 drop-replicate n zero v = let e : n - 0 ≡ n = omega arith in rw e
 drop-replicate zero (suc k) v = let e : 0 - suc k ≡ 0 = omega arith in rw e
 drop-replicate (suc n) (suc k) v = let e : suc n - suc k ≡ n - k = omega arith in rw e (drop-replicate n k v)
-
--- a store of publics begins with the pairs, and has its length
-pub store-begins : (len : ℕ) (ps : List Pair) → Begins (pairWords ps) (publicsStore len ps)
-store-begins len ps = record { rest = replicate (len - 2 * length ps) 0; is = refl }
-
-pub store-length : (len : ℕ) (ps : List Pair) → 2 * length ps ≤ len → length (publicsStore len ps) ≡ len
-store-length len ps h =
-    length-append (pairWords ps) (replicate (len - 2 * length ps) 0)
-    ∙ ap₂ (λ (a b : ℕ). a + b) (pairWords-length ps) (length-replicate (len - 2 * length ps) 0)
-    ∙ omega arith
 
 pub put-zeros : (len : ℕ) (ps : List Pair) → putWords 0 (pairWords ps) (replicate len 0) ≡ publicsStore len ps
 put-zeros len ps =

@@ -7,23 +7,21 @@ use mathlib.Core.Bool.{Bool, true, false}
 use mathlib.Core.List.{List, [], _∷_}
 use mathlib.Core.Logic.{inl, inr}
 use native.Mathlib.Omega.{arith}
-use borrow.Author.Tests.{le-leb, eqb-false}
+use borrow.Author.Tests.{eqb-false}
 use lib.Dec.{eqb}
 use lib.ListN.{length, take, replicate}
 use Rattle.limits.specs.Numbers.{prime, maxCount, unassigned}
-use Rattle.limits.specs.Questions.{pick, firstNo}
-use Rattle.limits.proofs.Questions.{ask-yes, join}
+use Rattle.limits.specs.Questions.{pick}
 use Rattle.words.specs.Store.{All}
-use Rattle.words.specs.Pieces.{wordsOf}
 use Rattle.words.proofs.Lists.{all-map}
 use Rattle.allocator.specs.Slots.{Pair, pair}
 use Rattle.permutation.specs.declared.PermutationRelation.{PermutationRelation}
 use Rattle.instance.specs.Parts.{pairVars, pairValues}
-use Rattle.instance.specs.Held.{publicsSound, partsAsks, heldAsks}
-use Rattle.instance.specs.Gate.{publicsFrom, publicsOf, publicsStore, instanceOf}
+use Rattle.instance.specs.Held.{publicsSound}
+use Rattle.instance.specs.Gate.{publicsFrom, publicsOf, publicsStore}
 use Rattle.instance.proofs.Parts.{pairsAt-pairWords, pairsAt-take}
-use Rattle.instance.proofs.Publics.{take-few, store-length}
-use Rattle.instance.proofs.Facts.{Below, SoundSlot, facts-allBelow, facts-equationsSound, Compiles}
+use Rattle.instance.proofs.Publics.{take-few}
+use Rattle.instance.proofs.Facts.{Below, SoundSlot, facts-allBelow, Compiles}
 
 -- ---- the wires strictly increase, from a lowest one on
 abbrev pub Rising : ℕ → List Pair → Type 0
@@ -57,10 +55,6 @@ publicsFrom-below i (x ∷ s) =
 
 within : (a b : ℕ) (l : List ℕ) → a ≤ b → Below a l → Below b l
 within a b l h r = all-map (λ (x : ℕ). x < a) (λ (x : ℕ). x < b) l (λ x k. omega arith) r
-
-pub publicsOf-rising : (rel : PermutationRelation) (slots : List ℕ) → Rising 0 (publicsOf rel slots)
-unfolding publicsOf
-publicsOf-rising rel slots = publicsFrom-rising 0 (take (rel .vars) slots)
 
 pub publicsOf-below : (rel : PermutationRelation) (slots : List ℕ) → Below (rel .vars) (pairVars (publicsOf rel slots))
 unfolding publicsOf
@@ -100,22 +94,3 @@ module _ (rel : PermutationRelation) (label slots queries equations : List ℕ) 
       let a = facts-allBelow maxCount (pairVars ps) (within (rel .vars) maxCount (pairVars ps) (c .vars-high) (publicsOf-below rel slots)) in
       let b = facts-allBelow prime (pairValues ps) (publicsOf-values rel slots (c .slots-sound)) in
       rw (e, a, b)
-
-  pub compiled-fits : firstNo (partsAsks (instanceOf rel (length ps)) (length (publicsStore publics ps)) (length queries) (length equations)) ≡ 0
-  compiled-fits =
-      let n = store-length publics ps (c .room) in
-      rw n
-      (join _ _ (ask-yes 2 _ (le-leb _ _ (c .publics-high)))
-      (join _ _ (ask-yes 2 _ (le-leb _ _ (c .queries-high)))
-      (join _ _ (ask-yes 2 _ (le-leb _ _ (c .words-high)))
-      (join _ _ (ask-yes 2 _ (le-leb _ _ (c .room)))
-      (join _ _ (ask-yes 2 _ (le-leb _ _ (c .queries-held)))
-      (join _ _ (ask-yes 2 _ (le-leb _ _ (c .words-held)))
-      (join _ _ (ask-yes 2 _ (le-leb _ _ (c .equations-held))) refl)))))))
-
-  pub compiled-held : firstNo (heldAsks (instanceOf rel (length ps)) label (publicsStore publics ps) queries equations) ≡ 0
-  compiled-held =
-      join _ _ (ask-yes 11 _ (facts-equationsSound (rel .equations) (take (rel .words) equations) (c .ends) (c .equations-sound)))
-      (join _ _ (ask-yes 11 _ publics-sound)
-      (join _ _ (ask-yes 11 _ (facts-allBelow maxCount (take (wordsOf (rel .width) (rel .queries)) queries) (c .queries-sound)))
-      (join _ _ (ask-yes 11 _ (c .label-sound)) refl)))

@@ -1,4 +1,4 @@
--- `validated`: the gate's questions on parts, 12 to 15 (the source's `PermutationInstance::validated`).
+-- `validated`: the gate's questions on parts, 16 and 12 to 15 (the source's `PermutationInstance::validated`).
 -- Assumes nothing.
 use Prim.Native.Nat.{ℕ}
 use mathlib.Core.Bool.{Bool, _||_}

@@ -12,8 +12,8 @@ use lib.Seq.{drop-cons}
 use Rattle.limits.specs.Numbers.{prime}
 use Rattle.limits.specs.Questions.{ask, _▸_}
 use Rattle.allocator.specs.Slots.{Pair, pair, pairs}
-use Rattle.validity.specs.Values.{Values, putAll}
-use Rattle.validity.specs.Check.{fits, cellsNo}
+use Rattle.allocator.specs.Values.{Values, putAll, fits}
+use Rattle.validity.specs.Check.{cellsNo}
 use Rattle.validity.specs.Scratch.{entry, valueAt, Walked}
 use Rattle.validity.proofs.Scratch.{put-entry, put-units, Walking, stopped, ended}
 

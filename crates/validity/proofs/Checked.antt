@@ -15,11 +15,12 @@ use Rattle.limits.proofs.Questions.{stays, goes-on, ask-yes, ask-no}
 use Rattle.words.specs.Store.{allBelow}
 use Rattle.words.specs.Pieces.{wordsOf, pieces}
 use Rattle.allocator.specs.Slots.{Pair}
+use Rattle.allocator.specs.Values.{nothing, putAll}
 use Rattle.expr.specs.Equation.{equationsAt}
 use Rattle.instance.specs.Parts.{heldPublics, heldQueries, heldEquations, pairsAt, partsOf}
 use Rattle.instance.specs.Held.{publicsSound, equationsSound}
 use Rattle.instance.specs.declared.PermutationInstance.{PermutationInstance}
-use Rattle.validity.specs.Values.{nothing, putAll, cells}
+use Rattle.validity.specs.Values.{cells}
 use Rattle.validity.specs.Check.{publicsNo, stepsNo, equationsNo, checkNo}
 use Rattle.validity.specs.Scratch.{valueAt, Walked}
 use Rattle.validity.specs.Valid.{stepsOf, Sound}

@@ -12,9 +12,9 @@ use lib.Seq.{drop-drop}
 use Rattle.limits.specs.Numbers.{prime, maxCount}
 use Rattle.limits.proofs.Questions.{stays, goes-on}
 use Rattle.words.specs.Store.{allBelow}
+use Rattle.allocator.specs.Values.{Values}
 use Rattle.expr.specs.Equation.{Equation, termVars, termWeights, equationSize, equationAt, sizeAt, equationsAt, equationsEnd, equationsHeld}
 use Rattle.instance.specs.Held.{equationsSound}
-use Rattle.validity.specs.Values.{Values}
 use Rattle.validity.specs.Check.{equationNo, equationsNo}
 use Rattle.validity.proofs.Below.{and-both}
 use Rattle.validity.proofs.Sums.{size-at}

@@ -3,6 +3,7 @@ pub mod Scratch
 pub mod Publics
 pub mod Cells
 pub mod Steps
+pub mod Ahead
 pub mod Reduced
 pub mod Sums
 pub mod Equations

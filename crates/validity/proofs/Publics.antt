@@ -13,9 +13,9 @@ use Rattle.limits.specs.Numbers.{prime, maxCount}
 use Rattle.limits.specs.Questions.{ask, _▸_}
 use Rattle.words.specs.Store.{allBelow}
 use Rattle.allocator.specs.Slots.{Pair, pair}
+use Rattle.allocator.specs.Values.{Values, put, putAll}
 use Rattle.instance.specs.Parts.{pairsAt, pairVars, pairValues}
 use Rattle.instance.specs.Held.{publicsSound}
-use Rattle.validity.specs.Values.{Values, put, putAll}
 use Rattle.validity.specs.Check.{publicsNo}
 use Rattle.validity.specs.Scratch.{valueAt, Walked}
 use Rattle.validity.proofs.Below.{and-both, below-cons}

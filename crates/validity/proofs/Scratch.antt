@@ -13,8 +13,7 @@ use Rattle.limits.specs.Numbers.{prime}
 use Rattle.limits.specs.Questions.{pick}
 use Rattle.words.specs.Store.{allBelow}
 use Rattle.allocator.specs.Slots.{Pair}
-use Rattle.validity.specs.Values.{Values, nothing, put}
-use Rattle.validity.specs.Check.{fits}
+use Rattle.allocator.specs.Values.{Values, nothing, put, fits}
 use Rattle.validity.specs.Scratch.{entry, valueAt, Walked}
 use Rattle.validity.proofs.Below.{below-set}
 

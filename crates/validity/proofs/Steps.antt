@@ -5,17 +5,16 @@ use mathlib.Core.Path.{_≡_, refl, sym, ap, _∙_}
 use mathlib.Core.Bool.{Bool, true, false}
 use mathlib.Core.List.{List, [], _∷_, _++_}
 use native.Mathlib.Omega.{arith}
-use native.Mathlib.Nat.{add-sub-cancel-left}
-use borrow.Rule.Slice.PartMut.{mid-len}
 use lib.ListN.{length, take, drop}
-use lib.Seq.{drop-drop}
 use Rattle.limits.specs.Numbers.{prime}
 use Rattle.limits.specs.Questions.{ask, _▸_}
 use Rattle.limits.proofs.Questions.{ask-yes, ask-no, goes-on, stays, ▸-assoc}
 use Rattle.words.specs.Store.{allBelow}
 use Rattle.words.specs.Pieces.{pieces}
 use Rattle.allocator.specs.Slots.{Pair, pairs}
-use Rattle.validity.specs.Values.{Values, putAll, put, cells}
+use Rattle.allocator.specs.Values.{Values, putAll, put}
+use Rattle.permute.proofs.Trace.{pieces-cons}
+use Rattle.validity.specs.Values.{cells}
 use Rattle.validity.specs.Check.{cellsNo, stepsNo}
 use Rattle.validity.specs.Scratch.{valueAt, Walked}
 use Rattle.validity.proofs.Scratch.{Walking, ended}
@@ -47,24 +46,10 @@ pub putAll-append : (g : Values) (ps qs : List Pair) → putAll g (ps ++ qs) ≡
 putAll-append g [] qs = refl
 putAll-append g (p ∷ ps) qs = putAll-append (put p g) ps qs
 
-pieces-cons : (k : ℕ) (s : List ℕ) (at left : ℕ) → 0 < left
-    → pieces k left (drop at s) ≡ take k (drop at s) ∷ pieces k (left - 1) (drop (at + k) s)
-pieces-cons k s at zero h = absurd (let z : ⊥ = omega arith in z)
-pieces-cons k s at (suc m) h = let z : suc m - 1 ≡ m = omega arith in rw (z, drop-drop k at s)
-
 -- the place after a piece, where those that are left fit
 pub piece-fits : (k at left n : ℕ) → at + left * k ≤ n → 0 < left → at + k + (left - 1) * k ≤ n
 piece-fits k at zero n e h = absurd (let z : ⊥ = omega arith in z)
 piece-fits k at (suc m) n e h = let z : suc m - 1 ≡ m = omega arith in rw z (omega arith)
-
--- a piece as it is lent, from its place to its end
-pub lent-piece : (s : List ℕ) (at k : ℕ) → take (at + k - at) (drop at s) ≡ take k (drop at s)
-lent-piece s at k = ap (λ (n : ℕ). take n (drop at s)) (add-sub-cancel-left at k)
-
-pub lent-length : (s : List ℕ) (at k left : ℕ) → at + left * k ≤ length s → 0 < left → length (take (at + k - at) (drop at s)) ≡ k
-lent-length s at k left e h =
-    let f = piece-fits k at left (length s) e h in
-    mid-len at (at + k) s (omega arith) ∙ add-sub-cancel-left at k
 
 -- what is left of the walk over steps
 abbrev pub StepsLeft : (List ℕ → Bool) → (len k : ℕ) → Values → List ℕ → (queries steps : List (List ℕ)) → Type 0

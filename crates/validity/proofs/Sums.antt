@@ -14,8 +14,8 @@ use Rattle.limits.specs.Numbers.{prime}
 use Rattle.limits.specs.Questions.{ask, _▸_}
 use Rattle.words.specs.Store.{allBelow}
 use Rattle.baby_bear.specs.Field.{addUnit, mulUnit}
+use Rattle.allocator.specs.Values.{Values}
 use Rattle.expr.specs.Equation.{Term, termWeights, equationSize, termsAt, equationAt, sizeAt}
-use Rattle.validity.specs.Values.{Values}
 use Rattle.validity.specs.Check.{termsNo, sumFrom, equationNo}
 use Rattle.validity.specs.Scratch.{entry, valueAt}
 use Rattle.validity.proofs.Below.{below-cons}

@@ -2,27 +2,22 @@
 -- below the count, every step an evaluation whose cells agree with what the wires already carry, and every
 -- equation's sum its image. Assumes nothing.
 use Prim.Native.Nat.{ℕ}
-use mathlib.Core.Bool.{Bool, true}
+use mathlib.Core.Bool.{Bool}
 use mathlib.Core.List.{List, [], _∷_}
-use mathlib.Core.Option.{Option, none, some}
 use lib.Dec.{eqb, ltb}
 use lib.ListN.{length}
 use Rattle.limits.specs.Questions.{ask, _▸_}
 use Rattle.baby_bear.specs.Field.{addUnit, mulUnit}
 use Rattle.allocator.specs.Slots.{Pair, pairs}
+use Rattle.allocator.specs.Values.{Values, isSome, nothing, putAll, put, fits}
 use Rattle.expr.specs.Equation.{Term, Equation}
 use Rattle.instance.specs.Parts.{Parts}
-use Rattle.validity.specs.Values.{Values, isSome, orZero, nothing, putAll, put, cells}
+use Rattle.validity.specs.Values.{orZero, cells}
 
 -- 36 of each public wire
 abbrev pub publicsNo : ℕ → List Pair → ℕ
 publicsNo vars [] = 0
 publicsNo vars (p ∷ ps) = ask 36 (ltb (p .var) vars) ▸ publicsNo vars ps
-
--- a wire may carry the unit: it carries nothing yet, or that unit
-abbrev pub fits : Option ℕ → ℕ → Bool
-fits none v = true
-fits (some u) v = eqb u v
 
 -- cell by cell: 36, then 33; the wire then carries the unit
 abbrev pub cellsNo : ℕ → Values → List Pair → ℕ

@@ -8,7 +8,7 @@ use mathlib.Core.Option.{Option, none, some}
 use lib.ListN.{length, getD}
 use Rattle.limits.specs.Numbers.{prime}
 use Rattle.words.specs.Store.{allBelow}
-use Rattle.validity.specs.Values.{Values}
+use Rattle.allocator.specs.Values.{Values}
 
 -- what a word says; the value 0 is told apart from no value
 abbrev pub entry : ℕ → Option ℕ

@@ -42,7 +42,7 @@ isWitnessValidNo ins label publics queries equations steps trace rounds params s
     ▸ checkNo (isEvaluation (ins .width) rounds params) (partsOf ins publics queries equations)
     (stepsOf (ins .width) steps trace)
 
--- yes is Accepted; scratch is all 0 afterwards
+-- yes is Accepted
 abbrev pub isWitnessValid : PermutationInstance → (label publics queries equations : List ℕ)
     → (steps : ℕ) (trace : List ℕ) (rounds : ℕ) (params : List ℕ) (scratch : ℕ) → Outcome
 isWitnessValid ins label publics queries equations steps trace rounds params scratch =

@@ -6,20 +6,21 @@
 
 ghost use mathlib.Core.Path.{_≡_};
 ghost use mathlib.Core.Bool.{true};
-ghost use Prim.Native.Nat.{suc, _+_, _*_, _%_, _<_, _≤_};
+ghost use Prim.Native.Nat.{suc, _+_, _*_, _%_, _<_, _≤_, min};
 ghost use lib.ListN.{length, drop, replicate};
 ghost use Rattle.limits.specs.Numbers.{prime};
-ghost use Rattle.limits.specs.Questions.{ask, _▸_, firstNo};
+ghost use Rattle.limits.specs.Questions.{firstNo, onYes};
 ghost use Rattle.words.specs.Store.{allBelow};
 ghost use Rattle.words.specs.Pieces.{wordsOf, pieces};
 ghost use Rattle.baby_bear.specs.Field.{addUnit, mulUnit};
 ghost use Rattle.allocator.specs.Slots.{pairs};
+ghost use Rattle.allocator.specs.Values.{putAll, fits};
 ghost use Rattle.expr.specs.Equation.{termWeights, equationAt, sizeAt, equationsAt};
-ghost use Rattle.permute.specs.Parameters.{isEvaluation};
+ghost use Rattle.permute.specs.Parameters.{isEvaluation, leading};
 ghost use Rattle.instance.specs.Parts.{pairsAt, partsOf};
 ghost use Rattle.instance.specs.Held.{publicsSound, equationsSound};
-ghost use Rattle.validity.specs.Values.{putAll, cells};
-ghost use Rattle.validity.specs.Check.{publicsNo, fits, cellsNo, stepsNo, equationNo, equationsNo, checkNo};
+ghost use Rattle.validity.specs.Values.{cells};
+ghost use Rattle.validity.specs.Check.{publicsNo, cellsNo, stepsNo, equationNo, equationsNo, checkNo};
 ghost use Rattle.validity.specs.Scratch.{entry, valueAt, Walked};
 ghost use Rattle.validity.specs.Valid.{stepsOf, isWitnessValidAsks, isWitnessValidNo, isWitnessValid, Sound};
 use instance::PermutationInstance;
@@ -98,29 +99,21 @@ fn put_cells(scratch: &mut [u32], vars: &[u32], values: &[u32]) -> u32
     0
 }
 
-// One step: 32, then its cells.
-fn put_step(
-    scratch: &mut [u32],
-    width: u32,
-    rounds: u32,
-    params: &[u32],
-    query: &[u32],
-    step: &[u32],
-) -> u32
-    requires { ⌜ (length (now query) ≡ length (now step)) × (allBelow prime (now step) ≡ true)
-        × (allBelow (suc prime) (now scratch) ≡ true) ⌝ }
-    ensures { λ r. ⌜ Walked (length (now (scratch .entry)))
-        (ask 32 (isEvaluation width rounds (now (params .entry)) (now (step .entry)))
-        ▸ cellsNo (length (now (scratch .entry))) (valueAt (now (scratch .entry))) (pairs (now (query .entry)) (now (step .entry))))
-        (putAll (valueAt (now (scratch .entry))) (pairs (now (query .entry)) (now (step .entry)))) r (now (scratch .exit)) ⌝ }
+// How many steps at the front of those left are known to be evaluations. Where none is, the next 64 are
+// looked at, and question 17 is put once for all of them. Only where a cell is refused was a step evaluated
+// for nothing, and no more than 63 were.
+fn look_ahead(known: u32, width: u32, rounds: u32, params: &[u32], trace: &[u32], left: u32) -> u32
+    ensures { λ r. ⌜ r ≡ onYes known (leading (isEvaluation width rounds (now (params .entry)))
+        (pieces (width + width) (min left 64) (now (trace .entry)))) known ⌝ }
 {
-    if !permute::is_evaluation(width, rounds, params, step) {
-        return 32;
+    if known != 0 {
+        return known;
     }
-    put_cells(scratch, query, step)
+    let steps = if left < 64 { left } else { 64 };
+    permute::evaluations(width, rounds, params, trace, steps)
 }
 
-// All steps, each with the query of the same place.
+// All steps, each with the query of the same place: 32, then its cells.
 fn put_steps(
     scratch: &mut [u32],
     width: u32,
@@ -141,19 +134,18 @@ fn put_steps(
     let size = width as usize + width as usize;
     let mut left = steps;
     let mut at: usize = 0;
+    let mut known = 0;
     while 0 < left {
+        known = look_ahead(known, width, rounds, params, &trace[at..], left);
+        if known == 0 {
+            return 32;
+        }
         let end = at + size;
-        let no = put_step(
-            scratch,
-            width,
-            rounds,
-            params,
-            &queries[at..end],
-            &trace[at..end],
-        );
+        let no = put_cells(scratch, &queries[at..end], &trace[at..end]);
         if no != 0 {
             return no;
         }
+        known -= 1;
         at = end;
         left -= 1;
     }

@@ -11,7 +11,7 @@ use lib.Dec.{lit<}
 use lib.ListN.{length, drop}
 use Rattle.limits.specs.Numbers.{prime}
 use Rattle.allocator.specs.Slots.{pairs}
-use Rattle.validity.specs.Values.{putAll}
+use Rattle.allocator.specs.Values.{putAll}
 use Rattle.validity.specs.Check.{cellsNo}
 use Rattle.validity.specs.Scratch.{valueAt}
 use Rattle.validity.proofs.Below.{below-getD}

@@ -10,8 +10,8 @@ use denote.Ref.{now}
 use lib.ListN.{length, drop}
 use Rattle.limits.specs.Numbers.{prime}
 use Rattle.words.specs.Store.{allBelow}
+use Rattle.allocator.specs.Values.{putAll}
 use Rattle.instance.specs.Parts.{pairsAt, pairValues}
-use Rattle.validity.specs.Values.{putAll}
 use Rattle.validity.specs.Check.{publicsNo}
 use Rattle.validity.specs.Scratch.{valueAt}
 use Rattle.validity.proofs.Scratch.{begins}
