@@ -17,10 +17,10 @@ use Rattle.words.specs.Store.{All}
 use Rattle.words.specs.Pieces.{flat}
 use Rattle.words.proofs.Lists.{all-map}
 use Rattle.allocator.specs.Slots.{Pair}
-use Rattle.allocator.specs.Values.{Under, Agree, Units}
+use Rattle.allocator.specs.Values.{Values, isSome, nothing, putAll, Under, Agree, Units}
 use Rattle.expr.specs.Equation.{Term}
 use Rattle.instance.specs.Parts.{Parts, pairVars, has}
-use Rattle.validity.specs.Values.{Values, isSome, nothing, putAll, cells}
+use Rattle.validity.specs.Values.{cells}
 use Rattle.validity.specs.Check.{equationsNo, checkNo}
 use Rattle.history.specs.Ledger.{Ledger, known}
 use Rattle.history.specs.Sat.{Sat}

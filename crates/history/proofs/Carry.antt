@@ -11,11 +11,9 @@ use Rattle.limits.specs.Numbers.{prime}
 use Rattle.limits.specs.Questions.{pick}
 use Rattle.words.specs.Store.{All}
 use Rattle.allocator.specs.Slots.{Pair}
-use Rattle.allocator.specs.Values.{Under, Agree, Units}
+use Rattle.allocator.specs.Values.{Values, isSome, put, putAll, fits, Under, Agree, Units}
 use Rattle.allocator.proofs.Values.{put-units}
 use Rattle.instance.specs.Parts.{pairVars, has}
-use Rattle.validity.specs.Values.{Values, isSome, put, putAll}
-use Rattle.validity.specs.Check.{fits}
 
 -- what f says of the wire may be put
 pub stays : (g f : Values) (p : Pair) → Under g f → f (p .var) ≡ some (p .value) → Under (put p g) f

@@ -12,6 +12,7 @@ use Rattle.utf8.specs.Utf8.{follow, isUtf8}
 use Rattle.baby_bear.specs.Field.{addUnit, mulUnit, areUnits, seventh, dotUnits}
 use Rattle.allocator.specs.Slots.{pair, pairNo, setRun}
 use Rattle.expr.specs.Equation.{Term, equation, equationAt, sizeAt}
+use Rattle.expr.specs.declared.Weighted.{Weighted}
 use Rattle.permutation.specs.declared.Outcome.the-variants as outcome
 use Rattle.permutation.specs.Numbers.{newNo, allocateVarsNo, setVarNo, setVarsNo, addPermutationNo, allocatePermutationNo, addEquationNo}
 use Rattle.permutation.specs.Answers.{newRelation, setVarsRun}
@@ -27,8 +28,8 @@ use Rattle.narg.specs.Bytes.{u32Bytes}
 use Rattle.narg.specs.Reader.{word, part, below}
 use Rattle.encoding.specs.Form.{headerBytes, instanceBytes, witnessBytes}
 use Rattle.encoding.specs.Read.{readMagic, readHeader, readLabel, readPublics, readQueries, readEquations, readParts, readInstance, readFile, readSteps, readWitness}
-use Rattle.encoding.specs.Answers.{instanceToBytesNo, witnessToBytesNo, instanceFromBytes, witnessFromBytes}
-use Rattle.encoding.proofs.Examples.{outcomes as reads, examples as on-bytes}
+use Rattle.encoding.specs.Answers.{instanceToBytesNo, witnessToBytesNo, instanceFromBytes, witnessFromBytes, labelPart}
+use Rattle.roundtrip.proofs.Examples.{outcomes as reads, examples as on-bytes}
 use Rattle.permutation.proofs.Examples.{Examples, examples}
 use Rattle.history.specs.Sat.{Sat, Evaluates}
 use Rattle.history.specs.Calls.{Call, Allocate, Set, SetList, Record, Mint, Equate, Entry, answer, after, noted, ledger, log}
@@ -37,6 +38,9 @@ use Rattle.history.proofs.Theorem.{whole}
 
 abbrev term : ℕ → ℕ → Term
 term x k = record { var = x; weight = k }
+
+abbrev weighted : ℕ → ℕ → Weighted
+weighted x k = record { var = record { 0 = x }; weight = record { 0 = k } }
 
 -- one round, kind 0, constant p - 1, matrix 5
 abbrev params : List ℕ
@@ -64,7 +68,7 @@ calls =
     ∷ SetList (2 ∷ 7 ∷ []) (5 ∷ 5 ∷ [])
     ∷ SetList (2 ∷ []) []
     ∷ Record (1 ∷ []) (2 ∷ [])
-    ∷ Equate (term 1 3 ∷ []) 6
+    ∷ Equate (weighted 1 3 ∷ []) 6
     ∷ Mint (1 ∷ [])
     ∷ Allocate 1073741824
     ∷ Allocate 1073741821
@@ -166,7 +170,7 @@ abbrev lentTrace : TraceLent
 lentTrace = record { steps = 1; trace = 2 ∷ 5 ∷ 9 ∷ []; out = replicate 25 7; room = 2 }
 
 pub satisfied : Sat (Evaluates 1 (parametersOf 1 1 params)) (lastLedger 1 slots queries equations calls) ((2 ∷ 5 ∷ []) ∷ [])
-unfolding ask _▸_ newNo allocateVarsNo setVarNo setVarsNo addPermutationNo allocatePermutationNo addEquationNo pairNo setRun setVarsRun allBelow answer after compiledParts publicsOf equationAt sizeAt equationsSound publicsSound slotsSound follow isUtf8 compileNo compile compilePublics partsOf checkNo isWitnessValidNo isEvaluation permuteNo soundParameters roundsOf rowsOf soundKinds unitConstants unitRows areUnits sameWords runRounds runRound addConstants raise timesMatrix addUnit mulUnit seventh dotUnits validatedNo gateNo instanceToBytesNo instanceBytes headerBytes u32Bytes instanceFromBytes readInstance readFile readHeader readMagic readLabel readParts readPublics readQueries readEquations word part below witnessToBytesNo witnessBytes witnessFromBytes readWitness readSteps
+unfolding ask _▸_ newNo allocateVarsNo setVarNo setVarsNo addPermutationNo allocatePermutationNo addEquationNo pairNo setRun setVarsRun allBelow answer after compiledParts publicsOf equationAt sizeAt equationsSound publicsSound slotsSound follow isUtf8 compileNo compile compilePublics partsOf checkNo isWitnessValidNo isEvaluation permuteNo soundParameters roundsOf rowsOf soundKinds unitConstants unitRows areUnits sameWords runRounds runRound addConstants raise timesMatrix addUnit mulUnit seventh dotUnits validatedNo gateNo instanceToBytesNo instanceBytes headerBytes u32Bytes instanceFromBytes readInstance readFile readHeader readMagic readLabel readParts readPublics readQueries readEquations word part below witnessToBytesNo witnessBytes witnessFromBytes readWitness readSteps labelPart
 satisfied =
     whole 1 slots queries equations fresh-accepted calls .gated [] publics scratch gate-accepted lentFile
     .checks refl refl lentTrace refl refl 1 params refl 3 (omega arith) (omega arith)

@@ -33,11 +33,11 @@ use Rattle.validity.specs.Valid.{stepsOf, isWitnessValid}
 use Rattle.encoding.specs.Form.{version, headerBytes, instanceBytes, partsBytes}
 use Rattle.encoding.specs.Read.{File, readInstance, file}
 use Rattle.encoding.specs.Sound.{SoundFile, roomAsks, orderAsks, gotAfter}
-use Rattle.encoding.specs.Answers.{instanceToBytes, instanceToBytesAsks, instanceToBytesNo, instanceFromBytes, instanceAnswer, publicsAfter, queriesAfter, equationsAfter, labelStart}
+use Rattle.encoding.specs.Answers.{instanceToBytes, instanceToBytesAsks, instanceToBytesNo, instanceFromBytes, instanceAnswer, publicsAfter, queriesAfter, equationsAfter, labelStart, labelPart}
 use Rattle.encoding.specs.declared.Written.{Written}
 use Rattle.encoding.specs.declared.InstanceRead.{InstanceRead}
 use Rattle.encoding.proofs.Length.{length-instanceBytes}
-use Rattle.encoding.proofs.Reading.{after-after, read-written}
+use Rattle.roundtrip.proofs.Reading.{after-after, read-written}
 use Rattle.permutation.proofs.Answered.{outcome-number}
 use Rattle.history.specs.Ledger.{Ledger}
 use Rattle.history.specs.Sat.{Evaluates}
@@ -251,11 +251,17 @@ module _ (s : State) (l : Ledger) (i : Agrees (s .relation .width) s l)
             publics = length pairs;
           })
 
+      label-held : labelPart (instanceBytes version w (f .label) parts) (length (f .label)) ≡ f .label
+      unfolding labelPart instanceBytes headerBytes u32Bytes
+      label-held =
+          let n = length-instanceBytes version w (f .label) parts (i .inQueries .widths) in
+          let h : labelStart + length (f .label) ≤ length (instanceBytes version w (f .label) parts) = omega (arith, n) in
+          rw (le-leb _ _ h) (take-append-seam (f .label) (partsBytes parts))
+
       label-is : labelBack ≡ f .label
-      unfolding instanceBytes headerBytes u32Bytes
       label-is =
-          ap₂ (λ (g : Got File) (b : List ℕ). take (instanceAnswer w g .label) (drop labelStart b)) got-file bytes-are
-          ∙ take-append-seam (f .label) (partsBytes parts)
+          ap₂ (λ (g : Got File) (b : List ℕ). labelPart b (instanceAnswer w g .label)) got-file bytes-are
+          ∙ label-held
 
       read-holds : HoldsWords s l i publicsBack queriesBack equationsBack
       read-holds = record {

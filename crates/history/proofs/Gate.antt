@@ -18,7 +18,7 @@ use Rattle.words.specs.Store.{All, Begins, allBelow}
 use Rattle.words.specs.Pieces.{flat, pieces, wordsOf}
 use Rattle.words.proofs.Held.{begins-fits, flat-length, pieces-held}
 use Rattle.allocator.specs.Slots.{Pair, pair}
-use Rattle.allocator.specs.Values.{slotUnit}
+use Rattle.allocator.specs.Values.{isSome, slotUnit}
 use Rattle.expr.specs.Equation.{equationsWords, equationsAt, equationsEnd, equationsHeld}
 use Rattle.expr.proofs.Held.{equations-held, end-held, two-each}
 use Rattle.permutation.specs.declared.PermutationRelation.{PermutationRelation}
@@ -28,7 +28,6 @@ use Rattle.instance.specs.Validated.{termwiseAsks, validatedNo}
 use Rattle.instance.specs.Gate.{publicsFrom, publicsOf, compiledParts, compileNo}
 use Rattle.instance.proofs.Facts.{facts-allBelow, SoundSlot, facts-slotsSound}
 use Rattle.instance.proofs.Rising.{publicsOf-below}
-use Rattle.validity.specs.Values.{isSome}
 use Rattle.history.specs.Ledger.{Ledger, known}
 use Rattle.history.specs.Calls.{State}
 use Rattle.history.specs.Left.{numberOf, publicCount, compileLeft}

@@ -11,13 +11,12 @@ use Rattle.words.specs.Store.{All}
 use Rattle.words.specs.Pieces.{flat}
 use Rattle.words.proofs.Lists.{all-map}
 use Rattle.allocator.specs.Slots.{Pair}
-use Rattle.allocator.specs.Values.{look}
+use Rattle.allocator.specs.Values.{isSome, nothing, putAll, look}
 use Rattle.permutation.specs.State.{HoldsSlots}
 use Rattle.instance.specs.Parts.{pairVars, has}
 use Rattle.instance.specs.Validated.{bound}
 use Rattle.instance.proofs.Facts.{Valid}
 use Rattle.instance.specs.Gate.{publicsFrom}
-use Rattle.validity.specs.Values.{isSome, nothing, putAll}
 use Rattle.validity.specs.Check.{checkNo}
 use Rattle.history.specs.Ledger.{Ledger, known}
 use Rattle.history.specs.Demand.{Checked}

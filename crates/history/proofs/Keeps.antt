@@ -3,6 +3,7 @@
 use Prim.Native.Nat.{ℕ}
 use mathlib.Core.Path.{_≡_}
 use mathlib.Core.List.{List, [], _∷_}
+use Rattle.expr.specs.Weighted.{termsOf}
 use Rattle.permutation.specs.Answers.{outcomeNumber, newRelation}
 use Rattle.permutation.specs.State.{Holds}
 use Rattle.permutation.proofs.Keeps.{new-holds, allocateVars-keeps, setVar-keeps, setVars-keeps, addPermutation-keeps, allocatePermutation-keeps, addEquation-keeps}
@@ -25,7 +26,7 @@ keeps w s l i (Set p) = setVar-keeps w _ _ _ _ _ _ _ _ i p
 keeps w s l i (SetList vars values) = setVars-keeps w _ _ _ _ _ _ _ _ i vars values
 keeps w s l i (Record input output) = addPermutation-keeps w _ _ _ _ _ _ _ _ i input output
 keeps w s l i (Mint input) = allocatePermutation-keeps w _ _ _ _ _ _ _ _ i input
-keeps w s l i (Equate terms image) = addEquation-keeps w _ _ _ _ _ _ _ _ i terms image
+keeps w s l i (Equate terms image) = addEquation-keeps w _ _ _ _ _ _ _ _ i (termsOf terms) image
 
 -- every list of calls
 pub keeps-all : (w : ℕ) (cs : List Call) (s : State) (l : Ledger) → Agrees w s l → Agrees w (final s cs) (ledgerOf w l (log s cs))

@@ -12,6 +12,7 @@ use Rattle.words.proofs.Pieces.{wordsOf-suc}
 use Rattle.words.proofs.Written.{put-length}
 use Rattle.allocator.specs.Slots.{Pair, pairs, pairNo, grownSlots, SetRun, ran, setRun}
 use Rattle.expr.specs.Equation.{equation, equationWords}
+use Rattle.expr.specs.Weighted.{termsOf}
 use Rattle.expr.proofs.Held.{length-equation}
 use Rattle.permutation.specs.declared.PermutationRelation.{PermutationRelation}
 use Rattle.permutation.specs.Numbers.{allocateVarsNo, setVarNo, setVarsNo, addPermutationNo, allocatePermutationNo, addEquationNo}
@@ -85,11 +86,11 @@ module _ (s : State) where
       (kept k (queriesWith rel (input ++ up) (s .queries)) (s .queries) (λ z. query-length rel (input ++ up) (s .queries)
       (length-append input up ∙ ap₂ (λ (a b : ℕ). a + b) (yes z .inputs) (upFrom-length (rel .vars) (rel .width))) (yes z .room))) refl
   lengths-kept (Equate terms image) =
-      let e = equation terms image in
+      let e = equation (termsOf terms) image in
       lengths (after s (Equate terms image)) refl refl
-      (kept (addEquationNo rel (length (s .equations)) terms image) (putWords (rel .words) (equationWords e) (s .equations)) (s .equations)
+      (kept (addEquationNo rel (length (s .equations)) (termsOf terms) image) (putWords (rel .words) (equationWords e) (s .equations)) (s .equations)
       (λ z.
-      let y = addEquation-yes rel (length (s .equations)) terms image z in
+      let y = addEquation-yes rel (length (s .equations)) (termsOf terms) image z in
       put-length (rel .words) (equationWords e) (s .equations) (rw (length-equation e) (y .room))))
 
 -- nor does a list of calls

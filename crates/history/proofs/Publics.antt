@@ -12,11 +12,10 @@ use lib.ListN.{getD}
 use Rattle.limits.specs.Numbers.{unassigned}
 use Rattle.limits.specs.Questions.{pick}
 use Rattle.allocator.specs.Slots.{Pair, pair}
-use Rattle.allocator.specs.Values.{slotUnit, look}
+use Rattle.allocator.specs.Values.{Values, isSome, nothing, put, putAll, slotUnit, look}
 use Rattle.allocator.proofs.Values.{put-same}
 use Rattle.instance.specs.Parts.{pairVars, has}
 use Rattle.instance.specs.Gate.{publicsFrom}
-use Rattle.validity.specs.Values.{Values, isSome, nothing, put, putAll}
 
 put-other : (p : Pair) (g : Values) (x : ℕ) → (x ≡ p .var → ⊥) → put p g x ≡ g x
 put-other p g x h = rw (ne-eqb x (p .var) h)

@@ -16,9 +16,9 @@ use Rattle.limits.proofs.Questions.{join, ask-yes}
 use Rattle.words.specs.Store.{All}
 use Rattle.words.specs.Pieces.{flat}
 use Rattle.allocator.specs.Slots.{Pair, pairs}
+use Rattle.allocator.specs.Values.{Values, isSome, put, putAll}
 use Rattle.expr.specs.Equation.{Term, Equation}
 use Rattle.instance.specs.Parts.{pairVars}
-use Rattle.validity.specs.Values.{Values, isSome, put, putAll}
 use Rattle.validity.specs.Check.{publicsNo, cellsNo, stepsNo, termsNo, equationNo, equationsNo, sumFrom}
 use Rattle.history.specs.Demand.{Range, At34, in-this, later}
 use Rattle.history.proofs.Shapes.{all-left, all-right, below-pairs}

@@ -7,8 +7,9 @@ use mathlib.Core.List.{List, [], _∷_}
 use native.Mathlib.Omega.{arith}
 use Rattle.limits.specs.Numbers.{prime}
 use Rattle.baby_bear.specs.Field.{addUnit, mulUnit}
+use Rattle.allocator.specs.Values.{Values}
 use Rattle.expr.specs.Equation.{Term}
-use Rattle.validity.specs.Values.{Values, orZero}
+use Rattle.validity.specs.Values.{orZero}
 use Rattle.validity.specs.Check.{sumFrom}
 use Rattle.history.specs.Sat.{total}
 

@@ -9,6 +9,7 @@ use lib.ListN.{length, set}
 use Rattle.limits.specs.Questions.{ask, _▸_, question, firstNo, onYes}
 use Rattle.limits.proofs.Questions.{goes-on, ▸-zero, firstNo-append}
 use Rattle.allocator.specs.Slots.{Pair, pairs, pairAsks, pairNo, ran, SetRun, setRun}
+use Rattle.expr.specs.Weighted.{termsOf}
 use Rattle.permutation.specs.declared.Outcome.the-variants as outcome
 use Rattle.permutation.specs.Relation.{setVarsAsks}
 use Rattle.permutation.specs.Numbers.{allocateVarsNo, setVarNo, setVarsNo, addPermutationNo, allocatePermutationNo, addEquationNo}
@@ -89,7 +90,7 @@ module _ (w : ℕ) (s : State) (l : Ledger) (i : Agrees w s l) where
   by-ledger-is (SetList vars values) = outcome-number _ ∙ setVars-left w _ _ _ _ _ _ _ _ i vars values
   by-ledger-is (Record input output) = outcome-number _ ∙ addPermutation-left w _ _ _ _ _ _ _ _ i input output
   by-ledger-is (Mint input) = first-number _ _ ∙ allocatePermutation-left w _ _ _ _ _ _ _ _ i input
-  by-ledger-is (Equate terms image) = outcome-number _ ∙ addEquation-left w _ _ _ _ _ _ _ _ i terms image
+  by-ledger-is (Equate terms image) = outcome-number _ ∙ addEquation-left w _ _ _ _ _ _ _ _ i (termsOf terms) image
 
   first-is : (c : Call) → takesVars c ≡ true → answer s c .number ≡ 0 → answer s c .first ≡ l .count
   unfolding answer

@@ -24,7 +24,7 @@ use Rattle.encoding.specs.Read.{readWitness}
 use Rattle.encoding.specs.Sound.{SoundPiece, SoundSteps, gotAfter}
 use Rattle.encoding.specs.Answers.{witnessToBytes, witnessToBytesAsks, witnessToBytesNo, witnessFromBytes, witnessAnswer, traceAfter}
 use Rattle.encoding.proofs.Length.{length-witnessBytes}
-use Rattle.encoding.proofs.Reading.{after-after, read-witness-written}
+use Rattle.roundtrip.proofs.Reading.{after-after, read-witness-written}
 use Rattle.permutation.proofs.Answered.{outcome-number}
 use Rattle.history.specs.Left.{witnessWriteLeft, witnessReadLeft}
 use Rattle.history.specs.Whole.{Accepted, TraceLent, witnessWritten, witnessBytesMade, witnessReadBack, traceReadBack, Traced}

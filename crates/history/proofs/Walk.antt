@@ -14,10 +14,10 @@ use Rattle.limits.specs.Questions.{_▸_}
 use Rattle.limits.proofs.Questions.{both, join, ▸-assoc, says-yes, ask-yes}
 use Rattle.words.specs.Store.{All}
 use Rattle.allocator.specs.Slots.{Pair, pairs}
-use Rattle.allocator.specs.Values.{Under, Agree}
+use Rattle.allocator.specs.Values.{Values, isSome, put, putAll, Under, Agree}
 use Rattle.allocator.proofs.Values.{put-same, put-grows}
 use Rattle.expr.specs.Equation.{Term, Equation}
-use Rattle.validity.specs.Values.{Values, isSome, put, putAll, cells}
+use Rattle.validity.specs.Values.{cells}
 use Rattle.validity.specs.Check.{cellsNo, stepsNo, termsNo, equationsNo}
 use Rattle.history.specs.Sat.{total}
 use Rattle.history.proofs.Sums.{sum-is}

@@ -7,7 +7,9 @@ use lib.ListN.{length, take, set}
 use Rattle.limits.specs.Questions.{Question, question, onYes}
 use Rattle.allocator.specs.Slots.{Pair, pair, pairs, pairAsks}
 use Rattle.allocator.specs.Values.{joins}
-use Rattle.expr.specs.Equation.{Term, Equation, equation}
+use Rattle.expr.specs.Equation.{Equation, equation}
+use Rattle.expr.specs.Weighted.{termsOf}
+use Rattle.expr.specs.declared.Weighted.{Weighted}
 use Rattle.permutation.specs.Relation.{allocateVarsAsks, setVarAsks, setVarsAsks, addPermutationAsks, allocatePermutationAsks, addEquationAsks}
 use Rattle.permutation.specs.Answers.{outcomeNumber, firstNumber, newRelation, newSlots, allocateVars, allocateVarsSlots, setVar, setVarSlots, setVars, setVarsSlots, addPermutation, addPermutationQueries, allocatePermutation, allocatePermutationSlots, allocatePermutationQueries, addEquation, addEquationEquations, upFrom}
 use Rattle.permutation.specs.declared.PermutationRelation.{PermutationRelation}
@@ -24,7 +26,7 @@ pub data Call : Type 0 where
   SetList : (vars values : List ℕ) → Call
   Record : (input output : List ℕ) → Call
   Mint : (input : List ℕ) → Call
-  Equate : List Term → ℕ → Call
+  Equate : (terms : List Weighted) (image : ℕ) → Call
 
 -- the relation's record, and the words of its stores
 pub record State : Type 0 where
@@ -51,7 +53,7 @@ asks s (SetList vars values) =
     ++ (pairsAsks (s .relation .vars) (s .slots) (pairs vars values) ++ (question 9 (eqb (length vars) (length values)) ∷ []))
 asks s (Record input output) = addPermutationAsks (s .relation) (length (s .queries)) input output
 asks s (Mint input) = allocatePermutationAsks (s .relation) (length (s .slots)) (length (s .queries)) input
-asks s (Equate terms image) = addEquationAsks (s .relation) (length (s .equations)) terms image
+asks s (Equate terms image) = addEquationAsks (s .relation) (length (s .equations)) (termsOf terms) image
 
 -- ---- answers: document 01's number, the first new wire, and how many pairs were accepted
 pub record Answer : Type 0 where
@@ -79,7 +81,7 @@ answer s (Set p) = ofOutcome (setVar (s .relation) (s .slots) p)
 answer s (SetList vars values) = ofSetVars (setVars (s .relation) (s .slots) vars values)
 answer s (Record input output) = ofOutcome (addPermutation (s .relation) (s .queries) input output .outcome)
 answer s (Mint input) = ofFirst (allocatePermutation (s .relation) (s .slots) (s .queries) input .first)
-answer s (Equate terms image) = ofOutcome (addEquation (s .relation) (s .equations) terms image .outcome)
+answer s (Equate terms image) = ofOutcome (addEquation (s .relation) (s .equations) (termsOf terms) image .outcome)
 
 -- ---- what a call leaves
 unfoldable pub after : State → Call → State
@@ -97,8 +99,8 @@ after s (Mint input) =
     (allocatePermutationSlots (s .relation) (s .slots) (s .queries) input)
     (allocatePermutationQueries (s .relation) (s .slots) (s .queries) input) (s .equations)
 after s (Equate terms image) =
-    state (addEquation (s .relation) (s .equations) terms image .relation) (s .slots) (s .queries)
-    (addEquationEquations (s .relation) (s .equations) terms image)
+    state (addEquation (s .relation) (s .equations) (termsOf terms) image .relation) (s .slots) (s .queries)
+    (addEquationEquations (s .relation) (s .equations) (termsOf terms) image)
 
 -- what fresh of width w leaves, whatever else lies in the stores
 abbrev pub fresh : ℕ → (slots queries equations : List ℕ) → State
@@ -126,7 +128,7 @@ noted w l (Mint input) a =
     ledger (onYes (a .number) (l .count + w) (l .count)) (l .sets)
     (onYes (a .number) (l .queries ++ ((input ++ upFrom (l .count) w) ∷ [])) (l .queries)) (l .equations)
 noted w l (Equate terms image) a =
-    ledger (l .count) (l .sets) (l .queries) (onYes (a .number) (l .equations ++ (equation terms image ∷ [])) (l .equations))
+    ledger (l .count) (l .sets) (l .queries) (onYes (a .number) (l .equations ++ (equation (termsOf terms) image ∷ [])) (l .equations))
 
 -- ---- a list of calls: what was called and answered, what is left at the end, and the ledger of it
 pub record Entry : Type 0 where

@@ -10,9 +10,9 @@ use lib.ListN.{length}
 use Rattle.limits.specs.Questions.{firstNo}
 use Rattle.words.specs.Store.{All}
 use Rattle.words.specs.Pieces.{flat}
+use Rattle.allocator.specs.Values.{Values}
 use Rattle.expr.specs.Equation.{Term, Equation}
 use Rattle.instance.specs.Parts.{Parts, pairVars}
-use Rattle.validity.specs.Values.{Values}
 use Rattle.validity.specs.Check.{termsNo, equationNo, carried}
 use Rattle.history.specs.Ledger.{Ledger, known}
 use Rattle.history.specs.Sat.{Sat}

@@ -12,6 +12,7 @@ use Rattle.words.specs.Store.{allBelow}
 use Rattle.words.specs.Pieces.{flat, wordsOf}
 use Rattle.utf8.specs.Utf8.{isUtf8}
 use Rattle.expr.specs.Equation.{equationsWords}
+use Rattle.expr.specs.Weighted.{termsOf}
 use Rattle.permutation.specs.Left.{allocateVarsLeft, setVarLeft, setVarsLeft, addPermutationLeft, allocatePermutationLeft, addEquationLeft}
 use Rattle.instance.specs.Parts.{pairVars, has}
 use Rattle.instance.specs.Held.{labelAsks}
@@ -35,7 +36,8 @@ left w lengths l (Record input output) =
     firstNo (addPermutationLeft w (length (l .queries)) (lengths .queries) input output)
 left w lengths l (Mint input) =
     firstNo (allocatePermutationLeft w (l .count) (lengths .slots) (length (l .queries)) (lengths .queries) input)
-left w lengths l (Equate terms image) = firstNo (addEquationLeft (l .equations) (lengths .equations) terms image)
+left w lengths l (Equate terms image) =
+    firstNo (addEquationLeft (l .equations) (lengths .equations) (termsOf terms) image)
 
 -- ---- the gate
 -- of the n wires from i on, how many pass the test?

@@ -7,9 +7,10 @@ use mathlib.Core.Option.{some}
 use lib.ListN.{length, take, drop}
 use Rattle.limits.specs.Numbers.{prime}
 use Rattle.words.specs.Store.{All}
+use Rattle.allocator.specs.Values.{Values, isSome}
 use Rattle.expr.specs.Equation.{Term}
 use Rattle.permute.specs.Permute.{Parameters, permute}
-use Rattle.validity.specs.Values.{Values, isSome, orZero, cells}
+use Rattle.validity.specs.Values.{orZero, cells}
 use Rattle.history.specs.Ledger.{Ledger, known}
 
 -- an assignment gives each known wire one unit, and no other wire any

@@ -18,7 +18,7 @@ use Prim.Native.Nat.{ℕ, _≤_}
 use mathlib.Core.Path.{_≡_}
 use mathlib.Core.Bool.{true}
 use mathlib.Core.List.{List}
-use lib.ListN.{length, take, drop}
+use lib.ListN.{length, take}
 use Rattle.limits.specs.Numbers.{maxCount}
 use Rattle.limits.specs.Questions.{firstNo}
 use Rattle.words.specs.Pieces.{wordsOf}
@@ -33,7 +33,7 @@ use Rattle.instance.specs.declared.PermutationInstance.{PermutationInstance}
 use Rattle.instance.specs.declared.Compiled.{Compiled}
 use Rattle.validity.specs.Valid.{stepsOf, isWitnessValid}
 use Rattle.encoding.specs.Read.{Rooms, File}
-use Rattle.encoding.specs.Answers.{writtenOf, writtenOut, instanceToBytes, instanceToBytesNo, witnessToBytes, witnessToBytesNo, instanceFromBytes, witnessFromBytes, instanceAnswer, publicsAfter, queriesAfter, equationsAfter, witnessAnswer, traceAfter, labelStart}
+use Rattle.encoding.specs.Answers.{writtenOf, writtenOut, instanceToBytes, instanceToBytesNo, witnessToBytes, witnessToBytesNo, instanceFromBytes, witnessFromBytes, instanceAnswer, publicsAfter, queriesAfter, equationsAfter, witnessAnswer, traceAfter, labelPart}
 use Rattle.encoding.specs.declared.Written.{Written}
 use Rattle.encoding.specs.declared.InstanceRead.{InstanceRead}
 use Rattle.encoding.specs.declared.WitnessRead.{WitnessRead}
@@ -122,7 +122,7 @@ module _ (w : ℕ) (s : State) (ins : PermutationInstance) (made : List ℕ) (f 
   instanceReadBack = instanceAnswer w instanceGot
 
   abbrev pub labelReadBack : List ℕ
-  labelReadBack = take (instanceReadBack .label) (drop labelStart instanceBytesMade)
+  labelReadBack = labelPart instanceBytesMade (instanceReadBack .label)
 
   abbrev pub publicsReadBack : List ℕ
   publicsReadBack = publicsAfter (f .rooms .publics) instanceGot

@@ -1,2 +1,6 @@
 pub mod ByKind
-pub mod Runs
+pub mod Lent
+pub mod Reading
+pub mod Steps
+pub mod Examples
+pub mod Every
