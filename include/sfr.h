@@ -1,10 +1,54 @@
-/* The proved library for C: static archive libsfr.a.
+/* The proved library for C: static archive libsfr.a, which `rt staticlib sfr` writes to target/staticlib.
  *
- * Every function answers on every input and never reads or writes outside what it is lent; a refusal changes nothing
- * lent unless its comment says so. A lent list is a pointer and a count of elements; the pointer of an empty list may
- * be anything but null. Numbers are those of document 01, 0 for yes.
+ * Every function answers on every input and never reads or writes outside what it is lent. A call puts questions in
+ * the order that its comment names them in; its number is that of the first one that says no, 0 for yes. Unless the
+ * comment says otherwise, a refusal leaves everything lent as it was, and a yes changes nothing past what it writes.
  *
- * The same declarations stand for Rust in oracle/sfr/src/sys.rs. */
+ * What is lent is a pointer and a count of elements, and this alone is asked of the caller: the pointer isn't null,
+ * not for an empty list either, so many elements are there, aligned, and what a call writes to overlaps nothing else
+ * that it is lent. A comment says how long a list must be for a yes; it may be longer where it doesn't say "exactly".
+ *
+ * Document 01's letters: w is the width, R the rounds of a sheet, p = 2013265921, F = 4294967295. A wire is a u32
+ * below 2^30, a unit one below p. The word stores, all of u32:
+ *   slots      a unit per wire, or F where the wire has no value yet
+ *   queries    2w wires each, inputs then outputs
+ *   equations  each a term count, then wire and weight per term, then the image
+ *   publics    wire and unit pairs
+ *   trace      2w units per step, inputs then outputs
+ *   sheet      per round a kind (0 or 1) and w constants, then w*w matrix units row by row; lent as rounds and words
+ *   scratch    may hold anything before a call, and is all 0 after it
+ *
+ * The questions:
+ *    1  Is w from 1 to 24?
+ *    2  Is each lent word store (every lent list of u32 is one) at most 2^30 words and the label below 2^32 bytes,
+ *       and do the counts fit the stores, with 1 to 2^30 wires in a relation's record?
+ *    3  Is every wire below 2^30?
+ *    4  Is every unit below p? (3 and 4 are put to what is handed in; what stores hold falls under 11.)
+ *    5  Would there be at most 2^30 wires?
+ *    6  Does the slot store hold them?
+ *    7  Is the set wire allocated?
+ *    8  Is its slot F or that value?
+ *    9  Have lent lists of a query or step w words each, and the set list's two lists one length?
+ *   10  Is the store, trace or output written to long enough?
+ *   11  Do the equations end exactly at the used words, are held wires below 2^30, held units below p, slots of
+ *       allocated wires below p or F, and is the label UTF-8?
+ *   12  Are public wires below the wire count?  13  Query wires?
+ *   14  Is the term's wire below the count?  15  Is it bound (public or in a query), or its weight 0?
+ *   16  Has scratch a word per wire?
+ *   17  Has the sheet R <= 128, exactly R(w+1)+w*w words, kinds 0 or 1, units below p?
+ *   20  Do the bytes hold the field?
+ *   21  Is the magic right?  22  Is the version 1?  23  Is the width w?  24  Is the unit length 4?
+ *   25  Is the label UTF-8?
+ *   27  Are publics strictly increasing?
+ *   28  Is nothing left over?
+ *   31  Is there one step per query?
+ *   32  Is the step an evaluation?
+ *   33  Is it the value that the wire already carries?
+ *   34  Has the wire a value?
+ *   35  Is the sum the image?
+ *   36  Is the wire below the wire count?
+ *
+ * The same functions stand for Rust in rust/, behind slices. */
 #ifndef SFR_H
 #define SFR_H
 
@@ -16,45 +60,53 @@
 extern "C" {
 #endif
 
-/* ---- Units: addition and multiplication modulo p = 2013265921, for every two words. ---- */
+#define SFR_PRIME UINT32_C(2013265921)      /* p */
+#define SFR_UNASSIGNED UINT32_C(4294967295) /* F */
+#define SFR_LABEL_AT 17                     /* the byte of an SFRI file at which its label begins */
 
-uint32_t sfr_add(uint32_t a, uint32_t b);
-uint32_t sfr_mul(uint32_t a, uint32_t b);
+/* ---- Units, UTF-8, and words in bytes. ---- */
 
-/* ---- UTF-8 by RFC 3629. ---- */
-
-bool sfr_is_utf8(const uint8_t *bytes, size_t len);
-
-/* ---- Little-endian words in bytes. ---- */
-
-/* number 0 with the word and the place after it; or 20 where the bytes don't hold it, value 0 and next = at. */
+/* A word that was read, and the place after it; after a refusal value is 0 and next the place given. */
 typedef struct {
     uint32_t number;
     uint32_t value;
     size_t next;
 } sfr_word;
 
-/* number 0 with the place after what was read or written; or a refusal and next = at. */
+/* The place after what was read or written; after a refusal the place given. */
 typedef struct {
     uint32_t number;
     size_t next;
 } sfr_place;
 
+/* Sum and product modulo p. No questions, nothing lent: a word of p or more counts as what it leaves modulo p. */
+uint32_t sfr_add(uint32_t a, uint32_t b);
+uint32_t sfr_mul(uint32_t a, uint32_t b);
+
+/* Are the bytes UTF-8 by RFC 3629? No questions; no bytes are. Lent: bytes, only read. */
+bool sfr_is_utf8(const uint8_t *bytes, size_t len);
+
+/* The little-endian word at bytes[at..at+4). Question 20; a place beyond the bytes holds nothing. Lent: bytes, only
+ * read. */
 sfr_word sfr_read_u32(const uint8_t *bytes, size_t len, size_t at);
 
-/* number 0 and the word at out[at..at+4), next = at + 4; or 10 and nothing written. */
+/* Puts a word, little-endian, at out[at..at+4). Question 10. Lent: out. A refusal leaves it as it was. */
 sfr_place sfr_put_u32(uint8_t *out, size_t len, size_t at, uint32_t value);
 
-/* One item of n words from byte `at` on, put at out[place..place+n). Per word 20 where the bytes don't hold it, then 4
- * for a unit of p or more (units) or 3 for a wire of 2^30 or more (vars); after all n words 10 where
- * out_len < place + n. next = at + 4n. */
+/* Reads one item of n units from byte `at` on and puts it at out[place..place+n).
+ * Questions, per word: 20, 4; after all n words 10. Lent: bytes, only read; out, place + n words. A refusal leaves out
+ * as it was. */
 sfr_place sfr_read_units(const uint8_t *bytes, size_t len, size_t at,
                          uint32_t *out, size_t out_len, size_t place, uint32_t n);
+
+/* The same of n wires. Questions, per word: 20, 3; after all n words 10. Lent and left as there. */
 sfr_place sfr_read_vars(const uint8_t *bytes, size_t len, size_t at,
                         uint32_t *out, size_t out_len, size_t place, uint32_t n);
 
 /* ---- Relations. ---- */
-/* A relation's record, handed in and back by value. `words` counts the used words of the equation store. */
+
+/* A relation's record, handed in and back by value: width, counts of wires, queries and equations, and how many words
+ * of the equation store these use. */
 typedef struct {
     uint32_t width;
     uint32_t vars;
@@ -63,13 +115,19 @@ typedef struct {
     uint32_t words;
 } sfr_relation;
 
-/* `first` is the first wire that an allocation answers, and 0 where a call answers none. A refused call gives back the
- * record it was given, a refused sfr_new a record of zeros. */
+/* `first` is the first wire that an allocation or a mint answers, 0 elsewhere and after a refusal. A refused call gives
+ * back the record it was given, a refused sfr_new a record of zeros. */
 typedef struct {
     uint32_t number;
     uint32_t first;
     sfr_relation relation;
 } sfr_relation_answer;
+
+/* One term of an equation: a wire and its weight, a unit. */
+typedef struct {
+    uint32_t var;
+    uint32_t weight;
+} sfr_weighted;
 
 /* How many of a list's first pairs were accepted, after a refusal too. */
 typedef struct {
@@ -77,52 +135,79 @@ typedef struct {
     uint32_t accepted;
 } sfr_tally;
 
-/* value is 0 where there is none. */
+/* A value where there is one; else, and after a refusal, some is false and value 0. */
 typedef struct {
     uint32_t number;
     bool some;
     uint32_t value;
 } sfr_value;
 
+/* yes is false after a refusal. */
 typedef struct {
     uint32_t number;
     bool yes;
 } sfr_flag;
 
+/* Fresh: a relation of that width with wire 0 alone, whose slot becomes 0.
+ * Questions 1, 2, 6. Lent: slots, at least one word. A refusal leaves them as they were. */
 sfr_relation_answer sfr_new(uint32_t width, uint32_t *slots, size_t slots_len);
 
+/* Allocate: the next n wires, whose slots become F; answers the first, the wire count before the call. n may be 0.
+ * Questions 1, 2, 5, 6. Lent: slots, a word per wire with the new ones. A refusal leaves slots and record as they
+ * were. */
 sfr_relation_answer sfr_allocate_vars(sfr_relation rel, uint32_t *slots, size_t slots_len, uint32_t n);
 
-sfr_relation_answer sfr_allocate_permutation(sfr_relation rel,
-                                             uint32_t *slots, size_t slots_len,
-                                             uint32_t *queries, size_t queries_len,
-                                             const uint32_t *input, size_t input_len);
-
-sfr_relation_answer sfr_add_permutation(sfr_relation rel,
-                                        uint32_t *queries, size_t queries_len,
-                                        const uint32_t *input, size_t input_len,
-                                        const uint32_t *output, size_t output_len);
-
-/* The terms are the common pairs of the two lists. */
-sfr_relation_answer sfr_add_equation(sfr_relation rel,
-                                     uint32_t *equations, size_t equations_len,
-                                     const uint32_t *vars, size_t vars_len,
-                                     const uint32_t *weights, size_t weights_len,
-                                     uint32_t image);
-
+/* Set: a wire's value; the same value again is accepted.
+ * Questions 1, 2, 3, 4, 7, 8. Lent: slots, a word per wire. A refusal leaves them as they were. */
 uint32_t sfr_set_var(sfr_relation rel, uint32_t *slots, size_t slots_len, uint32_t var, uint32_t value);
 
-/* The accepted pairs stay set, also where a later one or the lengths are refused. */
+/* Set list: the pairs in order, up to the shorter list's length.
+ * Questions 1, 2; then 3, 4, 7, 8 pair by pair; after the common pairs 9. Lent: slots, a word per wire; vars and
+ * values, only read. A refusal leaves the accepted pairs set, and else all as it was. */
 sfr_tally sfr_set_vars(sfr_relation rel,
                        uint32_t *slots, size_t slots_len,
                        const uint32_t *vars, size_t vars_len,
                        const uint32_t *values, size_t values_len);
 
+/* Record: a query of inputs and outputs; unallocated wires are taken.
+ * Questions 1, 2, 9, 3, 10. Lent: queries, 2w words for each with the new one; input and output, exactly w words each,
+ * only read. A refusal leaves queries and record as they were. */
+sfr_relation_answer sfr_add_permutation(sfr_relation rel,
+                                        uint32_t *queries, size_t queries_len,
+                                        const uint32_t *input, size_t input_len,
+                                        const uint32_t *output, size_t output_len);
+
+/* Mint: allocates w outputs, answered as by sfr_allocate_vars, and records the query, or does neither.
+ * Questions 1, 2, 9, 3, 5, 6, 10. Lent: slots, a word per wire with the w new ones; queries, 2w words for each with the
+ * new one; input, exactly w words, only read. A refusal leaves slots, queries and record as they were. */
+sfr_relation_answer sfr_allocate_permutation(sfr_relation rel,
+                                             uint32_t *slots, size_t slots_len,
+                                             uint32_t *queries, size_t queries_len,
+                                             const uint32_t *input, size_t input_len);
+
+/* Equation: weight times value, summed over the terms, is the image. Kept in order, repeats and zero weights too.
+ * Questions 1, 2, 3 over all wires, 4 over all weights and the image, 10. Lent: equations, the used words and 2 + 2t
+ * more for t terms; terms, only read. A refusal leaves equations and record as they were. */
+sfr_relation_answer sfr_add_equation(sfr_relation rel,
+                                     uint32_t *equations, size_t equations_len,
+                                     const sfr_weighted *terms, size_t terms_len,
+                                     uint32_t image);
+
+/* Every weight of the list times the factor; by 0 too, which keeps the terms.
+ * Questions 3 over all wires, 4 over all weights and the factor. Lent: terms, whose weights are written. A refusal
+ * leaves the list as it was. */
+uint32_t sfr_scale(sfr_weighted *terms, size_t terms_len, uint32_t factor);
+
+/* Value of a wire: its slot; none where that is F or the wire isn't allocated.
+ * Questions 1, 2, 3. Lent: slots, a word per wire, only read. */
 sfr_value sfr_value_of(sfr_relation rel, const uint32_t *slots, size_t slots_len, uint32_t var);
 
+/* Is the wire allocated? Questions 1, 2 of the wire count, 3. Nothing is lent. */
 sfr_flag sfr_is_allocated(sfr_relation rel, uint32_t var);
 
-/* ---- Permutations by their parameters (rounds and words), and traces. ---- */
+/* ---- Permutations by their parameters (document 01's sheet), and traces. ---- */
+
+/* A trace's record, handed in and back by value; a new trace has 0 steps. */
 typedef struct {
     uint32_t width;
     uint32_t steps;
@@ -140,26 +225,42 @@ typedef struct {
     size_t len;
 } sfr_written;
 
-/* The state's units turned in place; a refusal leaves them as they were. */
+/* The state turned in place: the sheet, evaluated once.
+ * Questions 1, 2, 9, 4, 17. Lent: the sheet's words, exactly R(w+1)+w*w, only read; state, exactly w words. A refusal
+ * leaves the state as it was. */
 uint32_t sfr_permute(uint32_t width, uint32_t rounds, const uint32_t *words, size_t words_len,
                      uint32_t *state, size_t state_len);
 
+/* Evaluates a step and appends it: the inputs, then the w outputs that the sheet makes of them.
+ * Questions 1, 2, 9, 4, 17, 10. Lent: trace, 2w words for each step with the new one; input, exactly w words, and the
+ * sheet's words, exactly R(w+1)+w*w, only read. A refusal leaves trace and record as they were. */
 sfr_trace_answer sfr_evaluate_step(sfr_trace rec, uint32_t *trace, size_t trace_len,
                                    const uint32_t *input, size_t input_len,
                                    uint32_t rounds, const uint32_t *words, size_t words_len);
 
+/* Appends a given step, which isn't evaluated.
+ * Questions 1, 2, 9, 4, 10. Lent: trace, 2w words for each step with the new one; input and output, exactly w words
+ * each, only read. A refusal leaves trace and record as they were. */
 sfr_trace_answer sfr_append_step(sfr_trace rec, uint32_t *trace, size_t trace_len,
                                  const uint32_t *input, size_t input_len,
                                  const uint32_t *output, size_t output_len);
 
+/* Writes a trace as SFRW, 17 + 8ws bytes for s steps.
+ * Questions 1, 2, 11 of the held steps, 10. Lent: trace, 2w words per step, only read; out, as many bytes as are
+ * written. A refusal leaves out as it was. */
 sfr_written sfr_witness_to_bytes(sfr_trace rec, const uint32_t *trace, size_t trace_len,
                                  uint8_t *out, size_t out_len);
 
-/* The trace is all 0 after a refusal, and 0 past the steps read. */
+/* Reads SFRW of that width.
+ * Questions 1, 2; field by field 20 and 21 to 24; per step 20 and 4 for each unit, then 10; last 28. Lent: bytes,
+ * exactly as written, only read; trace, 2w words per step, which becomes the steps and then 0 to its end. A refusal
+ * leaves the trace all 0. */
 sfr_trace_answer sfr_witness_from_bytes(uint32_t width, const uint8_t *bytes, size_t len,
                                         uint32_t *trace, size_t trace_len);
 
 /* ---- Instances. ---- */
+
+/* An instance's record: a relation's, with the public count. Its wire count may be any u32. */
 typedef struct {
     uint32_t width;
     uint32_t vars;
@@ -175,14 +276,23 @@ typedef struct {
     sfr_instance instance;
 } sfr_instance_answer;
 
-/* The label is the label_len bytes of the input from byte 17 on; none after a refusal. */
+/* The label is the very part bytes[17..17+label_len) of the input. Zeros, and no label, after a refusal. */
 typedef struct {
     uint32_t number;
     sfr_instance instance;
     size_t label_len;
 } sfr_instance_read;
 
-/* The publics are all 0 after a refusal, and 0 past the pairs held; scratch is all 0 after every call. */
+/* Which of its two parts a heading is: the name where named, else the label; and that part's length. */
+typedef struct {
+    bool named;
+    size_t len;
+} sfr_heading_answer;
+
+/* The gate: an instance of the relation, whose publics are the assigned wires in index order.
+ * Questions 1, 2, 11, 10, 16, 12, 13; then term by term 14, 15. Lent: label, slots, queries and equations, as the
+ * relation's calls left them, only read; publics, 2 words per assigned wire, which become the pairs and then 0 to their
+ * end; scratch, a word per wire. A refusal leaves publics and scratch all 0. */
 sfr_instance_answer sfr_compile(sfr_relation rel,
                                 const uint8_t *label, size_t label_len,
                                 const uint32_t *slots, size_t slots_len,
@@ -191,6 +301,9 @@ sfr_instance_answer sfr_compile(sfr_relation rel,
                                 uint32_t *publics, size_t publics_len,
                                 uint32_t *scratch, size_t scratch_len);
 
+/* Writes an instance, gated or not, as SFRI: 33 bytes, the label's, 8 per public, 8w per query, 4 per used word.
+ * Questions 1, 2, 11, 10. Lent: label and the three stores, only read; out, as many bytes as are written. A refusal
+ * leaves out as it was. */
 sfr_written sfr_instance_to_bytes(sfr_instance ins,
                                   const uint8_t *label, size_t label_len,
                                   const uint32_t *publics, size_t publics_len,
@@ -198,17 +311,32 @@ sfr_written sfr_instance_to_bytes(sfr_instance ins,
                                   const uint32_t *equations, size_t equations_len,
                                   uint8_t *out, size_t out_len);
 
-/* The three stores are all 0 after a refusal, and 0 past the words held; scratch is all 0 after every call. */
+/* Reads SFRI of that width.
+ * Questions 1, 2; field by field 20 and 21 to 25; per item 20 for each word, 3 for a wire and 4 for a unit, then 10;
+ * 27; 16, 12, 13; term by term 14, 15; last 28. Lent: bytes, exactly as written, only read; publics, queries and
+ * equations, which become the words read and then 0 to their end; scratch, a word per wire. A refusal leaves the three
+ * stores and scratch all 0. */
 sfr_instance_read sfr_instance_from_bytes(uint32_t width, const uint8_t *bytes, size_t len,
                                           uint32_t *publics, size_t publics_len,
                                           uint32_t *queries, size_t queries_len,
                                           uint32_t *equations, size_t equations_len,
                                           uint32_t *scratch, size_t scratch_len);
 
+/* Value of a wire in held publics: that of the last pair that lists it, if any does.
+ * Questions 1, 2, 3. Lent: publics, 2 words per pair, only read. */
 sfr_value sfr_public_value(sfr_instance ins, const uint32_t *publics, size_t publics_len, uint32_t var);
 
+/* The heading: the label, or where that has no bytes the name lent with the sheet. No questions. Lent: label and name,
+ * only read; the heading is that very part of what is lent. */
+sfr_heading_answer sfr_heading(const uint8_t *label, size_t label_len, const uint8_t *name, size_t name_len);
+
 /* ---- The check. ---- */
-/* The trace has the instance's width. Scratch is all 0 after every call. */
+
+/* Is the trace, of the instance's width, a witness of the instance, gated or not, under the sheet? Yes is 0.
+ * Questions 1, 2, 17, 11, 16, 31; 36 of the publics; per step 32, then per cell 36, 33; per equation 34 term by term,
+ * then 35. Where publics list a wire twice, the later value counts. Lent: label, the three stores, trace, 2w words per
+ * step, and the sheet's words, exactly R(w+1)+w*w, only read; scratch, a word per wire. Whatever the answer, scratch
+ * is all 0 afterwards and the rest as it was. */
 uint32_t sfr_is_witness_valid(sfr_instance ins,
                               const uint8_t *label, size_t label_len,
                               const uint32_t *publics, size_t publics_len,

@@ -2,8 +2,9 @@
 -- Assumes nothing.
 use Prim.Native.Nat.{ℕ}
 use mathlib.Core.Bool.{true, false}
-use Rattle.permutation.specs.declared.Outcome.{Outcome}
-use Rattle.permutation.specs.declared.Outcome.the-variants as outcome
+use Rattle.expr.specs.declared.Scaled.{Scaled}
+use Rattle.expr.specs.declared.Scaled.the-variants as scaling
+use Rattle.permutation.specs.Answers.{outcomeNumber, firstNumber}
 use Rattle.permutation.specs.declared.First.{First}
 use Rattle.permutation.specs.declared.First.the-variants as first
 use Rattle.permutation.specs.declared.Recorded.{Recorded}
@@ -18,26 +19,24 @@ use Rattle.sfr.specs.declared.relation.SfrTally.{SfrTally}
 use Rattle.sfr.specs.declared.relation.SfrValue.{SfrValue}
 use Rattle.sfr.specs.declared.relation.SfrFlag.{SfrFlag}
 
-abbrev pub outcomeNo : Outcome → ℕ
-outcomeNo outcome.Accepted = 0
-outcomeNo (outcome.Refused k) = k
+-- document 01's number of a scaling
+abbrev pub scaledNumber : Scaled → ℕ
+scaledNumber scaling.Accepted = 0
+scaledNumber (scaling.Refused k) = k
 
-abbrev pub firstNo : First → ℕ
-firstNo (first.Var x) = 0
-firstNo (first.Refused k) = k
-
+-- the first wire of an allocation, or 0
 abbrev pub firstVar : First → ℕ
 firstVar (first.Var x) = x
 firstVar (first.Refused k) = 0
 
 abbrev pub recordedAnswer : Recorded → SfrRelationAnswer
-recordedAnswer r = record { number = outcomeNo (r .outcome); first = 0; relation = r .relation }
+recordedAnswer r = record { number = outcomeNumber (r .outcome); first = 0; relation = r .relation }
 
 abbrev pub allocatedAnswer : Allocated → SfrRelationAnswer
-allocatedAnswer r = record { number = firstNo (r .first); first = firstVar (r .first); relation = r .relation }
+allocatedAnswer r = record { number = firstNumber (r .first); first = firstVar (r .first); relation = r .relation }
 
 abbrev pub tallyOf : SetVars → SfrTally
-tallyOf r = record { number = outcomeNo (r .outcome); accepted = r .accepted }
+tallyOf r = record { number = outcomeNumber (r .outcome); accepted = r .accepted }
 
 abbrev pub valueAnswer : VarValue → SfrValue
 valueAnswer (varValue.Value v) = record { number = 0; some = true; value = v }

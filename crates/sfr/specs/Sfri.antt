@@ -1,8 +1,8 @@
 -- The answer of a read as a struct for C: document 01's number, the instance's record and the label's length.
 -- Assumes nothing.
 use Rattle.encoding.specs.declared.InstanceRead.{InstanceRead}
-use Rattle.sfr.specs.Relation.{outcomeNo}
+use Rattle.permutation.specs.Answers.{outcomeNumber}
 use Rattle.sfr.specs.declared.sfri.SfrInstanceRead.{SfrInstanceRead}
 
 abbrev pub readAnswer : InstanceRead → SfrInstanceRead
-readAnswer r = record { number = outcomeNo (r .outcome); instance = r .instance; label = r .label }
+readAnswer r = record { number = outcomeNumber (r .outcome); instance = r .instance; label = r .label }

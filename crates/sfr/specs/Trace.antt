@@ -7,15 +7,15 @@ use Rattle.witness.specs.declared.PermutationWitness.{PermutationWitness}
 use Rattle.witness.specs.declared.Traced.{Traced}
 use Rattle.encoding.specs.declared.Written.{Written}
 use Rattle.encoding.specs.declared.WitnessRead.{WitnessRead}
-use Rattle.sfr.specs.Relation.{outcomeNo}
+use Rattle.permutation.specs.Answers.{outcomeNumber}
 use Rattle.sfr.specs.declared.trace.SfrTraceAnswer.{SfrTraceAnswer}
 use Rattle.sfr.specs.declared.trace.SfrWritten.{SfrWritten}
 
 abbrev pub tracedAnswer : Traced → SfrTraceAnswer
-tracedAnswer t = record { number = outcomeNo (t .outcome); trace = t .witness }
+tracedAnswer t = record { number = outcomeNumber (t .outcome); trace = t .witness }
 
 abbrev pub writtenAnswer : Written → SfrWritten
-writtenAnswer w = record { number = outcomeNo (w .outcome); len = w .len }
+writtenAnswer w = record { number = outcomeNumber (w .outcome); len = w .len }
 
 -- a trace that was read has the width that it was read at; after a refusal the record is zeros
 abbrev pub readRecord : ℕ → Outcome → ℕ → PermutationWitness
@@ -23,4 +23,4 @@ readRecord width outcome.Accepted steps = record { width = width; steps = steps 
 readRecord width (outcome.Refused k) steps = record { width = 0; steps = 0 }
 
 abbrev pub traceRead : ℕ → WitnessRead → SfrTraceAnswer
-traceRead width r = record { number = outcomeNo (r .outcome); trace = readRecord width (r .outcome) (r .steps) }
+traceRead width r = record { number = outcomeNumber (r .outcome); trace = readRecord width (r .outcome) (r .steps) }

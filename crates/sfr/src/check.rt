@@ -3,7 +3,7 @@
 ghost use mathlib.Core.Path.{_≡_};
 ghost use lib.ListN.{length, replicate};
 ghost use Rattle.validity.specs.Valid.{isWitnessValid};
-ghost use Rattle.sfr.specs.Relation.{outcomeNo};
+ghost use Rattle.permutation.specs.Answers.{outcomeNumber};
 use crate::relation::outcome_no;
 use instance::PermutationInstance;
 
@@ -20,7 +20,7 @@ pub extern "C" fn sfr_is_witness_valid(
     params: &[u32],
     scratch: &mut [u32],
 ) -> u32
-    ensures { λ r. ⌜ (r ≡ outcomeNo (isWitnessValid ins (now (label .entry)) (now (publics .entry)) (now (queries .entry)) (now (equations .entry)) steps (now (trace .entry)) rounds (now (params .entry)) (length (now (scratch .entry)))))
+    ensures { λ r. ⌜ (r ≡ outcomeNumber (isWitnessValid ins (now (label .entry)) (now (publics .entry)) (now (queries .entry)) (now (equations .entry)) steps (now (trace .entry)) rounds (now (params .entry)) (length (now (scratch .entry)))))
         × (now (scratch .exit) ≡ replicate (length (now (scratch .entry))) 0) ⌝ }
 {
     outcome_no(validity::is_witness_valid(

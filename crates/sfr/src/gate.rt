@@ -1,10 +1,10 @@
-// The gate and the value of a wire in an instance, for C.
+// The gate, the value of a wire in an instance and its heading, for C.
 
 ghost use mathlib.Core.Path.{_≡_};
 ghost use lib.ListN.{length, replicate};
 ghost use Rattle.instance.specs.Gate.{compile, compilePublics, publicValue};
 ghost use Rattle.sfr.specs.Relation.{valueAnswer};
-ghost use Rattle.sfr.specs.Gate.{compiledAnswer};
+ghost use Rattle.sfr.specs.Gate.{compiledAnswer, headingAnswer};
 use crate::relation::SfrValue;
 use crate::relation::outcome_no;
 use crate::relation::value_answer;
@@ -47,4 +47,22 @@ pub extern "C" fn sfr_public_value(ins: PermutationInstance, publics: &[u32], va
     ensures { λ r. ⌜ r ≡ valueAnswer (publicValue ins (now (publics .entry)) var) ⌝ }
 {
     value_answer(instance::value(ins, publics, FieldVar(var)))
+}
+
+// The heading: the name where `named`, else the label, and its length.
+#[repr(C)]
+pub struct SfrHeading {
+    pub named: bool,
+    pub len: usize,
+}
+
+// A reference cannot go back to C, so the answer says which of the two lent lists the heading is.
+#[no_mangle]
+pub extern "C" fn sfr_heading<'a>(label: &'a [u8], name: &'a [u8]) -> SfrHeading
+    ensures { λ r. ⌜ r ≡ headingAnswer (length (now (label .entry))) (length (now (name .entry))) ⌝ }
+{
+    let part = instance::heading(label, name);
+    let len = part.len();
+    let named = label.len() == 0;
+    SfrHeading { named, len }
 }

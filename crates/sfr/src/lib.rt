@@ -1,5 +1,5 @@
 // The proved functions for C and Rust: the static library libsfr.a (`rt staticlib sfr`), declared in
-// include/sfr.h and oracle/sfr/src/sys.rs.
+// include/sfr.h and rust/src/sys.rs.
 //
 // Each function here only hands its arguments on; what comes back is its own struct with document 01's number
 // first, 0 for yes. A lent list is a pointer and a count.

@@ -2,12 +2,14 @@
 
 ghost use mathlib.Core.Path.{_≡_};
 ghost use Rattle.allocator.specs.Slots.{pair};
-ghost use Rattle.expr.specs.Equation.{termsOf};
-ghost use Rattle.permutation.specs.Answers.{newRelation, newSlots, allocateVars, allocateVarsSlots, setVar, setVarSlots, setVars, setVarsSlots, valueOf, isAllocated};
+ghost use Rattle.expr.specs.Weighted.{termsOf, scaled, scaledTerms};
+ghost use Rattle.permutation.specs.Answers.{outcomeNumber, newRelation, newSlots, allocateVars, allocateVarsSlots, setVar, setVarSlots, setVars, setVarsSlots, valueOf, isAllocated};
 ghost use Rattle.permutation.specs.Answers.{addPermutation, addPermutationQueries, allocatePermutation, allocatePermutationSlots, allocatePermutationQueries, addEquation, addEquationEquations};
-ghost use Rattle.sfr.specs.Relation.{outcomeNo, recordedAnswer, allocatedAnswer, tallyOf, valueAnswer, flagOf};
+ghost use Rattle.sfr.specs.Relation.{recordedAnswer, allocatedAnswer, tallyOf, scaledNumber, valueAnswer, flagOf};
 use allocator::FieldVar;
 use baby_bear::BabyBearUnit;
+use expr::Scaled;
+use expr::Weighted;
 use permutation::Allocated;
 use permutation::First;
 use permutation::IsAllocated;
@@ -47,7 +49,7 @@ pub struct SfrFlag {
 
 // Document 01's number of an outcome.
 pub(crate) fn outcome_no(o: Outcome) -> u32
-    ensures { λ r. ⌜ r ≡ outcomeNo o ⌝ }
+    ensures { λ r. ⌜ r ≡ outcomeNumber o ⌝ }
 {
     match o {
         Outcome::Accepted => 0,
@@ -111,7 +113,7 @@ pub extern "C" fn sfr_set_var(
     var: u32,
     value: u32,
 ) -> u32
-    ensures { λ r. ⌜ (r ≡ outcomeNo (setVar rel (now (slots .entry)) (pair var value))) × (now (slots .exit) ≡ setVarSlots rel (now (slots .entry)) (pair var value)) ⌝ }
+    ensures { λ r. ⌜ (r ≡ outcomeNumber (setVar rel (now (slots .entry)) (pair var value))) × (now (slots .exit) ≡ setVarSlots rel (now (slots .entry)) (pair var value)) ⌝ }
 {
     outcome_no(permutation::set_var(rel, slots, FieldVar(var), BabyBearUnit(value)))
 }
@@ -162,13 +164,30 @@ pub extern "C" fn sfr_allocate_permutation(
 pub extern "C" fn sfr_add_equation(
     rel: PermutationRelation,
     equations: &mut [u32],
-    vars: &[u32],
-    weights: &[u32],
+    terms: &[Weighted],
     image: u32,
 ) -> SfrRelationAnswer
-    ensures { λ r. ⌜ (r ≡ recordedAnswer (addEquation rel (now (equations .entry)) (termsOf (now (vars .entry)) (now (weights .entry))) image)) × (now (equations .exit) ≡ addEquationEquations rel (now (equations .entry)) (termsOf (now (vars .entry)) (now (weights .entry))) image) ⌝ }
+    ensures { λ r. ⌜ (r ≡ recordedAnswer (addEquation rel (now (equations .entry)) (termsOf (now (terms .entry))) image)) × (now (equations .exit) ≡ addEquationEquations rel (now (equations .entry)) (termsOf (now (terms .entry))) image) ⌝ }
 {
-    recorded_answer(permutation::add_equation(rel, equations, vars, weights, BabyBearUnit(image)))
+    recorded_answer(permutation::add_equation(rel, equations, terms, BabyBearUnit(image)))
+}
+
+// Document 01's number of a scaling.
+fn scaled_no(s: Scaled) -> u32
+    ensures { λ r. ⌜ r ≡ scaledNumber s ⌝ }
+{
+    match s {
+        Scaled::Accepted => 0,
+        Scaled::Refused(k) => k,
+    }
+}
+
+// Every weight of the list times the factor, or the list as it was.
+#[no_mangle]
+pub extern "C" fn sfr_scale(terms: &mut [Weighted], factor: u32) -> u32
+    ensures { λ r. ⌜ (r ≡ scaledNumber (scaled (now (terms .entry)) factor)) × (now (terms .exit) ≡ scaledTerms (now (terms .entry)) factor) ⌝ }
+{
+    scaled_no(expr::scale(terms, BabyBearUnit(factor)))
 }
 
 // What a look at a value answers, for C.

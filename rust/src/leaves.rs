@@ -1,0 +1,58 @@
+//! Units, UTF-8, and words in bytes. In each call, a pointer and the length after it are those of
+//! one slice.
+
+use crate::{sys, Place, Word};
+
+/// The sum of two units modulo p. No questions: a word of p or more counts as what it leaves
+/// modulo p.
+#[must_use]
+pub fn add(a: u32, b: u32) -> u32 {
+    sys::sfr_add(a, b)
+}
+
+/// The product of two units modulo p. No questions, as for [`add`].
+#[must_use]
+pub fn mul(a: u32, b: u32) -> u32 {
+    sys::sfr_mul(a, b)
+}
+
+/// Are the bytes UTF-8 by RFC 3629? No questions; no bytes are.
+#[must_use]
+pub fn is_utf8(bytes: &[u8]) -> bool {
+    // SAFETY: see the head of this file.
+    unsafe { sys::sfr_is_utf8(bytes.as_ptr(), bytes.len()) }
+}
+
+/// The little-endian word at `bytes[at..at + 4]`.
+///
+/// Question 20; a place beyond the bytes holds nothing.
+pub fn read_u32(bytes: &[u8], at: usize) -> Word {
+    // SAFETY: see the head of this file.
+    unsafe { sys::sfr_read_u32(bytes.as_ptr(), bytes.len(), at) }
+}
+
+/// Puts a word, little-endian, at `out[at..at + 4]`.
+///
+/// Question 10. A refusal leaves `out` as it was.
+pub fn put_u32(out: &mut [u8], at: usize, value: u32) -> Place {
+    // SAFETY: see the head of this file.
+    unsafe { sys::sfr_put_u32(out.as_mut_ptr(), out.len(), at, value) }
+}
+
+/// Reads an item of n units from byte `at` on and puts it at `out[place..place + n]`.
+///
+/// Per word questions 20, 4; after all n words 10. A refusal leaves `out` as it was.
+pub fn read_units(bytes: &[u8], at: usize, out: &mut [u32], place: usize, n: u32) -> Place {
+    let (words, len) = (out.as_mut_ptr(), out.len());
+    // SAFETY: see the head of this file.
+    unsafe { sys::sfr_read_units(bytes.as_ptr(), bytes.len(), at, words, len, place, n) }
+}
+
+/// Reads an item of n wires from byte `at` on and puts it at `out[place..place + n]`.
+///
+/// Per word questions 20, 3; after all n words 10. A refusal leaves `out` as it was.
+pub fn read_vars(bytes: &[u8], at: usize, out: &mut [u32], place: usize, n: u32) -> Place {
+    let (words, len) = (out.as_mut_ptr(), out.len());
+    // SAFETY: see the head of this file.
+    unsafe { sys::sfr_read_vars(bytes.as_ptr(), bytes.len(), at, words, len, place, n) }
+}

@@ -1,0 +1,148 @@
+//! Calls on a relation. In each, a pointer and the length after it are those of one slice.
+
+use crate::{sys, Flag, Relation, RelationAnswer, Tally, Value, Weighted};
+
+/// Fresh: a relation of that width with wire 0 alone, whose slot becomes 0.
+///
+/// Questions 1, 2, 6. Lent: slots, at least one word. A refusal leaves them as they were.
+pub fn new(width: u32, slots: &mut [u32]) -> RelationAnswer {
+    // SAFETY: see the head of this file.
+    unsafe { sys::sfr_new(width, slots.as_mut_ptr(), slots.len()) }
+}
+
+/// Allocates the next n wires, whose slots become F, and answers the first: the wire count
+/// before the call. n may be 0.
+///
+/// Questions 1, 2, 5, 6. Lent: slots, a word per wire with the new ones. A refusal leaves them
+/// and the record as they were.
+pub fn allocate_vars(rel: Relation, slots: &mut [u32], n: u32) -> RelationAnswer {
+    // SAFETY: see the head of this file.
+    unsafe { sys::sfr_allocate_vars(rel, slots.as_mut_ptr(), slots.len(), n) }
+}
+
+/// Sets a wire to a value; the same value again is accepted.
+///
+/// Questions 1, 2, 3, 4, 7, 8. Lent: slots, a word per wire. A refusal leaves them as they were.
+#[must_use = "a refusal is in the number"]
+pub fn set_var(rel: Relation, slots: &mut [u32], var: u32, value: u32) -> u32 {
+    // SAFETY: see the head of this file.
+    unsafe { sys::sfr_set_var(rel, slots.as_mut_ptr(), slots.len(), var, value) }
+}
+
+/// Set list: sets the pairs in order, up to the shorter list's length.
+///
+/// Questions 1, 2; then 3, 4, 7, 8 pair by pair; after the common pairs 9. Lent: slots, a word
+/// per wire. A refusal leaves the accepted pairs set, and else everything as it was.
+pub fn set_vars(rel: Relation, slots: &mut [u32], vars: &[u32], values: &[u32]) -> Tally {
+    // SAFETY: see the head of this file.
+    unsafe {
+        sys::sfr_set_vars(
+            rel,
+            slots.as_mut_ptr(),
+            slots.len(),
+            vars.as_ptr(),
+            vars.len(),
+            values.as_ptr(),
+            values.len(),
+        )
+    }
+}
+
+/// Records a query; unallocated wires are taken.
+///
+/// Questions 1, 2, 9, 3, 10. Lent: queries, 2w words for each with the new one; w inputs and w
+/// outputs. A refusal leaves the queries and the record as they were.
+pub fn add_permutation(
+    rel: Relation,
+    queries: &mut [u32],
+    input: &[u32],
+    output: &[u32],
+) -> RelationAnswer {
+    // SAFETY: see the head of this file.
+    unsafe {
+        sys::sfr_add_permutation(
+            rel,
+            queries.as_mut_ptr(),
+            queries.len(),
+            input.as_ptr(),
+            input.len(),
+            output.as_ptr(),
+            output.len(),
+        )
+    }
+}
+
+/// Mint: allocates w outputs, answered as by [`allocate_vars`], and records the query, or does
+/// neither.
+///
+/// Questions 1, 2, 9, 3, 5, 6, 10. Lent: slots, a word per wire with the w new ones; queries, 2w
+/// words for each with the new one; w inputs. A refusal leaves both stores and the record as they
+/// were.
+pub fn allocate_permutation(
+    rel: Relation,
+    slots: &mut [u32],
+    queries: &mut [u32],
+    input: &[u32],
+) -> RelationAnswer {
+    // SAFETY: see the head of this file.
+    unsafe {
+        sys::sfr_allocate_permutation(
+            rel,
+            slots.as_mut_ptr(),
+            slots.len(),
+            queries.as_mut_ptr(),
+            queries.len(),
+            input.as_ptr(),
+            input.len(),
+        )
+    }
+}
+
+/// States that weight times value, summed over the terms, is the image. The terms are kept in
+/// order, repeats and zero weights too.
+///
+/// Questions 1, 2, 3 over all wires, 4 over all weights and the image, 10. Lent: equations, the
+/// used words and 2 + 2t more for t terms. A refusal leaves them and the record as they were.
+pub fn add_equation(
+    rel: Relation,
+    equations: &mut [u32],
+    terms: &[Weighted],
+    image: u32,
+) -> RelationAnswer {
+    // SAFETY: see the head of this file.
+    unsafe {
+        sys::sfr_add_equation(
+            rel,
+            equations.as_mut_ptr(),
+            equations.len(),
+            terms.as_ptr(),
+            terms.len(),
+            image,
+        )
+    }
+}
+
+/// Multiplies every weight of the list by the factor; by 0 too, which keeps the terms.
+///
+/// Questions 3 over all wires, 4 over all weights and the factor. A refusal leaves the list as it
+/// was.
+#[must_use = "a refusal is in the number"]
+pub fn scale(terms: &mut [Weighted], factor: u32) -> u32 {
+    // SAFETY: see the head of this file.
+    unsafe { sys::sfr_scale(terms.as_mut_ptr(), terms.len(), factor) }
+}
+
+/// The value of a wire: its slot, none where that is F or the wire isn't allocated.
+///
+/// Questions 1, 2, 3. Lent: slots, a word per wire.
+pub fn value_of(rel: Relation, slots: &[u32], var: u32) -> Value {
+    // SAFETY: see the head of this file.
+    unsafe { sys::sfr_value_of(rel, slots.as_ptr(), slots.len(), var) }
+}
+
+/// Is the wire allocated?
+///
+/// Questions 1, 2 of the wire count, 3.
+pub fn is_allocated(rel: Relation, var: u32) -> Flag {
+    sys::sfr_is_allocated(rel, var)
+}

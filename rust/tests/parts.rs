@@ -1,0 +1,98 @@
+//! What comes back as a part of what was lent, and what the answers become as results.
+
+use sfr::{accepted, Refused, Weighted, PRIME};
+
+/// Is it the very same part, not only equal bytes?
+fn same_part(a: &[u8], b: &[u8]) -> bool {
+    std::ptr::eq(a, b)
+}
+
+#[test]
+fn a_heading_is_the_very_label_or_name() {
+    let (label, name) = (b"batch 7", b"the mill");
+    assert!(same_part(sfr::heading(label, name), label));
+    assert!(same_part(sfr::heading(&label[..0], name), name));
+    assert!(same_part(sfr::heading(&label[..0], &name[..0]), &name[..0]));
+    assert!(same_part(sfr::heading(label, &name[..0]), label));
+}
+
+/// An SFRI file of width 1 with that label, one wire and nothing else.
+fn file(label: &[u8]) -> Vec<u8> {
+    let words = |words: &[u32]| -> Vec<u8> { words.iter().flat_map(|w| w.to_le_bytes()).collect() };
+    let head = words(&[1, 4, label.len() as u32]);
+    let tail = words(&[1, 0, 0, 0]);
+    [b"SFRI\x01", &head[..], label, &tail].concat()
+}
+
+#[test]
+fn a_label_is_the_very_part_of_the_bytes() {
+    let bytes = file("lot 7 ✓".as_bytes());
+    let read = sfr::instance_from_bytes(1, &bytes, &mut [], &mut [], &mut [], &mut [7]);
+    assert_eq!(read.accepted().map(|ins| ins.vars_count), Ok(1));
+    let label = sfr::label(&bytes, &read);
+    assert!(same_part(label, &bytes[17..17 + "lot 7 ✓".len()]));
+    // Bytes that are not those read may hold another label, or none.
+    assert!(sfr::label(&bytes[..20], &read).is_empty());
+    assert!(sfr::label(b"", &read).is_empty());
+}
+
+#[test]
+fn a_refused_read_has_no_label() {
+    let bytes = file(&[0xC0, 0x80]);
+    let read = sfr::instance_from_bytes(1, &bytes, &mut [], &mut [], &mut [], &mut [7]);
+    assert_eq!(read.accepted().map_err(Refused::number), Err(25));
+    assert!(sfr::label(&bytes, &read).is_empty());
+}
+
+#[test]
+fn scaling_keeps_the_terms() {
+    let list = [(1, 3), (1, PRIME - 1), (0, 0)].map(|(var, weight)| Weighted { var, weight });
+    let mut terms = list;
+    assert_eq!(sfr::scale(&mut terms, 2), 0);
+    assert_eq!(terms.map(|t| t.weight), [6, PRIME - 2, 0]);
+    assert_eq!(terms.map(|t| t.var), [1, 1, 0]);
+
+    let mut terms = list;
+    assert_eq!(sfr::scale(&mut terms, PRIME), 4);
+    assert_eq!(terms, list);
+    terms[0].weight = PRIME;
+    terms[2].var = 1 << 30;
+    let odd = terms;
+    assert_eq!(sfr::scale(&mut terms, 2), 3);
+    assert_eq!(terms, odd);
+}
+
+#[test]
+fn every_number_has_its_question() {
+    let numbers = (1..=17).chain(20..=25).chain([27, 28]).chain(31..=36);
+    for number in numbers {
+        let refused = accepted(number).unwrap_err();
+        assert_eq!(refused.number(), number);
+        assert!(refused.question().len() > 1, "{number}");
+    }
+    assert_eq!(accepted(0), Ok(()));
+    assert_eq!(
+        accepted(35).unwrap_err().to_string(),
+        "35: is the sum the image?"
+    );
+}
+
+#[test]
+fn answers_are_results() -> Result<(), Refused> {
+    let mut slots = [0; 4];
+    let rel = sfr::new(1, &mut slots).accepted()?;
+    let (first, rel) = sfr::allocate_vars(rel, &mut slots, 2).allocated()?;
+    assert_eq!(first, 1);
+    let tally = sfr::set_vars(rel, &mut slots, &[1, 9, 2], &[5, 5, 5]);
+    assert_eq!(
+        (tally.accepted, tally.accepted().map_err(Refused::number)),
+        (1, Err(7))
+    );
+    assert_eq!(sfr::value_of(rel, &slots, 1).accepted()?, Some(5));
+    assert_eq!(sfr::value_of(rel, &slots, 2).accepted()?, None);
+    assert!(!sfr::is_allocated(rel, 3).accepted()?);
+    let mut bytes = [0; 4];
+    let next = sfr::put_u32(&mut bytes, 0, 77).accepted()?;
+    assert_eq!((sfr::read_u32(&bytes, 0).accepted()?, next), ((77, 4), 4));
+    Ok(())
+}
