@@ -1,19 +1,24 @@
-// Operations 31, 33 and 41: the gate, an instance's bytes read, and the check.
+// Operations 31 to 33 and 41: the gate, an instance's bytes written and read, and the check.
 //
 // A case hands in the record, each store that the call is lent, and the arguments. What the call is to answer follows:
-// its number and what it has besides, and every word of the stores that it may write, scratch among them.
+// its number and what it has besides, and every word or byte of what it may write, scratch among it.
 
 use crate::relation::same_outcome;
+use crate::sample::BYTES;
+use crate::sample::DIRT;
 use crate::sample::Found;
 use crate::sample::Seen;
 use crate::sample::bytes_at;
 use crate::sample::low;
 use crate::sample::past_bytes;
 use crate::sample::same;
+use crate::sample::same_bytes;
 use crate::sample::same_words;
 use crate::sample::so_far;
 use crate::sample::take_list;
 use crate::sample::take_words;
+use crate::sample::wide;
+use crate::traces::same_written;
 use encoding::InstanceRead;
 use instance::Compiled;
 use instance::PermutationInstance;
@@ -50,7 +55,7 @@ fn take_head(op: u32, sample: &[u8], c: Cursor) -> Headed {
     let mut publics = [0u32; 1];
     let mut len = [0u32; 1];
     let mut next = take_words(sample, c, &mut given);
-    if op == 41 {
+    if op != 31 {
         next = take_words(sample, next, &mut publics);
     }
     let start = take_words(sample, next, &mut len);
@@ -282,6 +287,53 @@ fn call_check(
     )
 }
 
+// The write, and its answer compared.
+fn write(
+    sample: &[u8],
+    head: Headed,
+    publics: &[u32],
+    queries: &[u32],
+    equations: &[u32],
+    out: &mut [u8],
+) -> Seen {
+    let label = bytes_at(sample, head.start, head.len);
+    let given = head.instance;
+    let answer = encoding::instance_to_bytes(given, label, publics, queries, equations, out);
+    same_written(sample, head.next, answer, out)
+}
+
+// 32: record, label, publics, queries, equations, the output's length; the number, how many bytes were written, the
+// output.
+fn call_write(
+    sample: &[u8],
+    head: Headed,
+    publics: &[u32],
+    queries: &[u32],
+    equations: &[u32],
+    out: &mut [u8],
+) -> Seen {
+    let mut room = [0u32; 1];
+    let next = take_words(sample, head.next, &mut room);
+    let n = wide(room[0]);
+    if out.len() < n {
+        return so_far(next, Found::TooLong);
+    }
+    let head = further(head, next);
+    write(sample, head, publics, queries, equations, &mut out[0..n])
+}
+
+// The write, with its output lent.
+fn with_output(
+    sample: &[u8],
+    head: Headed,
+    publics: &[u32],
+    queries: &[u32],
+    equations: &[u32],
+) -> Seen {
+    let mut out = [DIRT; BYTES];
+    call_write(sample, head, publics, queries, equations, &mut out)
+}
+
 // The stores of a gate that it writes, and those of a check, are lent by the caller.
 fn with_buffers(
     op: u32,
@@ -300,7 +352,7 @@ fn with_buffers(
     call_check(sample, head, first, queries, equations, one, two, three)
 }
 
-// A gate or a check, at the cursor past the three stores that both are lent.
+// A gate, a write or a check, at the cursor past the three stores that each is lent.
 fn with_held(
     op: u32,
     sample: &[u8],
@@ -309,6 +361,9 @@ fn with_held(
     queries: &[u32],
     equations: &[u32],
 ) -> Seen {
+    if op == 32 {
+        return with_output(sample, head, first, queries, equations);
+    }
     with_buffers(
         op,
         sample,
@@ -341,7 +396,7 @@ fn held_last(
     with_held(op, sample, head, first, queries, &third[0..len])
 }
 
-// A call that is lent the stores of a relation or an instance: 31 and 41.
+// A call that is lent the stores of a relation or an instance: 31, 32 and 41.
 fn call_held(
     op: u32,
     sample: &[u8],
@@ -365,13 +420,15 @@ fn call_held(
     held_last(op, sample, head, &store[0..n], &second[0..m], third)
 }
 
-// The number, the record, the label's length.
-fn same_read(sample: &[u8], next: Cursor, answer: InstanceRead) -> Seen {
+// The number, the record, the label's length and its bytes.
+fn same_read(sample: &[u8], next: Cursor, bytes: &[u8], answer: InstanceRead) -> Seen {
+    let label = encoding::label(bytes, answer);
     let outcome = answer.outcome;
     let made = answer.instance;
     let len = answer.label;
     let now = same_outcome(sample, so_far(next, Found::Same), outcome);
-    same(sample, same_instance(sample, now, made), low(len))
+    let now = same(sample, same_instance(sample, now, made), low(len));
+    same_bytes(sample, now, label)
 }
 
 // The read alone.
@@ -420,7 +477,7 @@ fn read(
 ) -> Seen {
     let bytes = bytes_at(sample, given.start, given.len);
     let answer = from_bytes(given.width, bytes, publics, queries, equations, scratch);
-    let seen = same_read(sample, given.next, answer);
+    let seen = same_read(sample, given.next, bytes, answer);
     same_stores(sample, seen, publics, queries, equations, scratch)
 }
 
@@ -463,7 +520,7 @@ fn read_second(
     )
 }
 
-// 33: width, bytes, publics, queries, equations, scratch; the number, the record, the label's length, the four stores.
+// 33: width, bytes, publics, queries, equations, scratch; the number, the record, the label, the four stores.
 fn call_read(
     sample: &[u8],
     c: Cursor,

@@ -12,6 +12,7 @@ use crate::sample::same;
 use crate::sample::same_words;
 use crate::sample::so_far;
 use crate::sample::take_words;
+use crate::sample::wide;
 use baby_bear::BabyBearUnit;
 use narg::Cursor;
 use narg::Item;
@@ -48,10 +49,6 @@ pub fn text(sample: &[u8], c: Cursor) -> Seen {
         so_far(after, Found::Same),
         if answer { 1 } else { 0 },
     )
-}
-
-fn wide(x: u32) -> usize {
-    x as usize
 }
 
 // 4: bytes, a place in them; the number and the word that is read there, or 0.

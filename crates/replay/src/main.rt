@@ -11,8 +11,9 @@
 // bytes; and 2,500 random cases, units and wires read into a store among them. Of fresh, allocate, set, set list,
 // record, mint, equation, value and is it allocated it has document 01's examples, every count and argument at its
 // limits, and 1,200 random cases at widths 1 to 24, absurd records among them, with every number that a short store
-// can bring about. Of evaluate and append a step and read SFRW it has 120 random cases each, and of gate, read SFRI and
-// check 200 each, most at widths 1 to 3, sound and led astray; the two writes are left out.
+// can bring about. Of evaluate and append a step, write and read SFRW it has 120 random cases each, and of gate, write
+// and read SFRI and check 200 each, most at widths 1 to 3, sound and led astray; the writes with every number that a
+// record, a store or an output of these sizes can bring about, and with every byte of the output.
 //
 // A line is printed for each operation, and last how many answers were replayed and how many are different. A fault of
 // the sample, as a case that is cut off, is printed and counts as a difference.
@@ -53,8 +54,9 @@ fn replay_case(
         4 => leaves::read_word(sample, c),
         5 => leaves::read_item(sample, c, store),
         11..=19 => relation::call(op, sample, c, store, second, third),
-        21 | 22 | 24 => traces::call(op, sample, c, store, second, third),
-        31 | 33 | 41 => instances::call(op, sample, c, store, second, third),
+        21..=24 => traces::call(op, sample, c, store, second, third),
+        31..=33 => instances::call(op, sample, c, store, second, third),
+        41 => instances::call(op, sample, c, store, second, third),
         _ => sample::so_far(c, Found::Unknown),
     }
 }

@@ -4,6 +4,11 @@
 // follows: its number and what it has besides, the record where it gives one back, and every word of the stores that
 // it may write. The words of stores and lists are taken into the fronts of three buffers, and just these are lent.
 
+ghost use mathlib.Core.Path.{_≡_};
+ghost use Prim.Native.Nat.{_≤_};
+ghost use lib.ListN.{drop};
+ghost use Rattle.expr.specs.Weighted.{termsOf};
+ghost use Rattle.permutation.specs.Answers.{addEquation, addEquationEquations};
 use crate::sample::Found;
 use crate::sample::Seen;
 use crate::sample::same;
@@ -13,6 +18,7 @@ use crate::sample::take_list;
 use crate::sample::take_words;
 use allocator::FieldVar;
 use baby_bear::BabyBearUnit;
+use expr::Weighted;
 use narg::Cursor;
 use permutation::Allocated;
 use permutation::First;
@@ -144,6 +150,53 @@ fn allocate_permutation(
     same_words(sample, seen, queries)
 }
 
+// The most terms that an equation of the sample may have.
+const TERMS: usize = 8;
+
+fn shorter(n: usize, m: usize) -> usize {
+    if n < m { n } else { m }
+}
+
+// The word at place i, or 0 past the end.
+fn word_at(list: &[u32], i: usize) -> u32 {
+    if i < list.len() { list[i] } else { 0 }
+}
+
+fn term_at(vars: &[u32], weights: &[u32], i: usize) -> Weighted {
+    Weighted {
+        var: FieldVar(word_at(vars, i)),
+        weight: BabyBearUnit(word_at(weights, i)),
+    }
+}
+
+// The terms of two lists of words, in order from place `from` of an array to its end.
+fn take_terms(vars: &[u32], weights: &[u32], from: usize) -> [Weighted; TERMS] {
+    let mut terms = [Weighted {
+        var: FieldVar(0),
+        weight: BabyBearUnit(0),
+    }; TERMS];
+    let mut i = from;
+    while i < TERMS {
+        terms[i] = term_at(vars, weights, i - from);
+        i += 1;
+    }
+    terms
+}
+
+// The call on the terms from place `from` on. The array is handed in by value, and lent from here.
+fn equate(
+    rel: PermutationRelation,
+    equations: &mut [u32],
+    terms: [Weighted; TERMS],
+    from: usize,
+    image: BabyBearUnit,
+) -> Recorded
+    requires { ⌜ from ≤ 8 ⌝ }
+    ensures { λ r. ⌜ (r ≡ addEquation rel (now (equations .entry)) (termsOf (drop from terms)) (image .0)) × (now (equations .exit) ≡ addEquationEquations rel (now (equations .entry)) (termsOf (drop from terms)) (image .0)) ⌝ }
+{
+    permutation::add_equation(rel, equations, &terms[from..], image)
+}
+
 // 17: record, equations, wires, weights, image; the number, the record, the equations.
 fn add_equation(
     sample: &[u8],
@@ -156,7 +209,13 @@ fn add_equation(
     let after = take_words(sample, begun.next, &mut given);
     let relation = begun.relation;
     let image = BabyBearUnit(given[0]);
-    let answer = permutation::add_equation(relation, equations, vars, weights, image);
+    let n = shorter(vars.len(), weights.len());
+    if TERMS < n {
+        return so_far(after, Found::TooLong);
+    }
+    let from = TERMS - n;
+    let terms = take_terms(vars, weights, from);
+    let answer = equate(relation, equations, terms, from, image);
     let seen = so_far(after, Found::Same);
     same_words(sample, same_recorded(sample, seen, answer), equations)
 }

@@ -7,10 +7,17 @@
 use narg::Cursor;
 use narg::Word;
 
+// The longest output of a write.
+pub const BYTES: usize = 2048;
+
+// What an output holds before a write: every byte, as in the Rust that wrote the sample.
+pub const DIRT: u8 = 0xee;
+
 // What comparing a case has found.
 pub enum Found {
     Same,
-    // The first word of the answer that differs: its number from 0, what is answered here and in the sample.
+    // The first word of the answer that differs: its number from 0, what is answered here and in the sample. Of bytes
+    // each counts as a word.
     Different { word: u64, here: u32, expected: u32 },
     // The sample ends before the case does.
     CutOff,
@@ -57,7 +64,7 @@ pub struct List {
     pub next: Cursor,
 }
 
-fn wide(x: u32) -> usize {
+pub fn wide(x: u32) -> usize {
     x as usize
 }
 
@@ -148,4 +155,35 @@ pub fn same_words(sample: &[u8], seen: Seen, here: &[u32]) -> Seen {
         i += 1;
     }
     now
+}
+
+fn first_byte(found: Found, word: u64, here: u8, expected: u8) -> Found {
+    first(found, word, here as u32, expected as u32)
+}
+
+// Bytes of the answer, as those of an output. The sample has them packed into words.
+pub fn same_bytes(sample: &[u8], seen: Seen, here: &[u8]) -> Seen {
+    let next = seen.next;
+    let len = low(here.len());
+    let expected = bytes_at(sample, next, len);
+    let mut words = seen.words;
+    let mut found = seen.found;
+    let mut i = 0;
+    while i < here.len() {
+        if expected.len() <= i {
+            return Seen {
+                next,
+                words,
+                found: Found::CutOff,
+            };
+        }
+        found = first_byte(found, words, here[i], expected[i]);
+        words = std::num::wrapping_add_u64(words, 1);
+        i += 1;
+    }
+    Seen {
+        next: past_bytes(sample, next, len),
+        words,
+        found,
+    }
 }

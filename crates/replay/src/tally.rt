@@ -73,8 +73,10 @@ fn print_kind(op: u64) -> bool {
         19 => io::write_all(STDOUT_FILENO, b"tests for allocation"),
         21 => io::write_all(STDOUT_FILENO, b"evaluated steps"),
         22 => io::write_all(STDOUT_FILENO, b"appended steps"),
+        23 => io::write_all(STDOUT_FILENO, b"writes of SFRW"),
         24 => io::write_all(STDOUT_FILENO, b"reads of SFRW"),
         31 => io::write_all(STDOUT_FILENO, b"gates"),
+        32 => io::write_all(STDOUT_FILENO, b"writes of SFRI"),
         33 => io::write_all(STDOUT_FILENO, b"reads of SFRI"),
         41 => io::write_all(STDOUT_FILENO, b"checks"),
         _ => io::write_all(STDOUT_FILENO, b"unknown"),
@@ -139,8 +141,9 @@ fn named(op: u64) -> bool {
     match op {
         1..=5 => true,
         11..=19 => true,
-        21 | 22 | 24 => true,
-        31 | 33 | 41 => true,
+        21..=24 => true,
+        31..=33 => true,
+        41 => true,
         _ => false,
     }
 }

@@ -1,18 +1,24 @@
-// Operations 21, 22 and 24: a trace's steps, and its bytes read.
+// Operations 21 to 24: a trace's steps, and its bytes written and read.
 //
 // A case hands in the record (width and steps), each store that the call is lent, and the arguments. What the call is
-// to answer follows: its number and what it has besides, and every word of the store that it may write.
+// to answer follows: its number and what it has besides, and every word or byte of what it may write.
 
 use crate::relation::same_outcome;
+use crate::sample::BYTES;
+use crate::sample::DIRT;
 use crate::sample::Found;
 use crate::sample::Seen;
 use crate::sample::bytes_at;
+use crate::sample::low;
 use crate::sample::past_bytes;
 use crate::sample::same;
+use crate::sample::same_bytes;
 use crate::sample::same_words;
 use crate::sample::so_far;
 use crate::sample::take_list;
 use crate::sample::take_words;
+use crate::sample::wide;
+use encoding::Written;
 use narg::Cursor;
 use witness::PermutationWitness;
 use witness::Traced;
@@ -93,6 +99,54 @@ fn call_step(
     add_permutation(sample, next, witness, store, &second[0..m], &third[0..k])
 }
 
+// The number, how many bytes were written, the output.
+pub fn same_written(sample: &[u8], next: Cursor, answer: Written, out: &[u8]) -> Seen {
+    let outcome = answer.outcome;
+    let len = answer.len;
+    let now = same_outcome(sample, so_far(next, Found::Same), outcome);
+    same_bytes(sample, same(sample, now, low(len)), out)
+}
+
+// 23: record, trace, the output's length; the number, how many bytes were written, the output.
+fn write(
+    sample: &[u8],
+    next: Cursor,
+    given: PermutationWitness,
+    trace: &[u32],
+    out: &mut [u8],
+) -> Seen {
+    let answer = encoding::witness_to_bytes(given.width, given.steps, trace, out);
+    same_written(sample, next, answer, out)
+}
+
+// A write, over the trace store of the case and into the front of the output that the caller lends.
+fn call_write(sample: &[u8], c: Cursor, store: &mut [u32], out: &mut [u8]) -> Seen {
+    let mut given = [0u32; 2];
+    let after = take_words(sample, c, &mut given);
+    let witness = PermutationWitness {
+        width: given[0],
+        steps: given[1],
+    };
+    let list = take_list(sample, after, store);
+    let len = list.len;
+    let mut room = [0u32; 1];
+    let next = take_words(sample, list.next, &mut room);
+    let n = wide(room[0]);
+    if store.len() < len {
+        return so_far(next, Found::TooLong);
+    }
+    if out.len() < n {
+        return so_far(next, Found::TooLong);
+    }
+    write(sample, next, witness, &store[0..len], &mut out[0..n])
+}
+
+// A write, with its output lent.
+fn with_output(sample: &[u8], c: Cursor, store: &mut [u32]) -> Seen {
+    let mut out = [DIRT; BYTES];
+    call_write(sample, c, store, &mut out)
+}
+
 // 24: width, bytes, trace; the number, the steps, the trace.
 fn read(sample: &[u8], next: Cursor, width: u32, bytes: &[u8], trace: &mut [u32]) -> Seen {
     let answer = encoding::witness_from_bytes(width, bytes, trace);
@@ -126,6 +180,7 @@ pub fn call(
     third: &mut [u32],
 ) -> Seen {
     match op {
+        23 => with_output(sample, c, store),
         24 => call_read(sample, c, store),
         _ => call_step(op, sample, c, store, second, third),
     }
