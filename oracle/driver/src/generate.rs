@@ -110,7 +110,7 @@ impl Generator {
     }
 
     /// A call that fits no mood, for a relation in any state.
-    #[cfg(feature = "relation")]
+    #[cfg(feature = "library")]
     pub fn wild_call(&mut self, state: &State) -> Call {
         let mood = std::mem::replace(&mut self.mood, Mood::Wild);
         let call = self.call(state);

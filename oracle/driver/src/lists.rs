@@ -21,7 +21,10 @@ pub fn compare(
     while seen.total < count {
         let seed = options.seed.wrapping_add(lists);
         if list(seed, &mut seen, &Log(false)).is_err() {
-            println!("{name}: a difference; again with: {name} --seed {seed} --count 1");
+            println!(
+                "{name}: a difference after {} commands; again with: {name} --seed {seed} --count 1",
+                seen.total
+            );
             if let Err(difference) = list(seed, &mut seen, &Log(true)) {
                 println!("{}", difference.0);
             }

@@ -2,6 +2,8 @@
 
 mod against_source;
 mod astray;
+#[cfg(feature = "library")]
+mod bench;
 mod calls;
 mod compared;
 #[cfg(test)]
@@ -9,7 +11,7 @@ mod differences;
 mod generate;
 mod held;
 mod leaf;
-#[cfg(feature = "leaves")]
+#[cfg(feature = "library")]
 mod library;
 mod lists;
 mod options;
@@ -27,16 +29,24 @@ type Command = (&'static str, fn(&Options) -> bool);
 const COMMANDS: &[Command] = &[
     ("self", against_source::run),
     ("sample", sample::run),
-    #[cfg(feature = "leaves")]
+    #[cfg(feature = "library")]
     ("leaves", library::leaves::run),
-    #[cfg(feature = "relation")]
+    #[cfg(feature = "library")]
     ("relation", library::relation::run),
-    #[cfg(feature = "witness")]
+    #[cfg(feature = "library")]
     ("witness", library::witness::run),
-    #[cfg(feature = "instance")]
+    #[cfg(feature = "library")]
     ("instance", library::instance::run),
-    #[cfg(feature = "check")]
+    #[cfg(feature = "library")]
     ("check", library::check::run),
+    #[cfg(feature = "library")]
+    ("whole", library::whole::run),
+    #[cfg(feature = "library")]
+    ("large", library::large_held::run),
+    #[cfg(feature = "library")]
+    ("terms", library::terms::run),
+    #[cfg(feature = "library")]
+    ("bench", bench::run),
 ];
 
 fn main() -> ExitCode {

@@ -30,6 +30,7 @@ const INSTANCES: u64 = 200;
 
 pub fn run(options: &Options) -> bool {
     let mut rng = Rng::new(options.seed);
+    let mut writes = Rng::new(!options.seed);
     let mut sample = Sample::default();
     sample.fixed();
     for _ in 0..options.count.unwrap_or(LEAVES) {
@@ -40,10 +41,10 @@ pub fn run(options: &Options) -> bool {
         sample.random_relation(&mut rng);
     }
     for _ in 0..options.count.unwrap_or(TRACES) {
-        sample.random_trace(&mut rng);
+        sample.random_trace(&mut rng, &mut writes);
     }
     for _ in 0..options.count.unwrap_or(INSTANCES) {
-        sample.random_instance(&mut rng);
+        sample.random_instance(&mut rng, &mut writes);
     }
     sample.words.push(0);
     let bytes: Vec<u8> = sample
@@ -97,6 +98,11 @@ impl Sample {
     /// The length and the packed bytes.
     fn bytes(&mut self, bytes: &[u8]) {
         self.words.push(bytes.len() as u32);
+        self.packed(bytes);
+    }
+
+    /// The packed bytes alone.
+    fn packed(&mut self, bytes: &[u8]) {
         for chunk in bytes.chunks(4) {
             let mut packed = [0; 4];
             packed[..chunk.len()].copy_from_slice(chunk);

@@ -6,6 +6,7 @@
 
 use std::{
     cell::Cell,
+    hint::black_box,
     panic::{self, AssertUnwindSafe},
 };
 
@@ -169,6 +170,10 @@ impl Parts {
     }
 }
 
+/// A call whose arguments are in the sources' types already, so that a clock sees nothing
+/// but the call. Relations and builders are handles, of which it keeps one.
+pub type Ready<'a, T> = Box<dyn Fn() -> T + 'a>;
+
 pub trait Relation {
     fn vars_count(&self) -> u32;
     /// A word per wire, F where it is unassigned.
@@ -178,7 +183,10 @@ pub trait Relation {
     fn allocate_vars(&self, count: u32) -> Option<Vec<u32>>;
     fn allocate_vars_with(&self, values: &[u32]) -> Option<Vec<u32>>;
     fn set_var(&self, var: u32, value: u32) -> Option<()>;
-    fn set_vars(&self, vars: &[u32], values: &[u32]) -> Option<()>;
+    fn set_vars(&self, vars: &[u32], values: &[u32]) -> Option<()> {
+        self.ready_set_vars(vars, values)()
+    }
+    fn ready_set_vars(&self, vars: &[u32], values: &[u32]) -> Ready<'static, Option<()>>;
     fn add_permutation(&self, input: &[u32], output: &[u32]);
     /// `spelling` chooses among the three names that the sources have for this.
     fn allocate_permutation(&self, input: &[u32], spelling: usize) -> Option<Vec<u32>>;
@@ -193,11 +201,21 @@ pub trait Instance {
     fn parts(&self) -> Parts;
     fn to_bytes(&self) -> Vec<u8>;
     fn value(&self, var: u32) -> Option<u32>;
-    fn is_witness_valid(&self, sheet: &Sheet, trace: &[u32]) -> bool;
+    fn is_witness_valid(&self, sheet: &Sheet, trace: &[u32]) -> bool {
+        self.ready_check(sheet, trace)()
+    }
+    fn ready_check<'a>(&'a self, sheet: &'a Sheet, trace: &[u32]) -> Ready<'a, bool>;
+}
+
+pub trait Witness {
+    fn trace(&self) -> Vec<u32>;
+    fn to_bytes(&self) -> Vec<u8>;
 }
 
 pub trait Builder {
     fn allocate_permutation(&self, input: &[u32]) -> Vec<u32>;
+    /// A step for each of these inputs, one after the other.
+    fn ready_steps(&self, inputs: &[u32]) -> Ready<'static, ()>;
     fn add_permutation(&self, input: &[u32], output: &[u32]);
     fn trace(&self) -> Vec<u32>;
     fn to_bytes(&self) -> Vec<u8>;
@@ -220,10 +238,9 @@ pub fn instance_from_bytes(width: u32, bytes: &[u8]) -> Result<Box<dyn Instance>
     })
 }
 
-/// The steps of the trace that the bytes hold.
-pub fn witness_from_bytes(width: u32, bytes: &[u8]) -> Result<Vec<u32>, String> {
+pub fn witness_from_bytes(width: u32, bytes: &[u8]) -> Result<Box<dyn Witness>, String> {
     at_width!(width, W => match PermutationWitness::<BabyBearUnit, W>::from_bytes(bytes) {
-        Ok(witness) => Ok(step_words(witness.trace())),
+        Ok(witness) => Ok(Box::new(witness)),
         Err(error) => Err(message(&error)),
     })
 }
@@ -306,10 +323,11 @@ impl<const W: usize> Relation for PermutationRelation<BabyBearUnit, W> {
         call(|| self.set_var(to_var(var), to_unit(value)))
     }
 
-    fn set_vars(&self, vars: &[u32], values: &[u32]) -> Option<()> {
+    fn ready_set_vars(&self, vars: &[u32], values: &[u32]) -> Ready<'static, Option<()>> {
+        let relation = self.clone();
         let vars: Vec<FieldVar> = vars.iter().copied().map(to_var).collect();
         let values: Vec<BabyBearUnit> = values.iter().copied().map(to_unit).collect();
-        call(|| self.set_vars(vars, values))
+        Box::new(move || call(|| relation.set_vars(&vars, &values)))
     }
 
     fn add_permutation(&self, input: &[u32], output: &[u32]) {
@@ -416,12 +434,23 @@ impl<const W: usize> Instance for PermutationInstance<BabyBearUnit, W> {
         self.value(to_var(var)).map(word)
     }
 
-    fn is_witness_valid(&self, sheet: &Sheet, trace: &[u32]) -> bool {
+    fn ready_check<'a>(&'a self, sheet: &'a Sheet, trace: &[u32]) -> Ready<'a, bool> {
         let builder = PermutationWitnessBuilder::<Sheet, W>::new(sheet.clone());
         for step in trace.chunks(2 * W) {
             builder.add_permutation(&to_units(&step[..W]), &to_units(&step[W..]));
         }
-        self.is_witness_valid(sheet, &builder.snapshot())
+        let witness = builder.snapshot();
+        Box::new(move || self.is_witness_valid(sheet, &witness))
+    }
+}
+
+impl<const W: usize> Witness for PermutationWitness<BabyBearUnit, W> {
+    fn trace(&self) -> Vec<u32> {
+        step_words(self.trace())
+    }
+
+    fn to_bytes(&self) -> Vec<u8> {
+        self.to_bytes()
     }
 }
 
@@ -429,6 +458,16 @@ impl<const W: usize> Builder for PermutationWitnessBuilder<Sheet, W> {
     fn allocate_permutation(&self, input: &[u32]) -> Vec<u32> {
         let output = self.allocate_permutation(&to_units(input));
         output.iter().map(word).collect()
+    }
+
+    fn ready_steps(&self, inputs: &[u32]) -> Ready<'static, ()> {
+        let builder = self.clone();
+        let inputs: Vec<[BabyBearUnit; W]> = inputs.chunks(W).map(to_units).collect();
+        Box::new(move || {
+            for input in &inputs {
+                black_box(builder.allocate_permutation(input));
+            }
+        })
     }
 
     fn add_permutation(&self, input: &[u32], output: &[u32]) {

@@ -20,7 +20,7 @@ fn are_units(words: &[u32]) -> bool {
 
 /// The number of a call that the sources' types have no room for: a list of another length
 /// than the width, a word that is no wire, a word that is no unit.
-fn untyped(call: &Call, width: u32) -> Option<u32> {
+pub fn untyped(call: &Call, width: u32) -> Option<u32> {
     let is_list = |words: &[u32]| words.len() == width as usize;
     let (lists, vars, units) = match call {
         Call::Set(var, value) => (true, are_vars(&[*var]), are_units(&[*value])),
@@ -56,7 +56,7 @@ pub fn compare(
 ) -> Outcome<bool> {
     let number = answer.number;
     if let Some(expected) = untyped(call, width) {
-        same("number", ("reading", number), ("types", expected))?;
+        same("number", ("given", number), ("types", expected))?;
         return Ok(true);
     }
     if number == 6 || number == 10 {
@@ -84,11 +84,11 @@ pub fn compare(
         }
         Call::Value(var) => {
             let value = relation.value(*var);
-            same("value", ("reading", answer.value), ("source", value))
+            same("value", ("given", answer.value), ("source", value))
         }
         Call::IsAllocated(var) => {
             let yes = relation.is_allocated(*var);
-            same("is allocated", ("reading", answer.yes), ("source", yes))
+            same("is allocated", ("given", answer.yes), ("source", yes))
         }
     }?;
     Ok(true)
@@ -102,7 +102,7 @@ fn accepted(answer: &Answer, done: Option<()>) -> Compared {
             answer.number != 0,
             answer,
         ),
-        Some(()) => same("number", ("reading", answer.number), ("source", 0)),
+        Some(()) => same("number", ("given", answer.number), ("source", 0)),
     }
 }
 
@@ -113,8 +113,8 @@ fn allocated(answer: &Answer, before: u32, vars: Option<Vec<u32>>) -> Compared {
         return Ok(());
     };
     let expected: Vec<u32> = (answer.first..).take(vars.len()).collect();
-    same("wires", ("reading", expected), ("source", vars))?;
-    same("first wire", ("reading", answer.first), ("source", before))
+    same("wires", ("given", expected), ("source", vars))?;
+    same("first wire", ("given", answer.first), ("source", before))
 }
 
 /// Pairs with a word that the sources' types can't hold end the list that they are given.
@@ -129,7 +129,7 @@ fn set_list(answer: &Answer, vars: &[u32], values: &[u32], relation: &dyn Relati
         let number = if are_vars(&[vars[cut]]) { 4 } else { 3 };
         let expected = (number, cut as u32);
         let given = (answer.number, answer.accepted);
-        return same("number and tally", ("reading", given), ("types", expected));
+        return same("number and tally", ("given", given), ("types", expected));
     }
     // What follows the common pairs is never looked at, only that it is there.
     let typed = |words: &[u32]| {
@@ -141,7 +141,7 @@ fn set_list(answer: &Answer, vars: &[u32], values: &[u32], relation: &dyn Relati
     accepted(answer, done)?;
     if done.is_some() {
         let all = vars.len() as u32;
-        same("tally", ("reading", answer.accepted), ("source", all))?;
+        same("tally", ("given", answer.accepted), ("source", all))?;
     }
     Ok(())
 }
@@ -152,18 +152,18 @@ pub fn compare_states(state: &State, relation: &dyn Relation) -> Compared {
     let vars_count = relation.vars_count();
     same(
         "wires",
-        ("reading", state.rel.vars_count),
+        ("given", state.rel.vars_count),
         ("source", vars_count),
     )?;
-    same("slots", ("reading", slots), ("source", &relation.slots()))?;
+    same("slots", ("given", slots), ("source", &relation.slots()))?;
     same(
         "queries",
-        ("reading", queries),
+        ("given", queries),
         ("source", &relation.queries()),
     )?;
     same(
         "equations",
-        ("reading", equations),
+        ("given", equations),
         ("source", &relation.equations()),
     )
 }
@@ -187,12 +187,12 @@ impl Run<'_> {
         self.seen.answered("scale", number);
         let call = Call::Equation(terms.clone(), factor);
         if let Some(expected) = untyped(&call, 1) {
-            return same("number", ("reading", number), ("types", expected));
+            return same("number", ("given", number), ("types", expected));
         }
         let expected = weighted(&source::scale(&terms, factor));
         same(
             "scaled terms",
-            ("reading", (number, scaled)),
+            ("given", (number, scaled)),
             ("source", (0, expected)),
         )
     }

@@ -12,7 +12,7 @@ use crate::{
 };
 
 /// One instance on both sides.
-type Both = (Held, Box<dyn Instance>);
+pub type Both = (Held, Box<dyn Instance>);
 
 impl Run<'_> {
     /// The gate, in ample or in tight stores; the instances where it accepts.
@@ -166,14 +166,14 @@ impl Run<'_> {
 
 /// The instances where both sides accept; where the source gives a message, the number
 /// must be one that it stands for.
-fn both(
+pub fn both(
     number: u32,
     held: Held,
     answer: Result<Box<dyn Instance>, String>,
 ) -> Outcome<Option<Both>> {
     match answer {
         Ok(instance) => {
-            same("number", ("reading", number), ("source", 0))?;
+            same("number", ("given", number), ("source", 0))?;
             compare_instances(&held, &*instance)?;
             Ok(Some((held, instance)))
         }
@@ -185,26 +185,22 @@ fn both(
     }
 }
 
-fn compare_instances(held: &Held, instance: &dyn Instance) -> Compared {
+pub fn compare_instances(held: &Held, instance: &dyn Instance) -> Compared {
     let parts = instance.parts();
     let (publics, queries, equations) = held.words();
     let counts = (held.ins.vars_count, held.ins.equations);
     let expected = (parts.vars_count, parts.equations.len() as u32);
-    same(
-        "wires, equations",
-        ("reading", counts),
-        ("source", expected),
-    )?;
+    same("wires, equations", ("given", counts), ("source", expected))?;
     same(
         "label",
-        ("reading", &held.label[..]),
+        ("given", &held.label[..]),
         ("source", parts.label.as_bytes()),
     )?;
-    same("publics", ("reading", publics), ("source", &parts.publics))?;
-    same("queries", ("reading", queries), ("source", &parts.queries))?;
+    same("publics", ("given", publics), ("source", &parts.publics))?;
+    same("queries", ("given", queries), ("source", &parts.queries))?;
     same(
         "equations",
-        ("reading", equations),
+        ("given", equations),
         ("source", &parts.equation_words()),
     )
 }

@@ -8,7 +8,7 @@
 //! stands for.
 
 pub mod calls;
-mod instances;
+pub mod instances;
 mod witnesses;
 
 use crate::{

@@ -70,7 +70,7 @@ impl Run<'_> {
             Ok(expected) => same(
                 "trace",
                 ("reading", (number, trace)),
-                ("source", (0, expected)),
+                ("source", (0, expected.trace())),
             ),
             Err(message) => {
                 let meant = source::numbers(&message).contains(&number);

@@ -30,7 +30,7 @@ pub fn to_library(ins: Instance) -> sfr::Instance {
     }
 }
 
-fn from_library(ins: sfr::Instance) -> Instance {
+pub fn from_library(ins: sfr::Instance) -> Instance {
     Instance {
         width: ins.width,
         vars_count: ins.vars_count,
@@ -214,16 +214,30 @@ fn read(rng: &mut Rng, held: &Held, bytes: &[u8], seen: &mut Seen, log: &Log) ->
     let [publics, queries, equations, scratch] = &mut expected;
     let reading = reading::instance_from_bytes(width, bytes, publics, queries, equations, scratch);
     seen.answered("read SFRI", reading.number);
+    // The library tells the label's length, and the interface that it lies at byte 17.
+    let label = match library.number {
+        0 => bytes.get(17..17 + library.label_len),
+        _ => bytes.get(..library.label_len),
+    };
     let answer = (
         library.number,
         from_library(library.instance),
-        library.label_len,
+        label.map(|label| (label, place(bytes, label))),
     );
     let library = (answer, given);
-    let answer = (reading.number, reading.instance, reading.label.len());
+    let label = (reading.label, place(bytes, reading.label));
+    let answer = (reading.number, reading.instance, Some(label));
     same(
         "read SFRI",
         ("library", library),
         ("reading", (answer, expected)),
     )
+}
+
+/// Where a part of the bytes starts; 0 where it has none.
+fn place(bytes: &[u8], part: &[u8]) -> usize {
+    match part {
+        [] => 0,
+        _ => part.as_ptr() as usize - bytes.as_ptr() as usize,
+    }
 }

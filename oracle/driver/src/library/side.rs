@@ -59,8 +59,8 @@ pub fn run(state: &mut State, call: &Call) -> Answer {
             keep(state, answer)
         }
         Call::Equation(terms, image) => {
-            let (vars, weights): (Vec<u32>, Vec<u32>) = terms.iter().copied().unzip();
-            let answer = sfr::add_equation(rel, &mut state.equations, &vars, &weights, *image);
+            let terms = weighted(terms);
+            let answer = sfr::add_equation(rel, &mut state.equations, &terms, *image);
             keep(state, answer)
         }
         Call::Value(var) => {
@@ -80,6 +80,14 @@ pub fn run(state: &mut State, call: &Call) -> Answer {
             }
         }
     }
+}
+
+/// Terms as a list of records.
+pub fn weighted(terms: &[(u32, u32)]) -> Vec<sfr::Weighted> {
+    let terms = terms.iter();
+    terms
+        .map(|&(var, weight)| sfr::Weighted { var, weight })
+        .collect()
 }
 
 fn keep(state: &mut State, answer: sfr::RelationAnswer) -> Answer {

@@ -17,7 +17,7 @@ pub fn run(options: &Options) -> bool {
     line.inspect(|line| println!("{line}")).is_some()
 }
 
-fn to_library(rec: Trace) -> sfr::Trace {
+pub fn to_library(rec: Trace) -> sfr::Trace {
     sfr::Trace {
         width: rec.width,
         steps: rec.steps,
@@ -25,7 +25,7 @@ fn to_library(rec: Trace) -> sfr::Trace {
 }
 
 /// The number and the record of an answer.
-fn from_library(answer: sfr::TraceAnswer) -> (u32, Trace) {
+pub fn from_library(answer: sfr::TraceAnswer) -> (u32, Trace) {
     let trace = Trace {
         width: answer.trace.width,
         steps: answer.trace.steps,

@@ -1,11 +1,11 @@
-//! Operations 31, 33 and 41 of a sample: the gate, an instance's bytes read, and the check,
-//! with all that is lent to the call and with what the second reading says of it.
+//! Operations 31 to 33 and 41 of a sample: the gate, an instance's bytes written and read, and
+//! the check, with all that is lent to the call and with what the second reading says of it.
 
 use reading::Instance;
 use source::Sheet;
 
 use super::{
-    trace::{damaged, short_sheet, small_width},
+    trace::{damaged, output, short_sheet, small_width, DIRTY_BYTE},
     Sample,
 };
 use crate::{
@@ -56,6 +56,22 @@ impl Sample {
         }
     }
 
+    fn write_instance(&mut self, held: &Held, room: usize) {
+        self.case(32);
+        self.held(held);
+        self.words.push(room as u32);
+        let mut out = vec![DIRTY_BYTE; room];
+        let answer = reading::instance_to_bytes(
+            held.ins,
+            &held.label,
+            &held.publics,
+            &held.queries,
+            &held.equations,
+            &mut out,
+        );
+        self.written(answer, &out);
+    }
+
     fn read_instance(&mut self, width: u32, bytes: &[u8], rooms: [usize; 4]) {
         self.case(33);
         self.words.push(width);
@@ -69,7 +85,7 @@ impl Sample {
             reading::instance_from_bytes(width, bytes, publics, queries, equations, scratch);
         self.number(answer.number);
         self.instance_record(answer.instance);
-        self.words.push(answer.label.len() as u32);
+        self.bytes(answer.label);
         for store in stores {
             self.words.extend(store);
         }
@@ -99,8 +115,8 @@ impl Sample {
     }
 
     /// A relation that calls make, or one led astray: the gate, and then what it makes or parts
-    /// that no gate has seen, read and checked.
-    pub fn random_instance(&mut self, rng: &mut Rng) {
+    /// that no gate has seen, written, read and checked. What happens to a write is drawn apart.
+    pub fn random_instance(&mut self, rng: &mut Rng, writes: &mut Rng) {
         let width = small_width(rng);
         let mut generator = Generator::of_width(Rng::new(rng.next()), width);
         generator.sheet = generate::sheet(rng, width);
@@ -114,12 +130,14 @@ impl Sample {
         if number == 0 && rng.once_in(2) {
             gated.publics.truncate(2 * gated.ins.publics as usize);
             let trace = generator.trace(&gated);
+            self.random_write_instance(writes, &gated);
             self.random_read_instance(rng, &gated);
             return self.random_check(rng, &gated, trace, &generator.sheet);
         }
         let parts = generate::ungated(rng, width);
         let (trace, sheet) = generate::ungated_trace(rng, width, &parts, &generator.sheet);
         let held = Held::from_parts(width, &parts);
+        self.random_write_instance(writes, &held);
         self.random_read_instance(rng, &held);
         self.random_check(rng, &held, trace, &sheet);
     }
@@ -138,6 +156,21 @@ impl Sample {
             scratch = astray::near_len(rng, scratch);
         }
         self.gate(&state, &label, publics, scratch);
+    }
+
+    /// A write of the instance, as it is or led astray.
+    fn random_write_instance(&mut self, rng: &mut Rng, held: &Held) {
+        let mut held = held.clone();
+        match rng.below(12) {
+            0 => held.ins.width = *rng.pick(&[0, 25, u32::MAX]),
+            1..=5 => astray::held(rng, &mut held),
+            _ => {}
+        }
+        let words = held.publics.len() + held.queries.len() + held.equations.len();
+        let most = 33 + held.label.len() + 4 * words;
+        let (number, bytes) = held.write(most);
+        let exact = if number == 0 { bytes.len() } else { most };
+        self.write_instance(&held, output(rng, exact));
     }
 
     /// A read of the instance's bytes, whole or damaged.

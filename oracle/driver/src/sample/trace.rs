@@ -1,7 +1,7 @@
-//! Operations 21, 22 and 24 of a sample: a step, or a read of a trace's bytes, with all that
-//! is lent to the call and with what the second reading says of it.
+//! Operations 21 to 24 of a sample: a step, or a write or a read of a trace's bytes, with all
+//! that is lent to the call and with what the second reading says of it.
 
-use reading::Trace;
+use reading::{Trace, Written};
 use source::Sheet;
 
 use super::Sample;
@@ -9,6 +9,9 @@ use crate::{astray, calls::DIRT, generate, held, rng::Rng};
 
 /// The longest sheet of a case.
 const SHEET: usize = 300;
+
+/// What every byte of an output holds before a write.
+pub const DIRTY_BYTE: u8 = 0xEE;
 
 /// Widths of which most are small, so that a file holds many cases.
 pub fn small_width(rng: &mut Rng) -> u32 {
@@ -54,6 +57,14 @@ pub fn damaged(rng: &mut Rng, bytes: &[u8], fields: &[usize]) -> Vec<u8> {
     damaged
 }
 
+/// How long an output is, of a write that takes so many bytes.
+pub fn output(rng: &mut Rng, exact: usize) -> usize {
+    match rng.below(3) {
+        0 => astray::near_len(rng, exact),
+        _ => exact + rng.below(6),
+    }
+}
+
 impl Sample {
     fn trace_record(&mut self, rec: Trace) {
         self.words.extend([rec.width, rec.steps]);
@@ -84,6 +95,23 @@ impl Sample {
         self.words.extend(trace);
     }
 
+    fn write_witness(&mut self, rec: Trace, trace: &[u32], room: usize) {
+        self.case(23);
+        self.trace_record(rec);
+        self.list(trace);
+        self.words.push(room as u32);
+        let mut out = vec![DIRTY_BYTE; room];
+        let answer = reading::witness_to_bytes(rec, trace, &mut out);
+        self.written(answer, &out);
+    }
+
+    /// What a write answers, and every byte of its output.
+    pub fn written(&mut self, answer: Written, out: &[u8]) {
+        self.number(answer.number);
+        self.words.push(answer.len as u32);
+        self.packed(out);
+    }
+
     fn read_witness(&mut self, width: u32, bytes: &[u8], room: usize) {
         self.case(24);
         self.words.push(width);
@@ -96,8 +124,9 @@ impl Sample {
         self.words.extend(trace);
     }
 
-    /// A trace of some steps; each of the calls on it, as it is or led astray.
-    pub fn random_trace(&mut self, rng: &mut Rng) {
+    /// A trace of some steps; each of the calls on it, as it is or led astray. What happens to a
+    /// write is drawn apart.
+    pub fn random_trace(&mut self, rng: &mut Rng, writes: &mut Rng) {
         let width = small_width(rng);
         let step = 2 * width as usize;
         let steps = rng.below(5);
@@ -121,7 +150,25 @@ impl Sample {
         let sheet = short_sheet(rng, width);
         self.evaluate_step(rec, trace.clone(), &units(rng, width), &sheet);
         self.append_step(rec, trace.clone(), &units(rng, width), &units(rng, width));
+        self.random_write(writes, rec, trace);
         self.random_read(rng, width, &bytes);
+    }
+
+    /// A write of the trace, as it is or over a record or a store that doesn't fit it.
+    fn random_write(&mut self, rng: &mut Rng, rec: Trace, trace: Vec<u32>) {
+        let (mut rec, mut trace) = (rec, trace);
+        match rng.below(12) {
+            0 => rec.width = *rng.pick(&[0, 25, u32::MAX]),
+            1 => rec.steps = rng.edge(),
+            2 => {
+                let held = 2 * rec.width.min(24) as usize * rec.steps.min(9) as usize;
+                trace.truncate(astray::near_len(rng, held));
+            }
+            3..=5 => astray::word(rng, &mut trace),
+            _ => {}
+        }
+        let exact = 17 + 8 * (rec.width.min(24) * rec.steps.min(9)) as usize;
+        self.write_witness(rec, &trace, output(rng, exact));
     }
 
     /// Bytes as they were written, or damaged, into a store that may be too short.

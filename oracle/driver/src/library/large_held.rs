@@ -1,0 +1,319 @@
+//! `large`: stores of 2^30 words and of one more, and labels of 2^32 bytes, lent to the calls
+//! on traces and instances.
+//!
+//! Zeroed pages take no memory until somebody writes to them; a store that a call clears
+//! takes 4 GiB, one such store at a time.
+
+use reading::{Instance, Relation, Trace, MAX_COUNT};
+
+use super::{instance::to_library, large, side, witness};
+use crate::{
+    compared::{same, Compared},
+    options::Options,
+};
+
+const LIMIT: usize = MAX_COUNT as usize;
+
+/// One wire, no more.
+const REL: Relation = Relation {
+    width: 1,
+    vars_count: 1,
+    queries: 0,
+    equations: 0,
+    words: 0,
+};
+const INS: Instance = Instance {
+    width: 1,
+    vars_count: 1,
+    queries: 0,
+    equations: 0,
+    words: 0,
+    publics: 0,
+};
+const REC: Trace = Trace { width: 1, steps: 0 };
+/// A sheet of width 1 without rounds.
+const SHEET: [u32; 1] = [1];
+
+pub fn run(_: &Options) -> bool {
+    let mut cases = 0;
+    let compared = large::compare()
+        .and_then(|()| read_only(&mut cases))
+        .and_then(|()| cleared(&mut cases));
+    if let Err(difference) = compared {
+        println!("large: a difference: {}", difference.0);
+        return false;
+    }
+    println!("large: the calls on relations and {cases} on traces and instances, no difference");
+    true
+}
+
+/// What is lent, by the names of its stores.
+#[derive(Clone, Copy, Default)]
+struct Lent<'a> {
+    slots: &'a [u32],
+    publics: &'a [u32],
+    queries: &'a [u32],
+    equations: &'a [u32],
+    trace: &'a [u32],
+    sheet: &'a [u32],
+    label: &'a [u8],
+}
+
+/// Every call that only reads the store which is too long, or the longest that may be.
+fn read_only(cases: &mut usize) -> Compared {
+    let long = vec![0u32; LIMIT + 1];
+    let text = vec![0u8; 1 << 32];
+    let few = Lent {
+        slots: &[0],
+        sheet: &SHEET,
+        ..Lent::default()
+    };
+    let mut lent = vec![Lent {
+        label: &text,
+        ..few
+    }];
+    for store in [&long[..LIMIT], &long] {
+        lent.extend([
+            Lent {
+                slots: store,
+                ..few
+            },
+            Lent {
+                publics: store,
+                ..few
+            },
+            Lent {
+                queries: store,
+                ..few
+            },
+            Lent {
+                equations: store,
+                ..few
+            },
+            Lent {
+                trace: store,
+                ..few
+            },
+        ]);
+        // A sheet or list of so many words is never sound: 2 or another number.
+        lent.push(Lent {
+            sheet: store,
+            ..few
+        });
+    }
+    for lent in lent {
+        *cases += 1;
+        gate(lent, &mut [7; 2], &mut [7; 2])?;
+        check(lent, &mut [7; 2])?;
+        write(lent)?;
+        steps(lent)?;
+    }
+    Ok(())
+}
+
+fn gate(lent: Lent, publics: &mut [u32], scratch: &mut [u32]) -> Compared {
+    let Lent {
+        slots,
+        queries,
+        equations,
+        label,
+        ..
+    } = lent;
+    let rel = side::to_library(REL);
+    let library = sfr::compile(rel, label, slots, queries, equations, publics, scratch);
+    let given = (library.number, ends(publics), ends(scratch));
+    dirty(publics);
+    dirty(scratch);
+    let reading = reading::compile(REL, label, slots, queries, equations, publics, scratch);
+    let expected = (reading.number, ends(publics), ends(scratch));
+    same("large, gate", ("library", given), ("reading", expected))
+}
+
+fn check(lent: Lent, scratch: &mut [u32]) -> Compared {
+    let Lent {
+        publics,
+        queries,
+        equations,
+        trace,
+        sheet,
+        label,
+        ..
+    } = lent;
+    let ins = to_library(INS);
+    let library = sfr::is_witness_valid(
+        ins, label, publics, queries, equations, 0, trace, 0, sheet, scratch,
+    );
+    let given = (library, ends(scratch));
+    dirty(scratch);
+    let words = reading::Sheet {
+        rounds: 0,
+        words: sheet,
+    };
+    let reading = reading::is_witness_valid(
+        INS, label, publics, queries, equations, 0, trace, words, scratch,
+    );
+    let expected = (reading, ends(scratch));
+    same("large, check", ("library", given), ("reading", expected))
+}
+
+fn write(lent: Lent) -> Compared {
+    let Lent {
+        publics,
+        queries,
+        equations,
+        trace,
+        label,
+        ..
+    } = lent;
+    let (mut given, mut expected) = ([7; 40], [7; 40]);
+    let ins = to_library(INS);
+    let library = sfr::instance_to_bytes(ins, label, publics, queries, equations, &mut given);
+    let reading =
+        reading::instance_to_bytes(INS, label, publics, queries, equations, &mut expected);
+    same(
+        "large, write SFRI",
+        ("library", (library.number, library.len, &given)),
+        ("reading", (reading.number, reading.len, &expected)),
+    )?;
+    let library = sfr::witness_to_bytes(witness::to_library(REC), trace, &mut given);
+    let reading = reading::witness_to_bytes(REC, trace, &mut expected);
+    same(
+        "large, write SFRW",
+        ("library", (library.number, library.len, given)),
+        ("reading", (reading.number, reading.len, expected)),
+    )?;
+    let library = sfr::public_value(ins, publics, 0);
+    let reading = reading::public_value(INS, publics, 0);
+    same(
+        "large, value in held publics",
+        ("library", (library.number, library.some)),
+        ("reading", (reading.number, reading.value.is_some())),
+    )
+}
+
+/// The builder's calls, with the sheet or a list that is too long; their trace is short.
+fn steps(lent: Lent) -> Compared {
+    let words = reading::Sheet {
+        rounds: 0,
+        words: lent.sheet,
+    };
+    for input in [&[0][..], lent.trace] {
+        let (mut given, mut expected) = ([7; 4], [7; 4]);
+        let rec = witness::to_library(REC);
+        let library = sfr::evaluate_step(rec, &mut given, input, 0, lent.sheet);
+        let reading = reading::evaluate_step(REC, &mut expected, input, words);
+        let library = (witness::from_library(library), given);
+        let reading = ((reading.number, reading.trace), expected);
+        same(
+            "large, evaluate",
+            ("library", library),
+            ("reading", reading),
+        )?;
+        let library = sfr::append_step(rec, &mut given, &[0], input);
+        let reading = reading::append_step(REC, &mut expected, &[0], input);
+        let library = (witness::from_library(library), given);
+        let reading = ((reading.number, reading.trace), expected);
+        same("large, append", ("library", library), ("reading", reading))?;
+    }
+    Ok(())
+}
+
+/// Calls that clear the store which is too long.
+fn cleared(cases: &mut usize) -> Compared {
+    let mut long = vec![0u32; LIMIT + 1];
+    let lent = Lent {
+        slots: &[0],
+        sheet: &SHEET,
+        ..Lent::default()
+    };
+    let bytes: Vec<u8> = b"SFRI\x01"
+        .iter()
+        .copied()
+        .chain(file(&[1, 4, 0, 1, 0, 0, 0]))
+        .collect();
+    for len in [LIMIT, LIMIT + 1] {
+        let store = &mut long[..len];
+        gate(lent, store, &mut [7; 2])?;
+        gate(lent, &mut [7; 2], store)?;
+        check(lent, store)?;
+        read_trace(store)?;
+        for place in 0..4 {
+            read(&bytes, store, place)?;
+        }
+        *cases += 8;
+    }
+    Ok(())
+}
+
+fn file(words: &[u32]) -> impl Iterator<Item = u8> + '_ {
+    words.iter().flat_map(|word| word.to_le_bytes())
+}
+
+fn read_trace(store: &mut [u32]) -> Compared {
+    let bytes: Vec<u8> = b"SFRW\x01"
+        .iter()
+        .copied()
+        .chain(file(&[1, 4, 1, 2, 3]))
+        .collect();
+    dirty(store);
+    let library = sfr::witness_from_bytes(1, &bytes, store);
+    let (number, rec) = witness::from_library(library);
+    let given = (number, rec, ends(store));
+    dirty(store);
+    let reading = reading::witness_from_bytes(1, &bytes, store);
+    let expected = (reading.number, reading.trace, ends(store));
+    same(
+        "large, read SFRW",
+        ("library", given),
+        ("reading", expected),
+    )
+}
+
+/// An SFRI read with the long store in one of its four places.
+fn read(bytes: &[u8], store: &mut [u32], place: usize) -> Compared {
+    let mut answers = Vec::new();
+    for library in [true, false] {
+        let mut few = [[7; 2]; 3];
+        let [a, b, c] = &mut few;
+        dirty(store);
+        let (publics, queries, equations, scratch): (
+            &mut [u32],
+            &mut [u32],
+            &mut [u32],
+            &mut [u32],
+        ) = match place {
+            0 => (store, a, b, c),
+            1 => (a, store, b, c),
+            2 => (a, b, store, c),
+            _ => (a, b, c, store),
+        };
+        let number = if library {
+            sfr::instance_from_bytes(1, bytes, publics, queries, equations, scratch).number
+        } else {
+            reading::instance_from_bytes(1, bytes, publics, queries, equations, scratch).number
+        };
+        let left = [publics, queries, equations, scratch].map(|store| ends(store));
+        answers.push((number, left));
+    }
+    let reading = answers.pop();
+    let library = answers.pop();
+    same(
+        "large, read SFRI",
+        ("library", library),
+        ("reading", reading),
+    )
+}
+
+/// The words at a store's two ends.
+fn ends(store: &[u32]) -> (Vec<u32>, Vec<u32>) {
+    let few = store.len().min(4);
+    (store[..few].to_vec(), store[store.len() - few..].to_vec())
+}
+
+/// Other words at a store's two ends.
+fn dirty(store: &mut [u32]) {
+    let len = store.len();
+    let few = len.min(4);
+    store[..few].fill(7);
+    store[len - few..].fill(7);
+}

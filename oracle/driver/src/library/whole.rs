@@ -1,0 +1,301 @@
+//! `whole`: whole runs of the proved library beside the sources, with no second reading in
+//! between: calls, gate, builder, bytes out and in, and the check. Each side goes on with
+//! what it made itself.
+
+use source::{Instance, Sheet};
+
+use super::{
+    instance::{from_library, to_library},
+    side, witness,
+};
+use crate::{
+    against_source::{
+        calls,
+        instances::{both, Both},
+    },
+    calls::{State, DIRT},
+    compared::{holds, same, Compared, Log, Outcome, Seen},
+    generate::{self, Generator, Mood},
+    held::{Held, Room},
+    lists,
+    options::Options,
+    rng::Rng,
+};
+
+pub fn run(options: &Options) -> bool {
+    source::silence_panics();
+    let line = lists::compare(options, |seed, seen, log| Run { seen, log }.list(seed));
+    line.inspect(|line| println!("{line}")).is_some()
+}
+
+/// One list's run.
+struct Run<'a> {
+    seen: &'a mut Seen,
+    log: &'a Log,
+}
+
+/// An SFRI read by the library, into ample stores.
+fn read(width: u32, bytes: &[u8]) -> (u32, Held) {
+    let room = || vec![DIRT; Room::AMPLE.publics];
+    let (mut publics, mut queries, mut equations) = (room(), room(), room());
+    let scratch = &mut room();
+    let answer = sfr::instance_from_bytes(
+        width,
+        bytes,
+        &mut publics,
+        &mut queries,
+        &mut equations,
+        scratch,
+    );
+    let label = match answer.number {
+        0 => bytes[17..17 + answer.label_len].to_vec(),
+        _ => Vec::new(),
+    };
+    let held = Held {
+        ins: from_library(answer.instance),
+        label,
+        publics,
+        queries,
+        equations,
+    };
+    (answer.number, held)
+}
+
+/// The steps of an SFRW read by the library.
+fn read_trace(width: u32, bytes: &[u8]) -> (u32, Vec<u32>) {
+    let mut trace = vec![DIRT; Room::AMPLE.publics];
+    let (number, rec) = witness::from_library(sfr::witness_from_bytes(width, bytes, &mut trace));
+    trace.truncate(2 * (rec.width * rec.steps) as usize);
+    (number, trace)
+}
+
+impl Run<'_> {
+    fn list(&mut self, seed: u64) -> Compared {
+        let mut generator = Generator::new(Rng::new(seed));
+        let width = generator.width;
+        let label = generate::label(&mut generator.rng);
+        let mut state = generator.state();
+        self.log
+            .say(|| format!("width {width}, {:?}, label {label:?}", generator.mood));
+
+        let relation = source::relation(width, &label);
+        let number = side::new_relation(&mut state, width).number;
+        self.seen.answered("fresh", number);
+        same("fresh", ("library", number), ("source", 0))?;
+        for _ in 0..generator.rng.between(1, 40) {
+            let call = generator.call(&state);
+            self.log.say(|| format!("{call:?}"));
+            let answer = side::run(&mut state, &call);
+            self.seen.answered(call.name(), answer.number);
+            let spelling = generator.rng.below(3);
+            calls::compare(&call, &answer, width, &*relation, spelling)?;
+            calls::compare_states(&state, &*relation)?;
+            generator.note(&call, &answer);
+        }
+
+        let (number, held) = self.gate(&state, &label);
+        if let Some((held, instance)) = both(number, held, relation.compile())? {
+            let trace = self.builder(&generator, &held)?;
+            if generator.mood == Mood::Honest {
+                let number = check(&held, &trace, &generator.sheet);
+                same(
+                    "an honest list's check",
+                    ("library", number),
+                    ("expected", 0),
+                )?;
+            }
+            self.instance(&mut generator, &held, &*instance, &trace)?;
+        }
+
+        // Parts that no gate has seen.
+        let parts = generate::ungated(&mut generator.rng, width);
+        self.log.say(|| format!("Ungated {parts:?}"));
+        let held = Held::from_parts(width, &parts);
+        let instance = source::ungated(width, &parts);
+        let rng = &mut generator.rng;
+        let (trace, sheet) = generate::ungated_trace(rng, width, &parts, &generator.sheet);
+        generator.sheet = sheet;
+        self.instance(&mut generator, &held, &*instance, &trace)
+    }
+
+    /// The gate, in ample stores.
+    fn gate(&mut self, state: &State, label: &str) -> (u32, Held) {
+        self.log.say(|| "Gate".to_owned());
+        let mut publics = vec![DIRT; Room::AMPLE.publics];
+        let answer = sfr::compile(
+            side::to_library(state.rel),
+            label.as_bytes(),
+            &state.slots,
+            &state.queries,
+            &state.equations,
+            &mut publics,
+            &mut vec![DIRT; Room::AMPLE.scratch],
+        );
+        self.seen.answered("gate", answer.number);
+        let held = Held {
+            ins: from_library(answer.instance),
+            label: label.as_bytes().to_vec(),
+            publics,
+            queries: state.queries.clone(),
+            equations: state.equations.clone(),
+        };
+        (answer.number, held)
+    }
+
+    /// A step for each query, evaluated or given, sent through bytes.
+    fn builder(&mut self, generator: &Generator, held: &Held) -> Outcome<Vec<u32>> {
+        let (width, sheet) = (generator.width, &generator.sheet);
+        let builder = source::builder(width, sheet);
+        let mut rec = sfr::Trace { width, steps: 0 };
+        let (_, queries, _) = held.words();
+        let mut trace = vec![DIRT; queries.len()];
+        for (i, query) in queries.chunks(2 * width as usize).enumerate() {
+            let input = generator.values(&query[..width as usize]);
+            let answer = if generator.mood == Mood::Honest && i % 3 == 2 {
+                let output = generator.values(&query[width as usize..]);
+                self.log
+                    .say(|| format!("AppendStep({input:?}, {output:?})"));
+                builder.add_permutation(&input, &output);
+                sfr::append_step(rec, &mut trace, &input, &output)
+            } else {
+                self.log.say(|| format!("EvaluateStep({input:?})"));
+                builder.allocate_permutation(&input);
+                sfr::evaluate_step(rec, &mut trace, &input, sheet.rounds, &sheet.words)
+            };
+            self.seen.answered("builder's steps", answer.number);
+            rec = answer.trace;
+        }
+        same("trace", ("library", &trace), ("source", &builder.trace()))?;
+
+        let mut bytes = vec![0xEE; 17 + 4 * trace.len()];
+        let written = sfr::witness_to_bytes(rec, &trace, &mut bytes);
+        self.seen.answered("write SFRW", written.number);
+        let given = (written.number, written.len, bytes);
+        let expected = builder.to_bytes();
+        let expected = (0, expected.len(), expected);
+        same("SFRW bytes", ("library", &given), ("source", &expected))?;
+
+        let (number, read) = read_trace(width, &given.2);
+        self.seen.answered("read SFRW", number);
+        let expected = source::witness_from_bytes(width, &given.2);
+        let expected = expected.map(|witness| (0, witness.trace()));
+        same(
+            "trace read",
+            ("library", Ok((number, read))),
+            ("source", expected),
+        )?;
+        Ok(trace)
+    }
+
+    /// Values in publics, bytes and checks of what one side's gate made, or of given parts.
+    fn instance(
+        &mut self,
+        generator: &mut Generator,
+        held: &Held,
+        instance: &dyn Instance,
+        trace: &[u32],
+    ) -> Compared {
+        let width = held.ins.width;
+        self.values(held, instance)?;
+        self.checks(generator, held, instance, trace)?;
+
+        let expected = instance.to_bytes();
+        let mut bytes = vec![0xEE; expected.len()];
+        let written = sfr::instance_to_bytes(
+            to_library(held.ins),
+            &held.label,
+            &held.publics,
+            &held.queries,
+            &held.equations,
+            &mut bytes,
+        );
+        self.seen.answered("write SFRI", written.number);
+        let given = (written.number, written.len, &bytes);
+        let answer = (0, expected.len(), &expected);
+        same("SFRI bytes", ("library", given), ("source", answer))?;
+
+        let later = (17 + held.label.len()..bytes.len()).step_by(4);
+        let fields: Vec<usize> = [5, 9, 13].into_iter().chain(later).collect();
+        for i in 0..5 {
+            let damaged = generate::damaged(&mut generator.rng, &bytes, &fields);
+            let bytes = if i == 0 { &bytes } else { &damaged };
+            if let Some((held, instance)) = self.read(width, bytes)? {
+                self.checks(generator, &held, &*instance, trace)?;
+            }
+        }
+        Ok(())
+    }
+
+    /// An SFRI read; the instances where it accepts. Room has no counterpart in the source.
+    fn read(&mut self, width: u32, bytes: &[u8]) -> Outcome<Option<Both>> {
+        self.log.say(|| format!("Read({width}, {bytes:?})"));
+        let (number, held) = read(width, bytes);
+        self.seen.answered("read SFRI", number);
+        match number {
+            10 | 16 => Ok(None),
+            _ => both(number, held, source::instance_from_bytes(width, bytes)),
+        }
+    }
+
+    /// The value of every small wire in held publics, where these increase.
+    fn values(&mut self, held: &Held, instance: &dyn Instance) -> Compared {
+        let (publics, ..) = held.words();
+        let increasing = publics.chunks(2).map(|pair| pair[0]);
+        if !increasing.is_sorted_by(|a, b| a < b) {
+            return Ok(());
+        }
+        for var in 0..6 {
+            let answer = sfr::public_value(to_library(held.ins), &held.publics, var);
+            self.seen.answered("value in held publics", answer.number);
+            let value = answer.some.then_some(answer.value);
+            let given = (answer.number, value);
+            let expected = (0, instance.value(var));
+            same("value", ("library", given), ("source", expected))?;
+        }
+        Ok(())
+    }
+
+    /// The check of a trace and of damaged ones. The source says no more than yes or no.
+    fn checks(
+        &mut self,
+        generator: &mut Generator,
+        held: &Held,
+        instance: &dyn Instance,
+        trace: &[u32],
+    ) -> Compared {
+        if held.ins.vars_count as usize > Room::AMPLE.scratch {
+            return Ok(());
+        }
+        let sheet = generator.sheet.clone();
+        for i in 0..3 {
+            let damaged =
+                generate::damaged_trace(&mut generator.rng, generator.width, trace, &sheet);
+            let trace = if i == 0 { trace } else { &damaged };
+            self.log
+                .say(|| format!("Check({held:?}, {trace:?}, {sheet:?})"));
+            let number = check(held, trace, &sheet);
+            self.seen.answered("check", number);
+            let known = number == 0 || (31..=36).contains(&number);
+            holds("a number of the comparison", known, number)?;
+            let expected = instance.is_witness_valid(&sheet, trace);
+            same("check", ("library", number == 0), ("source", expected))?;
+        }
+        Ok(())
+    }
+}
+
+fn check(held: &Held, trace: &[u32], sheet: &Sheet) -> u32 {
+    let steps = trace.len() / (2 * held.ins.width as usize);
+    sfr::is_witness_valid(
+        to_library(held.ins),
+        &held.label,
+        &held.publics,
+        &held.queries,
+        &held.equations,
+        steps as u32,
+        trace,
+        sheet.rounds,
+        &sheet.words,
+        &mut vec![DIRT; Room::AMPLE.scratch],
+    )
+}
