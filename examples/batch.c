@@ -1,0 +1,73 @@
+/* A batch of premix, weighed by hopper, sack included, and by hand. The two weights stay hidden behind their seals, the
+ * sack's is public, and an equation says that they agree: by hand + sack = hopper. From the repository's root:
+ *
+ *   cc -Iinclude examples/batch.c target/staticlib/libsfr.a -o target/batch && target/batch */
+#include <stdio.h>
+#include <stdlib.h>
+#include "sfr.h"
+
+#define LENT(list) (list), sizeof(list) / sizeof *(list)
+
+static const uint8_t label[] = {'b', 'a', 't', 'c', 'h', ' ', '7'};
+static const uint32_t sheet[] = {0, SFR_PRIME - 1, 5}; /* the recipe: one round that makes x to 5(x - 1)^7 */
+
+static void accepted(uint32_t number)
+{
+    if (number != 0) {
+        printf("refused: %u\n", (unsigned)number);
+        exit(1);
+    }
+}
+
+static sfr_relation go_on(sfr_relation_answer answer)
+{
+    accepted(answer.number);
+    return answer.relation;
+}
+
+/* The check's answer on the files of a batch of these two weights, in this order. */
+static uint32_t batch(const uint32_t weights[2])
+{
+    enum { HOPPER = 1, HAND, SACK }; /* wire 0 is there from the start */
+    uint32_t slots[6], queries[4], equations[8], publics[4], trace[4], scratch[6];
+    uint8_t sfri[128], sfrw[64];
+
+    sfr_relation rel = go_on(sfr_new(1, LENT(slots)));
+    rel = go_on(sfr_allocate_vars(rel, LENT(slots), 3));
+    accepted(sfr_set_var(rel, LENT(slots), SACK, 1));
+    rel = go_on(sfr_allocate_permutation(rel, LENT(slots), LENT(queries), &(uint32_t){HOPPER}, 1));
+    rel = go_on(sfr_allocate_permutation(rel, LENT(slots), LENT(queries), &(uint32_t){HAND}, 1));
+    sfr_weighted terms[] = {{HAND, 1}, {SACK, 1}, {HOPPER, SFR_PRIME - 1}};
+    rel = go_on(sfr_add_equation(rel, LENT(equations), LENT(terms), 0));
+    sfr_instance_answer gate = sfr_compile(rel, LENT(label), LENT(slots), LENT(queries), LENT(equations),
+                                           LENT(publics), LENT(scratch));
+    accepted(gate.number);
+
+    sfr_trace_answer steps = {0, {1, 0}};
+    for (int i = 0; i < 2; i++) {
+        steps = sfr_evaluate_step(steps.trace, LENT(trace), &weights[i], 1, 1, LENT(sheet));
+        accepted(steps.number);
+    }
+
+    sfr_written instance = sfr_instance_to_bytes(gate.instance, LENT(label), LENT(publics), LENT(queries),
+                                                 LENT(equations), LENT(sfri));
+    accepted(instance.number);
+    sfr_written witness = sfr_witness_to_bytes(steps.trace, LENT(trace), LENT(sfrw));
+    accepted(witness.number);
+
+    /* From here on only the bytes count. */
+    sfr_instance_read read = sfr_instance_from_bytes(1, sfri, instance.len, LENT(publics), LENT(queries),
+                                                     LENT(equations), LENT(scratch));
+    accepted(read.number);
+    steps = sfr_witness_from_bytes(1, sfrw, witness.len, LENT(trace));
+    accepted(steps.number);
+    return sfr_is_witness_valid(read.instance, sfri + SFR_LABEL_AT, read.label_len, LENT(publics), LENT(queries),
+                                LENT(equations), steps.trace.steps, LENT(trace), 1, LENT(sheet), LENT(scratch));
+}
+
+int main(void)
+{
+    printf("hopper 3, sack 1, by hand 2: %u\n", (unsigned)batch((uint32_t[]){3, 2})); /* yes */
+    printf("hopper 3, sack 1, by hand 3: %u\n", (unsigned)batch((uint32_t[]){3, 3})); /* no: the sum isn't the image */
+    return 0;
+}

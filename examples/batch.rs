@@ -1,0 +1,53 @@
+//! A batch of premix, weighed by hopper, sack included, and by hand. The two weights stay hidden behind their seals,
+//! the sack's is public, and an equation says that they agree: by hand + sack = hopper. From the repository's root:
+//!
+//! ```sh
+//! cargo run --offline --manifest-path rust/Cargo.toml --example batch
+//! ```
+
+use sfr::{Refused, Trace, Weighted, PRIME};
+
+const LABEL: &[u8] = b"batch 7";
+/// The recipe: one round that makes x to 5(x - 1)^7.
+const SHEET: [u32; 3] = [0, PRIME - 1, 5];
+
+/// The check's answer on the files of a batch of these two weights.
+fn batch(by_hopper: u32, by_hand: u32) -> Result<u32, Refused> {
+    let (slots, queries, equations) = (&mut [0; 6], &mut [0; 4], &mut [0; 8]);
+    let (publics, trace, scratch) = (&mut [0; 4], &mut [0; 4], &mut [0; 6]);
+    let (sfri, sfrw) = (&mut [0; 128], &mut [0; 64]);
+
+    let rel = sfr::new(1, slots).accepted()?;
+    let (hopper, rel) = sfr::allocate_vars(rel, slots, 3).allocated()?;
+    let (hand, sack) = (hopper + 1, hopper + 2);
+    sfr::accepted(sfr::set_var(rel, slots, sack, 1))?;
+    let rel = sfr::allocate_permutation(rel, slots, queries, &[hopper]).accepted()?;
+    let rel = sfr::allocate_permutation(rel, slots, queries, &[hand]).accepted()?;
+    let terms = [(hand, 1), (sack, 1), (hopper, PRIME - 1)];
+    let terms = terms.map(|(var, weight)| Weighted { var, weight });
+    let rel = sfr::add_equation(rel, equations, &terms, 0).accepted()?;
+    let ins = sfr::compile(rel, LABEL, slots, queries, equations, publics, scratch).accepted()?;
+
+    let mut rec = Trace { width: 1, steps: 0 };
+    for weight in [by_hopper, by_hand] {
+        rec = sfr::evaluate_step(rec, trace, &[weight], 1, &SHEET).accepted()?;
+    }
+
+    let instance = sfr::instance_to_bytes(ins, LABEL, publics, queries, equations, sfri);
+    let witness = sfr::witness_to_bytes(rec, trace, sfrw);
+    let (sfri, sfrw) = (&sfri[..instance.accepted()?], &sfrw[..witness.accepted()?]);
+
+    // From here on only the bytes count.
+    let read = sfr::instance_from_bytes(1, sfri, publics, queries, equations, scratch);
+    let (ins, label) = (read.accepted()?, sfr::label(sfri, &read));
+    let rec = sfr::witness_from_bytes(1, sfrw, trace).accepted()?;
+    Ok(sfr::is_witness_valid(
+        ins, label, publics, queries, equations, rec.steps, trace, 1, &SHEET, scratch,
+    ))
+}
+
+fn main() -> Result<(), Refused> {
+    println!("hopper 3, sack 1, by hand 2: {}", batch(3, 2)?); // yes
+    println!("hopper 3, sack 1, by hand 3: {}", batch(3, 3)?); // no: the sum isn't the image
+    Ok(())
+}
