@@ -81,6 +81,9 @@ pub permute-none : (w : ℕ) (words x : List ℕ) → permute (parametersOf w 0 
 unfolding runRounds roundsOf
 permute-none w words x = refl
 
+pub no-rounds : (w rounds : ℕ) (words x : List ℕ) → rounds ≡ 0 → x ≡ permute (parametersOf w rounds words) x
+no-rounds w rounds words x e = rw e (sym (permute-none w words x))
+
 -- ---- evaluations
 module _ (w rounds : ℕ) (words step : List ℕ) where
   pub evaluation-is : isEvaluation w rounds words step ≡ true

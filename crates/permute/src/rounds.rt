@@ -77,8 +77,8 @@ fn run_round(kind: u32, constants: &[u32], columns: &[u64], state: &mut [u32], m
     times_matrix(columns, mixed, state);
 }
 
-// All rounds, in place.
-pub(crate) fn run_rounds(rounds: usize, params: &[u32], state: &mut [u32])
+// All rounds, in place, with the matrix turned once for them.
+fn run_some(rounds: usize, params: &[u32], state: &mut [u32])
     requires { ⌜ (soundParameters (length (now state)) rounds (now params) ≡ true)
         × (areUnits (now state) ≡ true) × (0 < length (now state)) × (length (now state) ≤ 24) ⌝ }
     ensures { λ _. ⌜ now (state .exit) ≡ permute (parametersOf (length (now (state .entry))) rounds (now (params .entry))) (now (state .entry)) ⌝ }
@@ -103,4 +103,16 @@ pub(crate) fn run_rounds(rounds: usize, params: &[u32], state: &mut [u32])
         at = end;
         i += 1;
     }
+}
+
+// All rounds, in place; where there are none the matrix is not looked at.
+pub(crate) fn run_rounds(rounds: usize, params: &[u32], state: &mut [u32])
+    requires { ⌜ (soundParameters (length (now state)) rounds (now params) ≡ true)
+        × (areUnits (now state) ≡ true) × (0 < length (now state)) × (length (now state) ≤ 24) ⌝ }
+    ensures { λ _. ⌜ now (state .exit) ≡ permute (parametersOf (length (now (state .entry))) rounds (now (params .entry))) (now (state .entry)) ⌝ }
+{
+    if rounds == 0 {
+        return;
+    }
+    run_some(rounds, params, state);
 }
