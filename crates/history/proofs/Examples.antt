@@ -21,7 +21,7 @@ use Rattle.permute.specs.Parameters.{roundsOf, rowsOf, parametersOf, soundKinds
 use Rattle.instance.specs.Parts.{Parts, partsOf}
 use Rattle.instance.specs.Held.{equationsSound, publicsSound, slotsSound}
 use Rattle.instance.specs.Validated.{validatedNo, gateNo}
-use Rattle.instance.specs.Gate.{publicsOf, compiledParts, compileNo, compile, compilePublics}
+use Rattle.compile.specs.Gate.{publicsOf, compiledParts, compileNo, compile, compilePublics}
 use Rattle.validity.specs.Check.{checkNo}
 use Rattle.validity.specs.Valid.{isWitnessValidNo}
 use Rattle.narg.specs.Bytes.{u32Bytes}

@@ -24,7 +24,7 @@ use Rattle.permutation.specs.declared.PermutationRelation.{PermutationRelation}
 use Rattle.instance.specs.declared.PermutationInstance.{PermutationInstance}
 use Rattle.instance.specs.Parts.{Parts, pairWords, heldPublics, heldQueries, heldEquations, partsOf}
 use Rattle.instance.specs.Validated.{validatedNo}
-use Rattle.instance.specs.Gate.{publicsOf, publicsStore, compileNo}
+use Rattle.compile.specs.Gate.{publicsOf, publicsStore, compileNo}
 use Rattle.permutation.specs.Answers.{outcomeNumber}
 use Rattle.instance.proofs.Facts.{allBelow-facts, facts-validated}
 use Rattle.instance.proofs.Parts.{pairWords-length}

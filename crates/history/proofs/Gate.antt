@@ -25,9 +25,9 @@ use Rattle.permutation.specs.declared.PermutationRelation.{PermutationRelation}
 use Rattle.instance.specs.Parts.{pairVars, has}
 use Rattle.instance.specs.Held.{equationsSound}
 use Rattle.instance.specs.Validated.{termwiseAsks, validatedNo}
-use Rattle.instance.specs.Gate.{publicsFrom, publicsOf, compiledParts, compileNo}
+use Rattle.compile.specs.Gate.{publicsFrom, publicsOf, compiledParts, compileNo}
 use Rattle.instance.proofs.Facts.{facts-allBelow, SoundSlot, facts-slotsSound}
-use Rattle.instance.proofs.Rising.{publicsOf-below}
+use Rattle.compile.proofs.Rising.{publicsOf-below}
 use Rattle.history.specs.Ledger.{Ledger, known}
 use Rattle.history.specs.Calls.{State}
 use Rattle.history.specs.Left.{numberOf, publicCount, compileLeft}

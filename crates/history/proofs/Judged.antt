@@ -16,7 +16,7 @@ use Rattle.permutation.specs.State.{HoldsSlots}
 use Rattle.instance.specs.Parts.{pairVars, has}
 use Rattle.instance.specs.Validated.{bound}
 use Rattle.instance.proofs.Facts.{Valid}
-use Rattle.instance.specs.Gate.{publicsFrom}
+use Rattle.compile.specs.Gate.{publicsFrom}
 use Rattle.validity.specs.Check.{checkNo}
 use Rattle.history.specs.Ledger.{Ledger, known}
 use Rattle.history.specs.Demand.{Checked}

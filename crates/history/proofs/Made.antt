@@ -22,10 +22,11 @@ use Rattle.permutation.specs.declared.PermutationRelation.{PermutationRelation}
 use Rattle.instance.specs.declared.PermutationInstance.{PermutationInstance}
 use Rattle.instance.specs.Parts.{pairVars, pairValues, pairWords, pairsAt, heldPublics, heldQueries, heldEquations, partsOf}
 use Rattle.instance.specs.Held.{publicsSound, equationsSound}
-use Rattle.instance.specs.Gate.{publicsFrom, publicsOf, instanceOf, publicsStore, compileNo, compile, compilePublics}
+use Rattle.compile.specs.Gate.{publicsFrom, publicsOf, instanceOf, publicsStore, compileNo, compile, compilePublics}
 use Rattle.instance.proofs.Parts.{pairWords-length, pairsAt-pairWords}
-use Rattle.instance.proofs.Facts.{facts-allBelow, Valid, Compiles, compile-facts}
-use Rattle.instance.proofs.Rising.{publicsOf-values}
+use Rattle.instance.proofs.Facts.{facts-allBelow, Valid}
+use Rattle.compile.proofs.Facts.{Compiles, compile-facts}
+use Rattle.compile.proofs.Rising.{publicsOf-values}
 use Rattle.history.specs.Ledger.{Ledger}
 use Rattle.history.specs.Calls.{State}
 use Rattle.history.specs.Whole.{compiled, publicsMade}

@@ -15,7 +15,7 @@ use Rattle.allocator.specs.Slots.{Pair, pair}
 use Rattle.allocator.specs.Values.{Values, isSome, nothing, put, putAll, slotUnit, look}
 use Rattle.allocator.proofs.Values.{put-same}
 use Rattle.instance.specs.Parts.{pairVars, has}
-use Rattle.instance.specs.Gate.{publicsFrom}
+use Rattle.compile.specs.Gate.{publicsFrom}
 
 put-other : (p : Pair) (g : Values) (x : ℕ) → (x ≡ p .var → ⊥) → put p g x ≡ g x
 put-other p g x h = rw (ne-eqb x (p .var) h)

@@ -16,7 +16,7 @@ use Rattle.allocator.specs.Slots.{Pair, pair}
 use Rattle.expr.specs.Equation.{Term, Equation, termVars, termWeights, equationWords, equationsWords, equationsHeld}
 use Rattle.expr.proofs.Held.{length-equation}
 use Rattle.instance.specs.Parts.{pairVars, pairValues}
-use Rattle.instance.specs.Gate.{publicsFrom}
+use Rattle.compile.specs.Gate.{publicsFrom}
 use Rattle.instance.proofs.Facts.{allBelow-facts}
 use Rattle.encoding.specs.Read.{increasing}
 use Rattle.encoding.specs.Sound.{SoundPair, SoundTerm, SoundEquation, SoundPiece}

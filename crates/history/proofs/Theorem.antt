@@ -7,7 +7,7 @@ use lib.ListN.{length}
 use Rattle.limits.specs.Questions.{firstNo}
 use Rattle.permutation.specs.Answers.{outcomeNumber, newRelation}
 use Rattle.instance.specs.declared.PermutationInstance.{PermutationInstance}
-use Rattle.instance.specs.Gate.{compileNo, compile}
+use Rattle.compile.specs.Gate.{compileNo, compile}
 use Rattle.permutation.proofs.Answered.{outcome-number}
 use Rattle.history.specs.Ledger.{Ledger}
 use Rattle.history.specs.Calls.{Call, State, firstLedger}

@@ -28,9 +28,9 @@ use Rattle.permutation.specs.declared.Outcome.the-variants as outcome
 use Rattle.permutation.specs.Answers.{outcomeNumber}
 use Rattle.permute.specs.Parameters.{parametersOf, soundParameters}
 use Rattle.instance.specs.Parts.{heldPublics, heldQueries, heldEquations, partsOf}
-use Rattle.instance.specs.Gate.{compile, compilePublics}
 use Rattle.instance.specs.declared.PermutationInstance.{PermutationInstance}
-use Rattle.instance.specs.declared.Compiled.{Compiled}
+use Rattle.compile.specs.Gate.{compile, compilePublics}
+use Rattle.compile.specs.declared.Compiled.{Compiled}
 use Rattle.validity.specs.Valid.{stepsOf, isWitnessValid}
 use Rattle.encoding.specs.Read.{Rooms, File}
 use Rattle.encoding.specs.Answers.{writtenOf, writtenOut, instanceToBytes, instanceToBytesNo, witnessToBytes, witnessToBytesNo, instanceFromBytes, witnessFromBytes, instanceAnswer, publicsAfter, queriesAfter, equationsAfter, witnessAnswer, traceAfter, labelPart}

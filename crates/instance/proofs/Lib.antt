@@ -3,9 +3,6 @@ pub mod Sound
 pub mod Parts
 pub mod Terms
 pub mod Marks
-pub mod Publics
 pub mod Values
 pub mod Gate
 pub mod Facts
-pub mod Rising
-pub mod Examples

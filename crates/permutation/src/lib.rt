@@ -114,7 +114,7 @@ pub fn new(width: u32, slots: &mut [u32]) -> Recorded
 }
 
 // Questions 1 and 2 of a relation and its slots.
-fn asked_relation(width: u32, vars: u32, len: usize) -> u32
+pub fn asked_relation(width: u32, vars: u32, len: usize) -> u32
     ensures { λ r. ⌜ r ≡ firstNo (widthAsks width ++ slotsAsks vars len) ⌝ }
 {
     let no = limits::asked_width(0, width);

@@ -2,7 +2,8 @@
 
 ghost use mathlib.Core.Path.{_≡_};
 ghost use lib.ListN.{length, replicate};
-ghost use Rattle.instance.specs.Gate.{compile, compilePublics, publicValue};
+ghost use Rattle.instance.specs.Gate.{publicValue};
+ghost use Rattle.compile.specs.Gate.{compile, compilePublics};
 ghost use Rattle.sfr.specs.Relation.{valueAnswer};
 ghost use Rattle.sfr.specs.Gate.{compiledAnswer, headingAnswer};
 use crate::relation::SfrValue;
@@ -33,7 +34,7 @@ pub extern "C" fn sfr_compile(
         × (now (publics .exit) ≡ compilePublics rel (now (label .entry)) (now (slots .entry)) (now (queries .entry)) (now (equations .entry)) (now (publics .entry)) (now (scratch .entry)))
         × (now (scratch .exit) ≡ replicate (length (now (scratch .entry))) 0) ⌝ }
 {
-    let made = instance::compile(rel, label, slots, queries, equations, publics, scratch);
+    let made = compile::compile(rel, label, slots, queries, equations, publics, scratch);
     let o = made.outcome;
     let instance = made.instance;
     SfrInstanceAnswer {

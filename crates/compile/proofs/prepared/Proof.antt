@@ -2,9 +2,9 @@
 -- Assumes nothing.
 use borrow.Author.Needs.{needs}
 use denote.Ref.{now}
-use Rattle.instance.proofs.Gate.{prepared-by}
-use Rattle.instance.proofs.prepared.Statement.{statement}
-use Rattle.instance.proofs.prepared.Tie as tie
+use Rattle.compile.proofs.Gate.{prepared-by}
+use Rattle.compile.proofs.prepared.Statement.{statement}
+use Rattle.compile.proofs.prepared.Tie as tie
 
 asked-relation-requires : tie.Need-asked-relation-requires
 asked-relation-requires c κs = search needs

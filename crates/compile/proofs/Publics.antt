@@ -15,9 +15,9 @@ use Rattle.limits.specs.Questions.{pick}
 use Rattle.words.specs.Store.{putWords}
 use Rattle.words.proofs.Written.{sets-put}
 use Rattle.allocator.specs.Slots.{Pair, pair}
 use Rattle.instance.specs.Parts.{pairWords}
-use Rattle.instance.specs.Gate.{publicsFrom, publicsStore}
 use Rattle.instance.proofs.Parts.{pairWords-length}
+use Rattle.compile.specs.Gate.{publicsFrom, publicsStore}
 
 -- ---- from wire i on
 unfoldable pub publicsAt : List ℕ → ℕ → List Pair

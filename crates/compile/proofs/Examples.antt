@@ -10,8 +10,8 @@ use Rattle.allocator.specs.Slots.{pair}
 use Rattle.expr.specs.Equation.{equationAt, sizeAt}
 use Rattle.permutation.specs.Answers.{relation}
 use Rattle.permutation.specs.declared.PermutationRelation.{PermutationRelation}
 use Rattle.instance.specs.Held.{equationsSound, slotsSound}
-use Rattle.instance.specs.Gate.{publicsOf, compiledParts, compileNo, compilePublics}
+use Rattle.compile.specs.Gate.{publicsOf, compiledParts, compileNo, compilePublics}
 
 -- two wires, of which 1 is unassigned and in no query, and an equation weight · wire 1 = 0
 abbrev unbound : ℕ → ℕ

@@ -7,10 +7,10 @@ use Prim.Native.Nat.{_≤_, _-_, _+_}
 use mathlib.Core.Path.{_≡_, ap}
 use mathlib.Core.Logic.{⊎-elim}
 use lib.ListN.{length}
-use Rattle.instance.specs.Gate.{publicsFrom}
-use Rattle.instance.proofs.Publics.{publicsAt, publics-done, publics-skip, publics-take, publics-whole}
-use Rattle.instance.proofs.assigned.Statement.{statement}
-use Rattle.instance.proofs.assigned.Tie as tie
+use Rattle.compile.specs.Gate.{publicsFrom}
+use Rattle.compile.proofs.Publics.{publicsAt, publics-done, publics-skip, publics-take, publics-whole}
+use Rattle.compile.proofs.assigned.Statement.{statement}
+use Rattle.compile.proofs.assigned.Tie as tie
 
 abbrev Inv-loop : tie.InvT-loop
 Inv-loop slots n₀ i₀ n i = (n + length (publicsAt slots i) ≡ length (publicsFrom 0 slots)) × (i ≤ length slots) × (n ≤ i)

@@ -2,8 +2,8 @@
 -- Assumes nothing.
 use borrow.Author.Needs.{needs}
 use Rattle.limits.proofs.Questions.{▸-assoc, ▸-zero}
-use Rattle.instance.proofs.asked_stores.Statement.{statement}
-use Rattle.instance.proofs.asked_stores.Tie as tie
+use Rattle.compile.proofs.asked_stores.Statement.{statement}
+use Rattle.compile.proofs.asked_stores.Tie as tie
 
 asked-store-requires : tie.Need-asked-store-requires
 asked-store-requires c κs = search needs

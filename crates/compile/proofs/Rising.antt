@@ -16,12 +16,13 @@ use Rattle.words.specs.Store.{All}
 use Rattle.words.proofs.Lists.{all-map}
 use Rattle.allocator.specs.Slots.{Pair, pair}
 use Rattle.permutation.specs.declared.PermutationRelation.{PermutationRelation}
 use Rattle.instance.specs.Parts.{pairVars, pairValues}
 use Rattle.instance.specs.Held.{publicsSound}
-use Rattle.instance.specs.Gate.{publicsFrom, publicsOf, publicsStore}
 use Rattle.instance.proofs.Parts.{pairsAt-pairWords, pairsAt-take}
-use Rattle.instance.proofs.Publics.{take-few}
-use Rattle.instance.proofs.Facts.{Below, SoundSlot, facts-allBelow, Compiles}
+use Rattle.instance.proofs.Facts.{Below, SoundSlot, facts-allBelow}
+use Rattle.compile.specs.Gate.{publicsFrom, publicsOf, publicsStore}
+use Rattle.compile.proofs.Publics.{take-few}
+use Rattle.compile.proofs.Facts.{Compiles}
 
 -- ---- the wires strictly increase, from a lowest one on
 abbrev pub Rising : ℕ → List Pair → Type 0

@@ -8,11 +8,11 @@ use Prim.Native.Nat.{ℕ, _<_}
 use mathlib.Core.Path.{_≡_, sym, ap, _∙_}
 use lib.ListN.{length, take, replicate}
 use Rattle.limits.proofs.Questions.{zero-▸}
-use Rattle.instance.specs.Gate.{preparedNo}
-use Rattle.instance.proofs.Publics.{take-few}
-use Rattle.instance.proofs.Gate.{prepares, refuses-first, refuses-gate, accepts, vars-fit, publics-fit}
-use Rattle.instance.proofs.compile.Statement.{statement}
-use Rattle.instance.proofs.compile.Tie as tie
+use Rattle.compile.specs.Gate.{preparedNo}
+use Rattle.compile.proofs.Publics.{take-few}
+use Rattle.compile.proofs.Gate.{prepares, refuses-first, refuses-gate, accepts, vars-fit, publics-fit}
+use Rattle.compile.proofs.compile.Statement.{statement}
+use Rattle.compile.proofs.compile.Tie as tie
 
 fill-requires : tie.Need-fill-requires
 fill-requires c κs = search needs

@@ -8,10 +8,10 @@ use Prim.Native.Nat.{_≤_, _-_, _+_, _*_}
 use mathlib.Core.Path.{_≡_, refl, sym, ap, _∙_}
 use mathlib.Core.Logic.{⊎-elim}
 use lib.ListN.{length, length-set}
-use Rattle.instance.specs.Gate.{publicsFrom}
-use Rattle.instance.proofs.Publics.{publicsAt, publics-whole, publics-done, publics-skip, publics-take, stored, store-pair, stored-none, stored-put}
-use Rattle.instance.proofs.put_publics.Statement.{statement}
-use Rattle.instance.proofs.put_publics.Tie as tie
+use Rattle.compile.specs.Gate.{publicsFrom}
+use Rattle.compile.proofs.Publics.{publicsAt, publics-whole, publics-done, publics-skip, publics-take, stored, store-pair, stored-none, stored-put}
+use Rattle.compile.proofs.put_publics.Statement.{statement}
+use Rattle.compile.proofs.put_publics.Tie as tie
 
 abbrev Inv-loop : tie.InvT-loop
 Inv-loop out₀ slots n₀ to₀ i₀ out n to i =

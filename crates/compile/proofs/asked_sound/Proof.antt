@@ -6,10 +6,10 @@ use denote.Ref.{now}
 use mathlib.Core.Path.{_≡_}
 use lib.ListN.{length, take}
 use Rattle.limits.proofs.Questions.{▸-assoc, ▸-zero}
-use Rattle.instance.specs.Gate.{publicsFrom, publicsOf}
-use Rattle.instance.proofs.Publics.{publics-fewer}
-use Rattle.instance.proofs.asked_sound.Statement.{statement}
-use Rattle.instance.proofs.asked_sound.Tie as tie
+use Rattle.compile.specs.Gate.{publicsFrom, publicsOf}
+use Rattle.compile.proofs.Publics.{publics-fewer}
+use Rattle.compile.proofs.asked_sound.Statement.{statement}
+use Rattle.compile.proofs.asked_sound.Tie as tie
 
 cast-held-words : tie.Need-cast-held-words
 cast-held-words c = search needs
