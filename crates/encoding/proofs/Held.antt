@@ -24,7 +24,8 @@ use Rattle.instance.specs.Parts.{pairWords, pairsAt, heldPublics, heldQueries, 
 use Rattle.instance.specs.Held.{partsAsks, heldAsks, equationsSound}
 use Rattle.instance.specs.declared.PermutationInstance.{PermutationInstance}
 use Rattle.instance.proofs.Parts.{flat-held}
-use Rattle.encoding.specs.Form.{letterI, version, headerBytes, labelBytes, instanceBytes, heldBytes}
+use Rattle.header.specs.Form.{letterI, version, headerBytes}
+use Rattle.encoding.specs.Form.{labelBytes, instanceBytes, heldBytes}
 use Rattle.encoding.specs.Answers.{instanceToBytes, instanceAsks, instanceToBytesNo}
 use Rattle.encoding.proofs.Length.{length-header, publics-bytes, pieces-bytes, equations-bytes}
 use Rattle.encoding.proofs.Stored.{fit-append, put-next, length-pieces}

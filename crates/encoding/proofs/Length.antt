@@ -17,7 +17,8 @@ use Rattle.allocator.specs.Slots.{Pair}
 use Rattle.expr.specs.Equation.{Term, Equation, termWords, equationWords, equationsWords}
 use Rattle.instance.specs.Parts.{Parts, pairWords}
 use Rattle.instance.proofs.Parts.{pairWords-length}
-use Rattle.encoding.specs.Form.{headerBytes, pairBytes, termBytes, pieceBytes, equationBytes, instanceBytes, witnessBytes}
+use Rattle.header.specs.Form.{headerBytes}
+use Rattle.encoding.specs.Form.{pairBytes, termBytes, pieceBytes, equationBytes, instanceBytes, witnessBytes}
 
 -- ---- parts as words
 pub publics-bytes : (ps : List Pair) → each pairBytes ps ≡ each u32Bytes (pairWords ps)

@@ -1,10 +1,4 @@
-pub mod Fields
 pub mod Length
 pub mod Stored
-pub mod Told
-pub mod Magic
-pub mod Run
 pub mod Steps
 pub mod Held
-pub mod Equations
-pub mod Files

@@ -1,18 +1,21 @@
--- Bytes written one part after the other, as one written part; what a write answers; and a store that was
--- filled with 0 before it was written to. Assumes nothing.
-use Prim.Native.Nat.{ℕ, zero, suc, _+_, _-_, _≤_}
+-- Bytes written one part after the other, as one written part; and what a write answers. Assumes nothing.
+use Prim.Native.Nat.{ℕ, zero, suc, _+_, _≤_}
 use mathlib.Core.Path.{_≡_, refl, sym, ap, _∙_}
-use mathlib.Core.List.{List, _++_}
+use mathlib.Core.List.{List, [], _∷_, _++_, append-assoc}
 use native.Mathlib.Omega.{arith}
-use lib.ListN.{length, drop, replicate}
+use lib.ListN.{length, set, drop}
+use lib.Seq.{sets-eq}
 use Rattle.limits.specs.Questions.{Question, firstNo}
 use Rattle.limits.proofs.Questions.{stays, goes-on, firstNo-append}
 use Rattle.words.specs.Store.{putWords, fitWords}
 use Rattle.words.specs.Pieces.{pieces}
+use Rattle.narg.specs.Bytes.{u32Bytes}
 use Rattle.narg.proofs.At.{put-fits}
+use Rattle.narg.proofs.Fields.{length-u32Bytes}
 use Rattle.narg.proofs.Stores.{putWords-append, length-putWords}
 use Rattle.permutation.specs.declared.Outcome.the-variants.{Accepted, Refused}
-use Rattle.encoding.specs.Answers.{writtenOf, writtenOut, padded}
+use Rattle.header.specs.Form.{magic, headerBytes}
+use Rattle.encoding.specs.Answers.{writtenOf, writtenOut}
 
 -- one part more, at the end of what is written
 pub put-append : (xs ys out : List ℕ) (at : ℕ) → at ≡ length xs → length xs ≤ length out
@@ -32,15 +35,26 @@ fit-append xs ys out at e h =
 pub fit-is : (at : ℕ) (ys out : List ℕ) → at + length ys ≤ length out → fitWords at ys out ≡ putWords at ys out
 fit-is at ys out h = put-fits out at ys {n = length ys} refl h .1
 
--- two parts from a place on
-pub put-two : (at : ℕ) (xs ys out : List ℕ) (n : ℕ) → at + length xs ≡ n → n ≤ length out → putWords n ys (putWords at xs out) ≡ putWords at (xs ++ ys) out
-put-two at xs ys out n e h =
-    ap (λ (m : ℕ). putWords m ys (putWords at xs out)) (sym e) ∙ putWords-append at xs ys out (omega arith)
-
 -- one part more, stores by name
 pub put-next : (xs ys out before after : List ℕ) (at : ℕ) → before ≡ putWords 0 xs out → after ≡ putWords at ys before → at ≡ length xs → length xs ≤ length out
     → after ≡ putWords 0 (xs ++ ys) out
 put-next xs ys out before after at e f i h = f ∙ ap (λ (t : List ℕ). putWords at ys t) e ∙ put-append xs ys out at i h
+
+-- ---- the header, stored byte by byte and word by word
+pub header-stored : (out : List ℕ) (last version width : ℕ) → 13 ≤ length out
+    → fitWords 9 (u32Bytes 4) (fitWords 5 (u32Bytes width) (set (set (set (set (set out 0 83) 1 70) 2 82) 3 last) 4 version))
+    ≡ putWords 0 (headerBytes last version width) out
+unfolding headerBytes
+header-stored out last version width h =
+    let front = magic last ++ (version ∷ []) in
+    let a = length-u32Bytes width in
+    let b = length-u32Bytes 4 in
+    let e : set (set (set (set (set out 0 83) 1 70) 2 82) 3 last) 4 version ≡ putWords 0 front out =
+    sets-eq front out 0 (omega arith) ∙ simp append-assoc in
+    ap (λ (t : List ℕ). fitWords 9 (u32Bytes 4) (fitWords 5 (u32Bytes width) t)) e
+    ∙ ap (λ (t : List ℕ). fitWords 9 (u32Bytes 4) t) (fit-append front (u32Bytes width) out 5 refl (omega arith))
+    ∙ fit-append (front ++ u32Bytes width) (u32Bytes 4) out 9 (omega arith) (omega arith)
+    ∙ ap (λ (l : List ℕ). putWords 0 l out) (append-assoc front (u32Bytes width) (u32Bytes 4))
 
 -- ---- questions in two parts: the first part's no stays, else the second is asked
 module _ (ps qs : List Question) (no : ℕ) (e : no ≡ firstNo ps) where
@@ -67,14 +81,3 @@ module _ (bytes out : List ℕ) (no answer : ℕ) (e : no ≡ answer) where
 pub length-pieces : (k n : ℕ) (s : List ℕ) → length (pieces k n s) ≡ n
 length-pieces k zero s = refl
 length-pieces k (suc n) s = ap suc (length-pieces k n (drop k s))
-
--- ---- a store that was all 0
-drop-replicate : (n len : ℕ) → drop {A = ℕ} n (replicate len 0) ≡ replicate (len - n) 0
-drop-replicate zero len = let z : len - 0 ≡ len = omega arith in rw z
-drop-replicate (suc n) zero = let z : 0 - suc n ≡ 0 = omega arith in rw z
-drop-replicate (suc n) (suc len) = let z : suc len - suc n ≡ len - n = omega arith in rw z (drop-replicate n len)
-
-pub put-padded : (len : ℕ) (words : List ℕ) → putWords 0 words (replicate len 0) ≡ padded len words
-put-padded len words =
-    let z : 0 + length words ≡ length words = omega arith in
-    rw z (ap (λ (l : List ℕ). words ++ l) (drop-replicate (length words) len))

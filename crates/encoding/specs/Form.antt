@@ -4,9 +4,10 @@
 --         pairs, query count and queries, equation count and equations as held
 --   SFRW  "SFRW", version, w, 4, step count, steps
 --
+-- What stands before the label and the step count is the header (crate `header`).
 -- Assumes nothing.
 use Prim.Native.Nat.{ℕ}
-use mathlib.Core.List.{List, [], _∷_, _++_}
+use mathlib.Core.List.{List, _++_}
 use lib.ListN.{length}
 use Rattle.narg.specs.Bytes.{u32Bytes}
 use Rattle.narg.specs.Reader.{each}
@@ -14,24 +15,7 @@ use Rattle.allocator.specs.Slots.{Pair}
 use Rattle.expr.specs.Equation.{Term, Equation}
 use Rattle.instance.specs.Parts.{Parts}
 use Rattle.instance.specs.declared.PermutationInstance.{PermutationInstance}
-
--- the last byte of a magic tells the two forms apart: "SFRI", "SFRW"
-abbrev pub magic : ℕ → List ℕ
-magic last = 83 ∷ 70 ∷ 82 ∷ last ∷ []
-
-abbrev pub letterI : ℕ
-letterI = 73
-
-abbrev pub letterW : ℕ
-letterW = 87
-
--- the version that is written and read
-abbrev pub version : ℕ
-version = 1
-
--- magic, version byte, width, unit length 4
-unfoldable pub headerBytes : (last version width : ℕ) → List ℕ
-headerBytes last version width = magic last ++ (version ∷ (u32Bytes width ++ u32Bytes 4))
+use Rattle.header.specs.Form.{letterI, letterW, headerBytes}
 
 abbrev pub pairBytes : Pair → List ℕ
 pairBytes p = u32Bytes (p .var) ++ u32Bytes (p .value)

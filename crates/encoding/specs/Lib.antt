@@ -1,6 +1,2 @@
 pub mod Form
-pub mod Read
-pub mod Sound
-pub mod Told
 pub mod Answers
-pub mod Given

@@ -10,9 +10,10 @@ use Rattle.limits.specs.Questions.{_▸_}
 use Rattle.limits.proofs.Questions.{onYes-yes, ▸-zero}
 use Rattle.narg.specs.Reader.{Got, got, stop}
 use Rattle.permutation.specs.Answers.{outcomeNumber}
-use Rattle.encoding.specs.Read.{File}
-use Rattle.encoding.specs.Sound.{gotAfter}
-use Rattle.encoding.specs.Answers.{writtenOf, writtenOut, padded, instanceAnswer, witnessAnswer}
+use Rattle.decoding.specs.Read.{File}
+use Rattle.decoding.specs.Sound.{gotAfter}
+use Rattle.encoding.specs.Answers.{writtenOf, writtenOut}
+use Rattle.decoding.specs.Answers.{padded, instanceAnswer, witnessAnswer}
 
 -- exactly the bytes that were meant
 pub written-bytes : (k : ℕ) (bytes out : List ℕ) → k ≡ 0 → take (writtenOf k bytes .len) (writtenOut k bytes out) ≡ bytes

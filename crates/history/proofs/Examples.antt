@@ -26,9 +26,12 @@ use Rattle.validity.specs.Check.{checkNo}
 use Rattle.validity.specs.Valid.{isWitnessValidNo}
 use Rattle.narg.specs.Bytes.{u32Bytes}
 use Rattle.narg.specs.Reader.{word, part, below}
-use Rattle.encoding.specs.Form.{headerBytes, instanceBytes, witnessBytes}
-use Rattle.encoding.specs.Read.{readMagic, readHeader, readLabel, readPublics, readQueries, readEquations, readParts, readInstance, readFile, readSteps, readWitness}
-use Rattle.encoding.specs.Answers.{instanceToBytesNo, witnessToBytesNo, instanceFromBytes, witnessFromBytes, labelPart}
+use Rattle.header.specs.Form.{headerBytes}
+use Rattle.encoding.specs.Form.{instanceBytes, witnessBytes}
+use Rattle.header.specs.Read.{readMagic, readHeader}
+use Rattle.decoding.specs.Read.{readLabel, readPublics, readQueries, readEquations, readParts, readInstance, readFile, readSteps, readWitness}
+use Rattle.encoding.specs.Answers.{instanceToBytesNo, witnessToBytesNo}
+use Rattle.decoding.specs.Answers.{instanceFromBytes, witnessFromBytes, labelPart}
 use Rattle.roundtrip.proofs.Examples.{outcomes as reads, examples as on-bytes}
 use Rattle.permutation.proofs.Examples.{Examples, examples}
 use Rattle.history.specs.Sat.{Sat, Evaluates}

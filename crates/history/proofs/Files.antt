@@ -30,12 +30,14 @@ use Rattle.instance.proofs.Facts.{allBelow-facts, facts-validated}
 use Rattle.instance.proofs.Parts.{pairWords-length}
 use Rattle.permute.specs.Parameters.{parametersOf, soundParameters}
 use Rattle.validity.specs.Valid.{stepsOf, isWitnessValid}
-use Rattle.encoding.specs.Form.{version, headerBytes, instanceBytes, partsBytes}
-use Rattle.encoding.specs.Read.{File, readInstance, file}
-use Rattle.encoding.specs.Sound.{SoundFile, roomAsks, orderAsks, gotAfter}
-use Rattle.encoding.specs.Answers.{instanceToBytes, instanceToBytesAsks, instanceToBytesNo, instanceFromBytes, instanceAnswer, publicsAfter, queriesAfter, equationsAfter, labelStart, labelPart}
+use Rattle.header.specs.Form.{version, headerBytes}
+use Rattle.encoding.specs.Form.{instanceBytes, partsBytes}
+use Rattle.decoding.specs.Read.{File, readInstance, file}
+use Rattle.decoding.specs.Sound.{SoundFile, roomAsks, orderAsks, gotAfter}
+use Rattle.encoding.specs.Answers.{instanceToBytes, instanceToBytesAsks, instanceToBytesNo}
+use Rattle.decoding.specs.Answers.{instanceFromBytes, instanceAnswer, publicsAfter, queriesAfter, equationsAfter, labelStart, labelPart}
 use Rattle.encoding.specs.declared.Written.{Written}
-use Rattle.encoding.specs.declared.InstanceRead.{InstanceRead}
+use Rattle.decoding.specs.declared.InstanceRead.{InstanceRead}
 use Rattle.encoding.proofs.Length.{length-instanceBytes}
 use Rattle.roundtrip.proofs.Reading.{after-after, read-written}
 use Rattle.permutation.proofs.Answered.{outcome-number}

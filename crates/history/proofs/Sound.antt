@@ -18,8 +18,8 @@ use Rattle.expr.proofs.Held.{length-equation}
 use Rattle.instance.specs.Parts.{pairVars, pairValues}
 use Rattle.compile.specs.Gate.{publicsFrom}
 use Rattle.instance.proofs.Facts.{allBelow-facts}
-use Rattle.encoding.specs.Read.{increasing}
-use Rattle.encoding.specs.Sound.{SoundPair, SoundTerm, SoundEquation, SoundPiece}
+use Rattle.decoding.specs.Read.{increasing}
+use Rattle.decoding.specs.Sound.{SoundPair, SoundTerm, SoundEquation, SoundPiece}
 use Rattle.history.proofs.Shapes.{all-left, all-right}
 
 -- ---- publics in the order of the wires increase

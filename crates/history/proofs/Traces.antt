@@ -19,10 +19,11 @@ use Rattle.narg.specs.Reader.{Got, got}
 use Rattle.permutation.specs.Answers.{outcomeNumber}
 use Rattle.instance.proofs.Parts.{flat-held}
 use Rattle.validity.specs.Valid.{stepsOf}
-use Rattle.encoding.specs.Form.{version}
-use Rattle.encoding.specs.Read.{readWitness}
-use Rattle.encoding.specs.Sound.{SoundPiece, SoundSteps, gotAfter}
-use Rattle.encoding.specs.Answers.{witnessToBytes, witnessToBytesAsks, witnessToBytesNo, witnessFromBytes, witnessAnswer, traceAfter}
+use Rattle.header.specs.Form.{version}
+use Rattle.decoding.specs.Read.{readWitness}
+use Rattle.decoding.specs.Sound.{SoundPiece, SoundSteps, gotAfter}
+use Rattle.encoding.specs.Answers.{witnessToBytes, witnessToBytesAsks, witnessToBytesNo}
+use Rattle.decoding.specs.Answers.{witnessFromBytes, witnessAnswer, traceAfter}
 use Rattle.encoding.proofs.Length.{length-witnessBytes}
 use Rattle.roundtrip.proofs.Reading.{after-after, read-witness-written}
 use Rattle.permutation.proofs.Answered.{outcome-number}

@@ -17,7 +17,7 @@ use Rattle.permutation.specs.Left.{allocateVarsLeft, setVarLeft, setVarsLeft, a
 use Rattle.instance.specs.Parts.{pairVars, has}
 use Rattle.instance.specs.Held.{labelAsks}
 use Rattle.instance.specs.Validated.{termwiseAsks}
-use Rattle.encoding.specs.Read.{Rooms}
+use Rattle.decoding.specs.Read.{Rooms}
 use Rattle.history.specs.Ledger.{Ledger, known}
 use Rattle.history.specs.Calls.{Call, Allocate, Set, SetList, Record, Mint, Equate}
 

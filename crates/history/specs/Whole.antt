@@ -32,11 +32,12 @@ use Rattle.instance.specs.declared.PermutationInstance.{PermutationInstance}
 use Rattle.compile.specs.Gate.{compile, compilePublics}
 use Rattle.compile.specs.declared.Compiled.{Compiled}
 use Rattle.validity.specs.Valid.{stepsOf, isWitnessValid}
-use Rattle.encoding.specs.Read.{Rooms, File}
-use Rattle.encoding.specs.Answers.{writtenOf, writtenOut, instanceToBytes, instanceToBytesNo, witnessToBytes, witnessToBytesNo, instanceFromBytes, witnessFromBytes, instanceAnswer, publicsAfter, queriesAfter, equationsAfter, witnessAnswer, traceAfter, labelPart}
+use Rattle.decoding.specs.Read.{Rooms, File}
+use Rattle.encoding.specs.Answers.{writtenOf, writtenOut, instanceToBytes, instanceToBytesNo, witnessToBytes, witnessToBytesNo}
+use Rattle.decoding.specs.Answers.{instanceFromBytes, witnessFromBytes, instanceAnswer, publicsAfter, queriesAfter, equationsAfter, witnessAnswer, traceAfter, labelPart}
 use Rattle.encoding.specs.declared.Written.{Written}
-use Rattle.encoding.specs.declared.InstanceRead.{InstanceRead}
-use Rattle.encoding.specs.declared.WitnessRead.{WitnessRead}
+use Rattle.decoding.specs.declared.InstanceRead.{InstanceRead}
+use Rattle.decoding.specs.declared.WitnessRead.{WitnessRead}
 use Rattle.history.specs.Ledger.{Ledger}
 use Rattle.history.specs.Sat.{Evaluates}
 use Rattle.history.specs.Calls.{Call, State, fresh, firstLedger, log, final, ledgerOf}

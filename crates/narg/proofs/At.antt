@@ -55,6 +55,11 @@ wordAt-read s at v next e = go (word (drop at s)) refl e
         record { reads = w ∙ ap (λ (l : List ℕ). got x l) (t .1) ∙ ap (λ (n : ℕ). got n (drop (at + 4) s)) ev; fits = t .0; past = sym (ap (λ (c : Cursor). c .at) en) }
     go (stop k) w f = absurd (never v next f)
 
+-- a word at a place, with what is left
+pub word-next : (s : List ℕ) (at v : ℕ) (next : Cursor) → wordAt s at ≡ Read v next → word (drop at s) ≡ got v (drop (next .at) s)
+word-next s at v next e =
+    let w = wordAt-read s at v next e in w .reads ∙ ap (λ (m : ℕ). got v (drop m s)) (sym (w .past))
+
 pub wordAt-stop : (s : List ℕ) (at : ℕ) → wordAt s at ≡ Short → word (drop at s) ≡ stop 20
 unfolding wordAt
 wordAt-stop s at e = go (word (drop at s)) refl e

@@ -40,6 +40,11 @@ putWords-append at xs ys s h =
     let z : at + (length xs + length ys) ≡ at + length xs + length ys = omega arith in
     rw (e, t, d) (simp (length-append, append-assoc, z))
 
+-- the same with the second's place by name
+pub put-two : (at : ℕ) (xs ys out : List ℕ) (n : ℕ) → at + length xs ≡ n → n ≤ length out → putWords n ys (putWords at xs out) ≡ putWords at (xs ++ ys) out
+put-two at xs ys out n e h =
+    ap (λ (m : ℕ). putWords m ys (putWords at xs out)) (sym e) ∙ putWords-append at xs ys out (omega arith)
+
 pub length-putWords : (at : ℕ) (xs s : List ℕ) → at + length xs ≤ length s → length (putWords at xs s) ≡ length s
 length-putWords at xs s h = simp (length-append, length-take, length-drop) (omega arith)
 

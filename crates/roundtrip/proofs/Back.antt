@@ -18,52 +18,36 @@ use Rattle.words.specs.Store.{All}
 use Rattle.words.specs.Pieces.{wordsOf}
 use Rattle.utf8.specs.Utf8.{isUtf8}
 use Rattle.narg.specs.Bytes.{wordEnd, IsBytes, u32Bytes}
-use Rattle.narg.specs.Reader.{Got, got, stop, Reader, onGot, _>>=_, _>>_, give, need, number, byte, word, part, wire, unit, times, items, each}
+use Rattle.narg.specs.Reader.{got, Reader, _>>=_, _>>_, give, need, number, byte, word, part, wire, unit, times, items, each}
 use Rattle.narg.proofs.Fields.{length-u32Bytes, never, isBytes-rest, word-back, part-back, part-length}
 use Rattle.narg.proofs.Lists.{passed, need-got, items-cons, items-back}
 use Rattle.allocator.specs.Slots.{Pair}
 use Rattle.expr.specs.Equation.{Equation}
 use Rattle.instance.specs.Parts.{Parts}
 use Rattle.instance.specs.Validated.{gateNo}
-use Rattle.encoding.specs.Form.{letterI, letterW, magic, headerBytes, labelBytes, pairBytes, pieceBytes, equationBytes, partsBytes, instanceBytes, witnessBytes}
-use Rattle.encoding.specs.Read.{Rooms, File, readMagic, readHeader, readLabel, readPair, readEquation, pairSize, pieceSize, sizeOf, readPublics, readQueries, readEquations, readParts, readSteps, increasing, file, readFile, ended, readInstance, readWitness}
-use Rattle.encoding.specs.Sound.{SoundPair, SoundEquation, SoundPiece, SoundFile, SoundSteps, roomAsks, orderAsks, gotAfter}
-use Rattle.encoding.specs.Answers.{labelPart}
-use Rattle.encoding.proofs.Fields.{word-below, pair-back, pair-sound, equation-back, equation-sound, piece-back, piece-sound}
+use Rattle.header.specs.Form.{letterI, letterW, magic, headerBytes}
+use Rattle.encoding.specs.Form.{labelBytes, pairBytes, pieceBytes, equationBytes, partsBytes, instanceBytes, witnessBytes}
+use Rattle.header.specs.Read.{readMagic, readHeader}
+use Rattle.decoding.specs.Read.{Rooms, File, readLabel, readPair, readEquation, pairSize, pieceSize, sizeOf, readPublics, readQueries, readEquations, readParts, readSteps, increasing, file, readFile, ended, readInstance, readWitness}
+use Rattle.decoding.specs.Sound.{SoundPair, SoundEquation, SoundPiece, SoundFile, SoundSteps, roomAsks, orderAsks, gotAfter}
+use Rattle.decoding.specs.Answers.{labelPart}
+use Rattle.roundtrip.proofs.Fields.{word-below, pair-back, pair-sound, equation-back, equation-sound, piece-back, piece-sound}
 use Rattle.encoding.proofs.Length.{length-header}
+use Rattle.header.proofs.Got.{took, asked, need-last, got-is, HeaderGot, header-got}
 use Rattle.roundtrip.proofs.Reading.{read-written, read-witness-written}
 
 -- what is left of bytes is bytes
 rest-bytes : (l r bs : List ℕ) → l ++ r ≡ bs → IsBytes bs → IsBytes r
 rest-bytes l r bs e h = isBytes-rest l r (rw e h)
 
--- ---- a reader and then another, a question and then a reader: what follows from what both got
-took : {A B C : Type 0} (g : Got A) (next : A → Reader B) (b : B) (r : List ℕ) → onGot g next ≡ got b r
-    → ((a : A) (m : List ℕ) → g ≡ got a m → next a m ≡ got b r → C) → C
-took (got a m) next b r e k = k a m refl e
-took (stop j) next b r e k = absurd (never e)
-
-asked : {B C : Type 0} (k : ℕ) (says : Bool) (bs : List ℕ) (next : Reader B) (b : B) (r : List ℕ) → (need k says >> next) bs ≡ got b r
-    → (says ≡ true → next bs ≡ got b r → C) → C
-asked k true bs next b r e f = f refl e
-asked k false bs next b r e f = absurd (never e)
-
 -- ---- header and label
 both-true : (a b : Bool) → (a && b) ≡ true → (a ≡ true) × (b ≡ true)
 both-true true b e = (refl, e)
 both-true false b e = (cc, cc)
 
--- a question that was the last
-need-last : (k : ℕ) (says : Bool) (bs : List ℕ) (u : Unit {0}) (r : List ℕ) → need k says bs ≡ got u r → (says ≡ true) × (bs ≡ r)
-need-last k true bs u r e = (refl, cc)
-need-last k false bs u r e = absurd (never e)
-
 byte-back : (bs : List ℕ) (a : ℕ) (r : List ℕ) → byte bs ≡ got a r → a ∷ r ≡ bs
 byte-back [] a r e = absurd (never e)
 byte-back (x ∷ bs) a r e = cc
-
-got-is : {A : Type 0} {g : Got A} {a b : A} {r s : List ℕ} → g ≡ got a r → a ≡ b → r ≡ s → g ≡ got b s
-got-is e p q = rw (← p, ← q) e
 
 magic-back : (last version : ℕ) (bs : List ℕ) (u : Unit {0}) (r : List ℕ) → readMagic last version bs ≡ got u r → magic last ++ (version ∷ r) ≡ bs
 unfolding readMagic
@@ -80,31 +64,6 @@ magic-back last version (a ∷ b ∷ c ∷ d ∷ rest) u r e =
     let ec = both-true _ _ (eb .1) in
     rw (eqb-true a 83 (ea .0), eqb-true b 70 (eb .0), eqb-true c 82 (ec .0), eqb-true d last (ec .1))
     (ap (λ (l : List ℕ). magic last ++ l) (byte-back rest version r (got-is ev (eqb-true v version (n .0)) (n .1))))))
-
--- a header that was read, and what is left after its fields
-record HeaderGot (last version width : ℕ) (bs r : List ℕ) : Type 0 where
-  pub afterMagic : List ℕ
-  pub afterWidth : List ℕ
-  pub magicGot : readMagic last version bs ≡ got tt afterMagic
-  pub widthGot : word afterMagic ≡ got width afterWidth
-  pub unitGot : word afterWidth ≡ got 4 r
-
-header-got : (last version width : ℕ) (bs : List ℕ) (u : Unit {0}) (r : List ℕ) → readHeader last version width bs ≡ got u r
-    → HeaderGot last version width bs r
-unfolding readHeader
-header-got last version width bs u r e =
-    took (readMagic last version bs) _ u r e (λ m afterMagic em e1.
-    took (word afterMagic) _ u r e1 (λ w afterWidth ew e2.
-    asked 23 (eqb w width) afterWidth _ u r e2 (λ tw e3.
-    took (word afterWidth) _ u r e3 (λ n rest en e4.
-    let t = need-last 24 (eqb n 4) rest u r e4 in
-    record {
-      afterMagic = afterMagic;
-      afterWidth = afterWidth;
-      magicGot = em;
-      widthGot = got-is ew (eqb-true w width tw) refl;
-      unitGot = got-is en (eqb-true n 4 (t .0)) (t .1);
-    }))))
 
 header-back : (last version width : ℕ) (bs r : List ℕ) → IsBytes bs → HeaderGot last version width bs r
     → (headerBytes last version width ++ r ≡ bs) × (width < wordEnd) × IsBytes r

@@ -13,9 +13,11 @@ use Rattle.allocator.specs.Slots.{Pair, pair}
 use Rattle.expr.specs.Equation.{equation}
 use Rattle.instance.specs.Parts.{Parts}
 use Rattle.instance.specs.Validated.{gateNo}
-use Rattle.encoding.specs.Form.{version, headerBytes, instanceBytes}
-use Rattle.encoding.specs.Read.{File, file, readMagic, readHeader, readLabel, readPublics, readQueries, readEquations, readParts, readFile, readInstance}
-use Rattle.encoding.specs.Given.{rooms}
+use Rattle.header.specs.Form.{version, headerBytes}
+use Rattle.encoding.specs.Form.{instanceBytes}
+use Rattle.header.specs.Read.{readMagic, readHeader}
+use Rattle.decoding.specs.Read.{File, file, readLabel, readPublics, readQueries, readEquations, readParts, readFile, readInstance}
+use Rattle.decoding.specs.Given.{rooms}
 
 -- instance A of document 01, with any publics: width 1, 3 wires, query 1 to 2, equation 3 · wire 1 = 6
 abbrev withPublics : List Pair → Parts

@@ -23,10 +23,12 @@ use Rattle.allocator.specs.Slots.{Pair}
 use Rattle.expr.specs.Equation.{Equation, equationsWords}
 use Rattle.instance.specs.Parts.{Parts}
 use Rattle.instance.specs.Validated.{gateNo}
-use Rattle.encoding.specs.Form.{letterI, letterW, headerBytes, labelBytes, pairBytes, pieceBytes, equationBytes, partsBytes, instanceBytes, witnessBytes}
-use Rattle.encoding.specs.Read.{Rooms, File, readMagic, readHeader, readLabel, readPair, readEquation, pairSize, pieceSize, sizeOf, readPublics, readQueries, readEquations, readParts, readSteps, increasing, gated, ended, file, readFile, readInstance, readWitness}
-use Rattle.encoding.specs.Sound.{SoundPair, SoundEquation, SoundPiece, SoundFile, SoundSteps, roomAsks, orderAsks, gotAfter}
-use Rattle.encoding.proofs.Fields.{pair-law, equation-law, piece-law, sizes-pairs, sizes-pieces, sizes-equations}
+use Rattle.header.specs.Form.{letterI, letterW, headerBytes}
+use Rattle.encoding.specs.Form.{labelBytes, pairBytes, pieceBytes, equationBytes, partsBytes, instanceBytes, witnessBytes}
+use Rattle.header.specs.Read.{readMagic, readHeader}
+use Rattle.decoding.specs.Read.{Rooms, File, readLabel, readPair, readEquation, pairSize, pieceSize, sizeOf, readPublics, readQueries, readEquations, readParts, readSteps, increasing, gated, ended, file, readFile, readInstance, readWitness}
+use Rattle.decoding.specs.Sound.{SoundPair, SoundEquation, SoundPiece, SoundFile, SoundSteps, roomAsks, orderAsks, gotAfter}
+use Rattle.roundtrip.proofs.Fields.{pair-law, equation-law, piece-law, sizes-pairs, sizes-pieces, sizes-equations}
 
 -- ---- readers after a number
 pub onGot-after : {A B : Type 0} (k : ℕ) (a : A) (r : List ℕ) (next : A → Reader B) → onGot (gotAfter k (got a r)) next ≡ gotAfter k (next a r)

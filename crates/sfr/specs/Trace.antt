@@ -6,7 +6,7 @@ use Rattle.permutation.specs.declared.Outcome.the-variants as outcome
 use Rattle.witness.specs.declared.PermutationWitness.{PermutationWitness}
 use Rattle.witness.specs.declared.Traced.{Traced}
 use Rattle.encoding.specs.declared.Written.{Written}
-use Rattle.encoding.specs.declared.WitnessRead.{WitnessRead}
+use Rattle.decoding.specs.declared.WitnessRead.{WitnessRead}
 use Rattle.permutation.specs.Answers.{outcomeNumber}
 use Rattle.sfr.specs.declared.trace.SfrTraceAnswer.{SfrTraceAnswer}
 use Rattle.sfr.specs.declared.trace.SfrWritten.{SfrWritten}

@@ -2,8 +2,9 @@
 
 ghost use mathlib.Core.Path.{_≡_};
 ghost use lib.ListN.{length, replicate};
-ghost use Rattle.encoding.specs.Given.{rooms};
-ghost use Rattle.encoding.specs.Answers.{writtenOf, writtenOut, instanceToBytesNo, instanceToBytes, instanceFromBytes, instanceAnswer, publicsAfter, queriesAfter, equationsAfter};
+ghost use Rattle.decoding.specs.Given.{rooms};
+ghost use Rattle.encoding.specs.Answers.{writtenOf, writtenOut, instanceToBytesNo, instanceToBytes};
+ghost use Rattle.decoding.specs.Answers.{instanceFromBytes, instanceAnswer, publicsAfter, queriesAfter, equationsAfter};
 ghost use Rattle.sfr.specs.Trace.{writtenAnswer};
 ghost use Rattle.sfr.specs.Sfri.{readAnswer};
 use crate::relation::outcome_no;
@@ -49,7 +50,7 @@ pub extern "C" fn sfr_instance_from_bytes(
         × (now (equations .exit) ≡ equationsAfter (length (now (equations .entry))) (instanceFromBytes width (now (bytes .entry)) (rooms (length (now (publics .entry))) (length (now (queries .entry))) (length (now (equations .entry))) (length (now (scratch .entry))))))
         × (now (scratch .exit) ≡ replicate (length (now (scratch .entry))) 0) ⌝ }
 {
-    let read = encoding::instance_from_bytes(width, bytes, publics, queries, equations, scratch);
+    let read = decoding::instance_from_bytes(width, bytes, publics, queries, equations, scratch);
     let o = read.outcome;
     let instance = read.instance;
     SfrInstanceRead {

@@ -4,7 +4,8 @@ ghost use mathlib.Core.Path.{_≡_};
 ghost use lib.ListN.{length};
 ghost use Rattle.permute.specs.Parameters.{permuteNo, permuted};
 ghost use Rattle.witness.specs.Trace.{addPermutation, addPermutationTrace, allocatePermutation, allocatePermutationTrace};
-ghost use Rattle.encoding.specs.Answers.{writtenOf, writtenOut, witnessToBytesNo, witnessToBytes, witnessFromBytes, witnessAnswer, traceAfter};
+ghost use Rattle.encoding.specs.Answers.{writtenOf, writtenOut, witnessToBytesNo, witnessToBytes};
+ghost use Rattle.decoding.specs.Answers.{witnessFromBytes, witnessAnswer, traceAfter};
 ghost use Rattle.sfr.specs.Trace.{tracedAnswer, writtenAnswer, traceRead};
 use crate::relation::outcome_no;
 use encoding::Written;
@@ -99,7 +100,7 @@ pub extern "C" fn sfr_witness_from_bytes(
 ) -> SfrTraceAnswer
     ensures { λ r. ⌜ (r ≡ traceRead width (witnessAnswer (witnessFromBytes width (now (bytes .entry)) (length (now (trace .entry)))))) × (now (trace .exit) ≡ traceAfter (length (now (trace .entry))) (witnessFromBytes width (now (bytes .entry)) (length (now (trace .entry))))) ⌝ }
 {
-    let read = encoding::witness_from_bytes(width, bytes, trace);
+    let read = decoding::witness_from_bytes(width, bytes, trace);
     let o = read.outcome;
     match o {
         Outcome::Accepted => SfrTraceAnswer {

@@ -9,7 +9,8 @@ use lib.ListN.{length}
 use Rattle.words.specs.Store.{putWords}
 use Rattle.narg.specs.Bytes.{u32Bytes}
 use Rattle.narg.proofs.Fields.{length-u32Bytes}
-use Rattle.encoding.proofs.Stored.{fit-is, put-two}
+use Rattle.narg.proofs.Stores.{put-two}
+use Rattle.encoding.proofs.Stored.{fit-is}
 use borrow.Author.Needs.{needs}
 use Rattle.encoding.proofs.sfri.put_label.Statement.{statement}
 use Rattle.encoding.proofs.sfri.put_label.Tie as tie

@@ -7,7 +7,7 @@ use Prim.Native.Nat.{ℕ}
 use mathlib.Core.Path.{_≡_, ap, _∙_}
 use Rattle.sfr.specs.Trace.{traceRead}
 use Rattle.permutation.specs.declared.Outcome.the-variants as outcome
-use Rattle.encoding.specs.declared.WitnessRead.{WitnessRead}
+use Rattle.decoding.specs.declared.WitnessRead.{WitnessRead}
 
 read-yes : (width : ℕ) (r : WitnessRead) → r .outcome ≡ outcome.Accepted
     → record { number = 0; trace = record { width = width; steps = r .steps } } ≡ traceRead width r

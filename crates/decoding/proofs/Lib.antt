@@ -1,0 +1,6 @@
+pub mod Fields
+pub mod Told
+pub mod Run
+pub mod Steps
+pub mod Equations
+pub mod Files

@@ -1,0 +1,47 @@
+-- `parts::read_publics` meets its contract: a count, and as many items.
+-- Assumes nothing.
+use Prim.Native.Nat.{_-_}
+use mathlib.Core.Path.{sym, _∙_}
+use Rattle.decoding.specs.Read.{readPublics}
+use Rattle.decoding.proofs.Steps.{count-short, count-on}
+use Rattle.decoding.proofs.Told.{list-stop, list-same}
+use borrow.Author.Needs.{needs}
+use Rattle.decoding.proofs.parts.read_publics.Statement.{statement}
+use Rattle.decoding.proofs.parts.read_publics.Tie as tie
+
+read-u32-requires : tie.Need-read-u32-requires
+read-u32-requires c κs = search needs
+
+enum-known-n : tie.Need-enum-known-n
+enum-known-n c = search needs
+
+enum-told : tie.Need-enum-told
+enum-told c = search needs
+
+returns : tie.Need-returns
+unfolding readPublics
+returns c = list-stop _ _ _ _ _ _ (count-short _ _ _ _ _ (sym (c .before .before .read-u32 .ensures) ∙ c .enum-told .given .1))
+
+read-pairs-requires : tie.Need-read-pairs-requires
+read-pairs-requires c κs = search needs
+
+same-length : tie.Need-same-length
+same-length c = search needs
+
+returns-2 : tie.Need-returns-2
+unfolding readPublics
+returns-2 c =
+    let n = c .before .before .before .before .before in
+    list-same _ _ _ _ _ _ _ (count-on _ _ _ _ _ _ _ (sym (n .before .before .read-u32 .ensures) ∙ n .n .given .1)) (c .before .before .read-pairs .ensures)
+
+pub read-publics-spec : {M : Type 1} → statement M
+read-publics-spec =
+    tie.close
+    (tie.spec
+    read-u32-requires
+    enum-known-n
+    enum-told
+    returns
+    read-pairs-requires
+    same-length
+    returns-2)

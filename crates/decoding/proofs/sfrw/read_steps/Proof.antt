@@ -1,0 +1,50 @@
+-- `sfrw::read_steps` meets its contract: a count, and as many pieces.
+-- Assumes nothing.
+use mathlib.Core.Path.{sym, _∙_}
+use borrow.Author.Needs.{needs}
+use Rattle.decoding.specs.Read.{readSteps}
+use Rattle.decoding.proofs.Steps.{count-short, count-on}
+use Rattle.decoding.proofs.Told.{list-stop, list-same}
+use Rattle.decoding.proofs.sfrw.read_steps.Statement.{statement}
+use Rattle.decoding.proofs.sfrw.read_steps.Tie as tie
+
+read-u32-requires : tie.Need-read-u32-requires
+read-u32-requires c κs = search needs
+
+enum-known-n : tie.Need-enum-known-n
+enum-known-n c = search needs
+
+enum-told : tie.Need-enum-told
+enum-told c = search needs
+
+returns : tie.Need-returns
+unfolding readSteps
+returns c = list-stop _ _ _ _ _ _ (count-short _ _ _ _ _ (sym (c .before .before .read-u32 .ensures) ∙ c .enum-told .given .1))
+
+add-read-pieces : tie.Need-add-read-pieces
+add-read-pieces c = search needs
+
+read-pieces-requires : tie.Need-read-pieces-requires
+read-pieces-requires c κs = search needs
+
+same-length : tie.Need-same-length
+same-length c = search needs
+
+returns-2 : tie.Need-returns-2
+unfolding readSteps
+returns-2 c =
+    let n = c .before .before .before .before .before in
+    list-same _ _ _ _ _ _ _ (count-on _ _ _ _ _ _ _ (sym (n .before .before .read-u32 .ensures) ∙ n .n .given .1)) (c .before .before .read-pieces .ensures)
+
+pub read-steps-spec : {M : Type 1} → statement M
+read-steps-spec =
+    tie.close
+    (tie.spec
+    read-u32-requires
+    enum-known-n
+    enum-told
+    returns
+    add-read-pieces
+    read-pieces-requires
+    same-length
+    returns-2)

@@ -1,0 +1,5 @@
+pub mod Read
+pub mod Sound
+pub mod Told
+pub mod Answers
+pub mod Given

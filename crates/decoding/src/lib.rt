@@ -1,0 +1,51 @@
+// The byte forms of an instance and of a witness (the source's encoding.rs), read. Crate `encoding` writes them and
+// tells their fields (encoding/src/lib.rt); what both begin with is read in crate `header`.
+//
+// A read first fills its stores with 0 and a refused one leaves them all 0. Every open function answers on every
+// input.
+
+ghost use mathlib.Core.Path.{_≡_};
+ghost use Rattle.decoding.specs.Given.{fileNumberOf};
+use instance::PermutationInstance;
+use narg::Cursor;
+use permutation::Outcome;
+
+mod items;
+mod parts;
+mod sfri;
+mod sfrw;
+
+pub use sfri::instance_from_bytes;
+pub use sfri::label;
+pub use sfrw::witness_from_bytes;
+
+// What a read of an instance answers: its record and the length of its label, which starts at byte 17; zeros
+// where it was refused.
+pub struct InstanceRead {
+    pub outcome: Outcome,
+    pub instance: PermutationInstance,
+    pub label: usize,
+}
+
+// What a read of a witness answers: the number of steps, 0 where it was refused.
+pub struct WitnessRead {
+    pub outcome: Outcome,
+    pub steps: u32,
+}
+
+// What a reader of several parts answers: the record, the length of the label, and the cursor past the parts; or
+// the number of the question that said no.
+enum FileRead {
+    Read(PermutationInstance, u32, Cursor),
+    Refused(u32),
+}
+
+// The number of a refusal, or 0.
+fn file_number(file: FileRead) -> u32
+    ensures { λ r. ⌜ r ≡ fileNumberOf file ⌝ }
+{
+    match file {
+        FileRead::Read(_, _, _) => 0,
+        FileRead::Refused(k) => k,
+    }
+}

@@ -1,0 +1,2 @@
+pub mod Magic
+pub mod Got
