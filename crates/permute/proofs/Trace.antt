@@ -11,10 +11,12 @@ use lib.ListN.{length, take, drop, length-take, length-drop}
 use lib.Seq.{take-all, drop-drop, length-take-le}
 use Rattle.limits.specs.Questions.{pick}
 use Rattle.words.specs.Pieces.{pieces}
+use Rattle.words.specs.Store.{fitWords}
 use Rattle.baby_bear.specs.Field.{areUnits}
 use Rattle.permute.specs.Permute.{permute}
 use Rattle.permute.specs.Parameters.{parametersOf, soundParameters, permuteNo, sameWords, isEvaluation, leading}
 use Rattle.permute.proofs.Parameters.{never, refused}
+use Rattle.permute.proofs.Words.{put-over}
 use Rattle.permute.proofs.Laws.{accepted-is, is-accepted, permute-length, evaluation-is, not-evaluation, evaluation-by}
 
 -- ---- what is no evaluation
@@ -46,7 +48,11 @@ module _ (w rounds : ℕ) (words step : List ℕ) (sound : soundParameters w rou
   not-units h =
       sym (not-evaluation w rounds words step (λ z. never _ (sym (ap areUnits first-is) ∙ h) (accepted-is w rounds words (take w step) z .units)))
 
-  module _ (units : areUnits (take (w - 0) step) ≡ true) (state : List ℕ) (e : state ≡ take (w - 0) step) where
+  -- it is put over the room for the state
+  module _ (units : areUnits (take (w - 0) step) ≡ true) (room state : List ℕ) (long : length room ≡ w) (put : state ≡ fitWords 0 (take (w - 0) step) room) where
+    e : state ≡ take (w - 0) step
+    e = put ∙ put-over _ room (ap length first-is ∙ length-take-le w step fits ∙ sym long)
+
     state-long : length state ≡ w
     state-long = ap length (e ∙ first-is) ∙ length-take-le w step fits
 

@@ -1,26 +1,26 @@
--- Words copied and compared: one turn of each loop, and that lists with the same words are equal.
+-- Words put over as many and compared: one turn of the loop, and that lists with the same words are equal.
 -- Assumes nothing.
 use Prim.Native.Nat.{ℕ, suc, _+_, _≤_, _<_}
 use mathlib.Core.Path.{_≡_, refl, sym, ap, _∙_}
 use mathlib.Core.Bool.{Bool, true, false, _&&_}
-use mathlib.Core.List.{List, [], _∷_, _++_}
+use mathlib.Core.List.{List, [], _∷_, _++_, append-nil}
 use native.Mathlib.Omega.{arith}
 use native.Mathlib.Numerals.{add-one}
 use borrow.Author.Tests.{eq-eqb, ne-eqb, eqb-true}
 use lib.Dec.{eqb}
-use lib.ListN.{length, getD, take, drop, set, drop-of-length-le}
+use lib.ListN.{length, getD, drop, drop-of-length-le}
 use lib.Seq.{drop-cons}
 use Rattle.baby_bear.proofs.Units.{both-true, true-both}
+use Rattle.words.specs.Store.{fitWords}
+use Rattle.words.proofs.Written.{fit-put}
 use Rattle.permute.specs.Parameters.{sameWords}
-use Rattle.permute.proofs.Fill.{fill-turn, fill-done}
 
--- ---- copied
-module _ (from to : List ℕ) (i : ℕ) (e : take i to ++ drop i from ≡ from) (l : length to ≡ length from) where
-  pub copy-turn : i < length from → take (i + 1) (set to i (getD from i 0)) ++ drop (i + 1) from ≡ from
-  copy-turn h = fill-turn from to (drop i from) (drop (i + 1) from) i (getD from i 0) (omega arith) (rw (add-one, drop-cons from i 0)) e
-
-  pub copy-done : length from ≤ i → to ≡ from
-  copy-done h = fill-done from to (drop i from) i (omega arith) (drop-of-length-le from h) e
+-- ---- put over as many
+pub put-over : (words s : List ℕ) → length words ≡ length s → fitWords 0 words s ≡ words
+put-over words s l =
+    let all : length s ≤ 0 + length words = omega arith in
+    let none : drop (0 + length words) s ≡ [] = drop-of-length-le s all in
+    fit-put 0 words s (omega arith) ∙ ap (λ (rest : List ℕ). words ++ rest) none ∙ append-nil words
 
 -- ---- compared
 pub sameWords-refl : (x : List ℕ) → sameWords x x ≡ true

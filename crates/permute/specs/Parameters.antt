@@ -2,10 +2,10 @@
 -- turned into, and whether a step is an evaluation; and how many steps of a trace are. Assumes nothing.
 use Prim.Native.Nat.{ℕ, zero, suc, _+_, _*_}
 use mathlib.Core.Bool.{Bool, true, false, _&&_}
-use mathlib.Core.List.{List, [], _∷_}
+use mathlib.Core.List.{List, [], _∷_, _++_}
 use lib.Dec.{leb, ltb, eqb}
 use lib.ListN.{length, getD, take, drop}
-use Rattle.limits.specs.Numbers.{maxCount, maxWidth}
+use Rattle.limits.specs.Asks.{widthAsks, storeAsks}
 use Rattle.limits.specs.Questions.{Question, question, firstNo, onYes, pick}
 use Rattle.baby_bear.specs.Field.{areUnits}
 use Rattle.permute.specs.Permute.{Round, roundOf, Parameters, permute}
@@ -55,11 +55,10 @@ soundParameters w rounds words =
 -- the questions 1, 2, 9, 4 and 17, put to a state and parameters that are handed in
 abbrev pub permuteAsks : ℕ → ℕ → List ℕ → List ℕ → List Question
 permuteAsks w rounds words x =
-    question 1 (leb 1 w)
-    ∷ question 1 (leb w maxWidth)
-    ∷ question 2 (leb (length words) maxCount)
-    ∷ question 2 (leb (length x) maxCount)
-    ∷ question 9 (eqb (length x) w)
+    widthAsks w
+    ++ storeAsks (length words)
+    ++ storeAsks (length x)
+    ++ question 9 (eqb (length x) w)
     ∷ question 4 (areUnits x)
     ∷ question 17 (soundParameters w rounds words)
     ∷ []

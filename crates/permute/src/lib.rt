@@ -12,7 +12,6 @@ ghost use lib.ListN.{length};
 ghost use Rattle.limits.specs.Questions.{_▸_, ask};
 ghost use Rattle.words.specs.Pieces.{pieces};
 ghost use Rattle.permute.specs.Parameters.{soundParameters, permuteNo, permuted, sameWords, isEvaluation, leading};
-use limits::MAX_COUNT;
 use limits::MAX_WIDTH;
 
 mod matrix;
@@ -30,13 +29,12 @@ pub fn parameters_no(no: u32, width: u32, rounds: u32, params: &[u32]) -> u32
 fn permute_no(width: u32, rounds: u32, params: &[u32], state: &[u32]) -> u32
     ensures { λ r. ⌜ r ≡ permuteNo width rounds (now (params .entry)) (now (state .entry)) ⌝ }
 {
-    let a = limits::asked(0, 1 <= width, 1);
-    let b = limits::asked(a, width <= MAX_WIDTH, 1);
-    let c = limits::asked(b, params.len() <= MAX_COUNT as usize, 2);
-    let d = limits::asked(c, state.len() <= MAX_COUNT as usize, 2);
-    let e = limits::asked(d, state.len() == width as usize, 9);
-    let f = limits::asked(e, baby_bear::are_units(state), 4);
-    parameters_no(f, width, rounds, params)
+    let a = limits::asked_width(0, width);
+    let b = limits::asked_store(a, params.len());
+    let c = limits::asked_store(b, state.len());
+    let d = limits::asked(c, state.len() == width as usize, 9);
+    let e = limits::asked(d, baby_bear::are_units(state), 4);
+    parameters_no(e, width, rounds, params)
 }
 
 // The state's units turned by the permutation, in place (the source's `Permutation::permute`).
@@ -112,23 +110,12 @@ fn evaluates(rounds: usize, params: &[u32], step: &[u32], state: &mut [u32]) -> 
     if !baby_bear::are_units(first) {
         return false;
     }
-    copy(first, &mut *state);
+    words::put(&mut *state, 0, first);
     rounds::run_rounds(rounds, params, &mut *state);
     same_words(state, &step[w..])
 }
 
-// The words of `from`, put over those of `to`, which has as many.
-fn copy(from: &[u32], to: &mut [u32])
-    requires { ⌜ length (now to) ≡ length (now from) ⌝ }
-    ensures { λ _. ⌜ now (to .exit) ≡ now (from .entry) ⌝ }
-{
-    let mut i = 0;
-    while i < from.len() {
-        to[i] = from[i];
-        i += 1;
-    }
-}
-
+// Have two lists the same words?
 fn same_words(a: &[u32], b: &[u32]) -> bool
     ensures { λ r. ⌜ r ≡ sameWords (now (a .entry)) (now (b .entry)) ⌝ }
 {
