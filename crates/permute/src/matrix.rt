@@ -64,7 +64,18 @@ fn reduced(low: u64, high: u64) -> u32
     ((high * 268435454 + low) % P as u64) as u32
 }
 
-// Four columns, each times its unit, added to the first w sums. They start at 0, step, 2·step and 3·step.
+// Word i of four columns, each times its unit, added up. They start at 0, step, 2·step and 3·step.
+fn four(columns: &[u64], step: usize, a: u32, b: u32, c: u32, d: u32, i: usize) -> u64
+    requires { ⌜ (areUnits (now columns) ≡ true) × (a < prime) × (b < prime) × (c < prime) × (d < prime)
+        × (step * 3 + i < length (now columns)) ⌝ }
+    ensures { λ r. ⌜ r ≡ four (now (columns .entry)) step a b c d i ⌝ }
+{
+    let s = product(columns[i], a) + product(columns[step + i], b);
+    let t = product(columns[step * 2 + i], c) + product(columns[step * 3 + i], d);
+    s + t
+}
+
+// Four columns, each times its unit, added to the first w sums.
 fn add_columns(
     w: usize,
     columns: &[u64],
@@ -85,9 +96,7 @@ fn add_columns(
 {
     let mut i = 0;
     while i < w {
-        let s = product(columns[i], a) + product(columns[step + i], b);
-        let t = product(columns[step * 2 + i], c) + product(columns[step * 3 + i], d);
-        let u = s + t;
+        let u = four(columns, step, a, b, c, d, i);
         low[i] = low[i] + u % 4294967296;
         high[i] = high[i] + u / 4294967296;
         i += 1;
