@@ -8,6 +8,8 @@ use crate::sample::BYTES;
 use crate::sample::DIRT;
 use crate::sample::Found;
 use crate::sample::Seen;
+use crate::sample::Taken;
+use crate::sample::WORDS;
 use crate::sample::bytes_at;
 use crate::sample::low;
 use crate::sample::past_bytes;
@@ -16,7 +18,8 @@ use crate::sample::same_bytes;
 use crate::sample::same_words;
 use crate::sample::so_far;
 use crate::sample::take_list;
-use crate::sample::take_words;
+use crate::sample::take_lists;
+use crate::sample::take_word;
 use crate::sample::wide;
 use crate::traces::same_written;
 use encoding::InstanceRead;
@@ -24,9 +27,6 @@ use instance::Compiled;
 use instance::PermutationInstance;
 use narg::Cursor;
 use permutation::PermutationRelation;
-
-// The longest store of words beside the three that are lent.
-const WORDS: usize = 512;
 
 // What a case begins with: a record, where the bytes of its label begin and how many they are, the cursor past these.
 struct Headed {
@@ -36,41 +36,35 @@ struct Headed {
     next: Cursor,
 }
 
-// The same, with the cursor further on.
-fn further(head: Headed, next: Cursor) -> Headed {
-    let instance = head.instance;
-    let start = head.start;
-    let len = head.len;
-    Headed {
-        instance,
-        start,
-        len,
-        next,
+// A relation's record has no count of publics.
+fn take_publics(op: u32, sample: &[u8], c: Cursor) -> Taken {
+    if op == 31 {
+        return Taken { word: 0, next: c };
     }
+    take_word(sample, c)
 }
 
-// A relation's record has no count of publics.
 fn take_head(op: u32, sample: &[u8], c: Cursor) -> Headed {
-    let mut given = [0u32; 5];
-    let mut publics = [0u32; 1];
-    let mut len = [0u32; 1];
-    let mut next = take_words(sample, c, &mut given);
-    if op != 31 {
-        next = take_words(sample, next, &mut publics);
-    }
-    let start = take_words(sample, next, &mut len);
+    let width = take_word(sample, c);
+    let vars = take_word(sample, width.next);
+    let queries = take_word(sample, vars.next);
+    let equations = take_word(sample, queries.next);
+    let words = take_word(sample, equations.next);
+    let publics = take_publics(op, sample, words.next);
+    let len = take_word(sample, publics.next);
+    let start = len.next;
     Headed {
         instance: PermutationInstance {
-            width: given[0],
-            vars: given[1],
-            queries: given[2],
-            equations: given[3],
-            words: given[4],
-            publics: publics[0],
+            width: width.word,
+            vars: vars.word,
+            queries: queries.word,
+            equations: equations.word,
+            words: words.word,
+            publics: publics.word,
         },
         start,
-        len: len[0],
-        next: past_bytes(sample, start, len[0]),
+        len: len.word,
+        next: past_bytes(sample, start, len.word),
     }
 }
 
@@ -113,64 +107,46 @@ fn same_compiled(
     scratch: &[u32],
 ) -> Seen {
     let outcome = answer.outcome;
-    let made = answer.instance;
-    let now = same_outcome(sample, so_far(next, Found::Same), outcome);
-    let now = same_words(sample, same_instance(sample, now, made), publics);
-    same_words(sample, now, scratch)
-}
-
-// The gate, and its answer compared.
-fn gate(
-    sample: &[u8],
-    head: Headed,
-    slots: &[u32],
-    queries: &[u32],
-    equations: &[u32],
-    publics: &mut [u32],
-    scratch: &mut [u32],
-) -> Seen {
-    let label = bytes_at(sample, head.start, head.len);
-    let given = head.instance;
-    let answer = compile(given, label, slots, queries, equations, publics, scratch);
-    same_compiled(sample, head.next, answer, publics, scratch)
+    let now = same_outcome(sample, next, outcome);
+    let now = same_instance(sample, now, answer.instance);
+    same_words(sample, same_words(sample, now, publics), scratch)
 }
 
 // 31: record, label, slots, queries, equations, publics, scratch; the number, the instance's record, publics, scratch.
-fn call_gate(
+fn gate(
     sample: &[u8],
     head: Headed,
+    c: Cursor,
     slots: &[u32],
     queries: &[u32],
     equations: &[u32],
-    publics: &mut [u32],
-    scratch: &mut [u32],
 ) -> Seen {
-    let list = take_list(sample, head.next, publics);
-    let p = list.len;
-    let list = take_list(sample, list.next, scratch);
-    let r = list.len;
-    let next = list.next;
-    if publics.len() < p {
-        return so_far(next, Found::TooLong);
-    }
-    if scratch.len() < r {
-        return so_far(next, Found::TooLong);
-    }
-    gate(
-        sample,
-        further(head, next),
+    let mut first = [0u32; WORDS];
+    let mut second = [0u32; WORDS];
+    let one = take_list(sample, c, &mut first);
+    let two = take_list(sample, one.next, &mut second);
+    let n = one.len;
+    let m = two.len;
+    let publics = &mut first[0..n];
+    let scratch = &mut second[0..m];
+    let label = bytes_at(sample, head.start, head.len);
+    let answer = compile(
+        head.instance,
+        label,
         slots,
         queries,
         equations,
-        &mut publics[0..p],
-        &mut scratch[0..r],
-    )
+        publics,
+        scratch,
+    );
+    same_compiled(sample, two.next, answer, publics, scratch)
 }
 
 // The check; the number, scratch.
 fn is_witness_valid(
     sample: &[u8],
     head: Headed,
+    c: Cursor,
     publics: &[u32],
     queries: &[u32],
     equations: &[u32],
@@ -178,269 +154,110 @@ fn is_witness_valid(
     params: &[u32],
     scratch: &mut [u32],
 ) -> Seen {
-    let mut given = [0u32; 2];
-    let after = take_words(sample, head.next, &mut given);
-    let label = bytes_at(sample, head.start, head.len);
-    let ins = head.instance;
-    let steps = given[0];
-    let rounds = given[1];
+    let steps = take_word(sample, c);
+    let rounds = take_word(sample, steps.next);
     let outcome = validity::is_witness_valid(
-        ins,
-        label,
+        head.instance,
+        bytes_at(sample, head.start, head.len),
         publics,
         queries,
         equations,
-        steps,
+        steps.word,
         trace,
-        rounds,
+        rounds.word,
         params,
         scratch,
     );
-    let now = same_outcome(sample, so_far(after, Found::Same), outcome);
-    same_words(sample, now, scratch)
-}
-
-// The last of the three stores is taken.
-fn check_last(
-    sample: &[u8],
-    head: Headed,
-    publics: &[u32],
-    queries: &[u32],
-    equations: &[u32],
-    trace: &[u32],
-    params: &[u32],
-    scratch: &mut [u32],
-) -> Seen {
-    let list = take_list(sample, head.next, scratch);
-    let next = list.next;
-    let len = list.len;
-    if scratch.len() < len {
-        return so_far(next, Found::TooLong);
-    }
-    is_witness_valid(
-        sample,
-        further(head, next),
-        publics,
-        queries,
-        equations,
-        trace,
-        params,
-        &mut scratch[0..len],
-    )
-}
-
-// The second of the three stores is taken.
-fn check_second(
-    sample: &[u8],
-    head: Headed,
-    publics: &[u32],
-    queries: &[u32],
-    equations: &[u32],
-    trace: &[u32],
-    params: &mut [u32],
-    scratch: &mut [u32],
-) -> Seen {
-    let list = take_list(sample, head.next, params);
-    let next = list.next;
-    let len = list.len;
-    if params.len() < len {
-        return so_far(next, Found::TooLong);
-    }
-    check_last(
-        sample,
-        further(head, next),
-        publics,
-        queries,
-        equations,
-        trace,
-        &params[0..len],
-        scratch,
-    )
+    same_words(sample, same_outcome(sample, rounds.next, outcome), scratch)
 }
 
 // 41: record, label, publics, queries, equations, trace, parameters, scratch, steps, rounds; the number, scratch.
-fn call_check(
+fn check(
     sample: &[u8],
     head: Headed,
+    c: Cursor,
     publics: &[u32],
     queries: &[u32],
     equations: &[u32],
-    trace: &mut [u32],
-    params: &mut [u32],
-    scratch: &mut [u32],
 ) -> Seen {
-    let list = take_list(sample, head.next, trace);
-    let next = list.next;
-    let len = list.len;
-    if trace.len() < len {
-        return so_far(next, Found::TooLong);
-    }
-    check_second(
+    let mut first = [0u32; WORDS];
+    let mut second = [0u32; WORDS];
+    let mut third = [0u32; WORDS];
+    let lists = take_lists(sample, c, &mut first, &mut second, &mut third);
+    let n = lists.first;
+    let m = lists.second;
+    let k = lists.third;
+    is_witness_valid(
         sample,
-        further(head, next),
+        head,
+        lists.next,
         publics,
         queries,
         equations,
-        &trace[0..len],
-        params,
-        scratch,
+        &first[0..n],
+        &second[0..m],
+        &mut third[0..k],
     )
-}
-
-// The write, and its answer compared.
-fn write(
-    sample: &[u8],
-    head: Headed,
-    publics: &[u32],
-    queries: &[u32],
-    equations: &[u32],
-    out: &mut [u8],
-) -> Seen {
-    let label = bytes_at(sample, head.start, head.len);
-    let given = head.instance;
-    let answer = encoding::instance_to_bytes(given, label, publics, queries, equations, out);
-    same_written(sample, head.next, answer, out)
 }
 
 // 32: record, label, publics, queries, equations, the output's length; the number, how many bytes were written, the
 // output.
-fn call_write(
+fn write(
     sample: &[u8],
     head: Headed,
-    publics: &[u32],
-    queries: &[u32],
-    equations: &[u32],
-    out: &mut [u8],
-) -> Seen {
-    let mut room = [0u32; 1];
-    let next = take_words(sample, head.next, &mut room);
-    let n = wide(room[0]);
-    if out.len() < n {
-        return so_far(next, Found::TooLong);
-    }
-    let head = further(head, next);
-    write(sample, head, publics, queries, equations, &mut out[0..n])
-}
-
-// The write, with its output lent.
-fn with_output(
-    sample: &[u8],
-    head: Headed,
+    c: Cursor,
     publics: &[u32],
     queries: &[u32],
     equations: &[u32],
 ) -> Seen {
-    let mut out = [DIRT; BYTES];
-    call_write(sample, head, publics, queries, equations, &mut out)
-}
-
-// The stores of a gate that it writes, and those of a check, are lent by the caller.
-fn with_buffers(
-    op: u32,
-    sample: &[u8],
-    head: Headed,
-    first: &[u32],
-    queries: &[u32],
-    equations: &[u32],
-    one: &mut [u32; WORDS],
-    two: &mut [u32; WORDS],
-    three: &mut [u32; WORDS],
-) -> Seen {
-    if op == 31 {
-        return call_gate(sample, head, first, queries, equations, one, two);
+    let mut output = [DIRT; BYTES];
+    let room = take_word(sample, c);
+    let n = wide(room.word);
+    if BYTES < n {
+        return so_far(room.next, Found::TooLong);
     }
-    call_check(sample, head, first, queries, equations, one, two, three)
-}
-
-// A gate, a write or a check, at the cursor past the three stores that each is lent.
-fn with_held(
-    op: u32,
-    sample: &[u8],
-    head: Headed,
-    first: &[u32],
-    queries: &[u32],
-    equations: &[u32],
-) -> Seen {
-    if op == 32 {
-        return with_output(sample, head, first, queries, equations);
-    }
-    with_buffers(
-        op,
-        sample,
-        head,
-        first,
+    let out = &mut output[0..n];
+    let label = bytes_at(sample, head.start, head.len);
+    let answer = encoding::instance_to_bytes(
+        head.instance,
+        label,
+        publics,
         queries,
         equations,
-        &mut [0; WORDS],
-        &mut [0; WORDS],
-        &mut [0; WORDS],
-    )
-}
-
-// The last of the three stores is taken.
-fn held_last(
-    op: u32,
-    sample: &[u8],
-    head: Headed,
-    first: &[u32],
-    queries: &[u32],
-    third: &mut [u32],
-) -> Seen {
-    let list = take_list(sample, head.next, third);
-    let next = list.next;
-    let len = list.len;
-    if third.len() < len {
-        return so_far(next, Found::TooLong);
-    }
-    let head = further(head, next);
-    with_held(op, sample, head, first, queries, &third[0..len])
+        out,
+    );
+    same_written(sample, room.next, answer, out)
 }
 
 // A call that is lent the stores of a relation or an instance: 31, 32 and 41.
-fn call_held(
-    op: u32,
-    sample: &[u8],
-    head: Headed,
-    store: &mut [u32],
-    second: &mut [u32],
-    third: &mut [u32],
-) -> Seen {
-    let list = take_list(sample, head.next, store);
-    let n = list.len;
-    let list = take_list(sample, list.next, second);
-    let m = list.len;
-    let next = list.next;
-    if store.len() < n {
-        return so_far(next, Found::TooLong);
+fn call_held(op: u32, sample: &[u8], c: Cursor) -> Seen {
+    let mut store = [0u32; WORDS];
+    let mut second = [0u32; WORDS];
+    let mut third = [0u32; WORDS];
+    let head = take_head(op, sample, c);
+    let lists = take_lists(sample, head.next, &mut store, &mut second, &mut third);
+    let n = lists.first;
+    let m = lists.second;
+    let k = lists.third;
+    let first = &store[0..n];
+    let queries = &second[0..m];
+    let equations = &third[0..k];
+    if op == 31 {
+        return gate(sample, head, lists.next, first, queries, equations);
     }
-    if second.len() < m {
-        return so_far(next, Found::TooLong);
+    if op == 32 {
+        return write(sample, head, lists.next, first, queries, equations);
     }
-    let head = further(head, next);
-    held_last(op, sample, head, &store[0..n], &second[0..m], third)
+    check(sample, head, lists.next, first, queries, equations)
 }
 
 // The number, the record, the label's length and its bytes.
 fn same_read(sample: &[u8], next: Cursor, bytes: &[u8], answer: InstanceRead) -> Seen {
     let label = encoding::label(bytes, answer);
     let outcome = answer.outcome;
-    let made = answer.instance;
-    let len = answer.label;
-    let now = same_outcome(sample, so_far(next, Found::Same), outcome);
-    let now = same(sample, same_instance(sample, now, made), low(len));
-    same_bytes(sample, now, label)
-}
-
-// The read alone.
-fn from_bytes(
-    width: u32,
-    bytes: &[u8],
-    publics: &mut [u32],
-    queries: &mut [u32],
-    equations: &mut [u32],
-    scratch: &mut [u32],
-) -> InstanceRead {
-    encoding::instance_from_bytes(width, bytes, publics, queries, equations, scratch)
+    let now = same_outcome(sample, next, outcome);
+    let now = same_instance(sample, now, answer.instance);
+    same_bytes(sample, same(sample, now, low(answer.label)), label)
 }
 
 // The words of four stores.
@@ -458,117 +275,53 @@ fn same_stores(
     same_words(sample, now, scratch)
 }
 
-// What a read is given beside its stores: a width, where the bytes begin and how many they are, the cursor past these.
-struct Given {
-    width: u32,
-    start: Cursor,
-    len: u32,
-    next: Cursor,
-}
-
 // The read, and its answer compared.
 fn read(
     sample: &[u8],
-    given: Given,
+    c: Cursor,
+    width: u32,
+    bytes: &[u8],
     publics: &mut [u32],
     queries: &mut [u32],
     equations: &mut [u32],
     scratch: &mut [u32],
 ) -> Seen {
-    let bytes = bytes_at(sample, given.start, given.len);
-    let answer = from_bytes(given.width, bytes, publics, queries, equations, scratch);
-    let seen = same_read(sample, given.next, bytes, answer);
+    let answer = encoding::instance_from_bytes(width, bytes, publics, queries, equations, scratch);
+    let seen = same_read(sample, c, bytes, answer);
     same_stores(sample, seen, publics, queries, equations, scratch)
 }
 
-// The last two of the four stores are taken.
-fn read_second(
-    sample: &[u8],
-    given: Given,
-    publics: &mut [u32],
-    queries: &mut [u32],
-    equations: &mut [u32],
-    scratch: &mut [u32],
-) -> Seen {
-    let width = given.width;
-    let start = given.start;
-    let len = given.len;
-    let list = take_list(sample, given.next, equations);
-    let e = list.len;
-    let list = take_list(sample, list.next, scratch);
-    let r = list.len;
-    let next = list.next;
-    if equations.len() < e {
-        return so_far(next, Found::TooLong);
-    }
-    if scratch.len() < r {
-        return so_far(next, Found::TooLong);
-    }
-    let given = Given {
-        width,
-        start,
-        len,
-        next,
-    };
+// 33: width, bytes, publics, queries, equations, scratch; the number, the record, the label, the four stores.
+fn call_read(sample: &[u8], c: Cursor) -> Seen {
+    let mut publics = [0u32; WORDS];
+    let mut queries = [0u32; WORDS];
+    let mut equations = [0u32; WORDS];
+    let mut scratch = [0u32; WORDS];
+    let width = take_word(sample, c);
+    let len = take_word(sample, width.next);
+    let after = past_bytes(sample, len.next, len.word);
+    let lists = take_lists(sample, after, &mut publics, &mut queries, &mut equations);
+    let last = take_list(sample, lists.next, &mut scratch);
+    let n = lists.first;
+    let m = lists.second;
+    let k = lists.third;
+    let r = last.len;
     read(
         sample,
-        given,
-        publics,
-        queries,
-        &mut equations[0..e],
+        last.next,
+        width.word,
+        bytes_at(sample, len.next, len.word),
+        &mut publics[0..n],
+        &mut queries[0..m],
+        &mut equations[0..k],
         &mut scratch[0..r],
     )
 }
 
-// 33: width, bytes, publics, queries, equations, scratch; the number, the record, the label, the four stores.
-fn call_read(
-    sample: &[u8],
-    c: Cursor,
-    publics: &mut [u32],
-    queries: &mut [u32],
-    equations: &mut [u32],
-    scratch: &mut [u32; WORDS],
-) -> Seen {
-    let mut head = [0u32; 2];
-    let start = take_words(sample, c, &mut head);
-    let list = take_list(sample, past_bytes(sample, start, head[1]), publics);
-    let p = list.len;
-    let list = take_list(sample, list.next, queries);
-    let q = list.len;
-    let next = list.next;
-    if publics.len() < p {
-        return so_far(next, Found::TooLong);
-    }
-    if queries.len() < q {
-        return so_far(next, Found::TooLong);
-    }
-    let given = Given {
-        width: head[0],
-        start,
-        len: head[1],
-        next,
-    };
-    read_second(
-        sample,
-        given,
-        &mut publics[0..p],
-        &mut queries[0..q],
-        equations,
-        scratch,
-    )
-}
-
-// A call on an instance, by its operation, at the cursor past its number. The buffers are lent for its stores.
-pub fn call(
-    op: u32,
-    sample: &[u8],
-    c: Cursor,
-    store: &mut [u32],
-    second: &mut [u32],
-    third: &mut [u32],
-) -> Seen {
+// A call on an instance, by its operation, at the cursor past its number.
+pub(crate) fn call(op: u32, sample: &[u8], c: Cursor) -> Seen {
     if op == 33 {
-        return call_read(sample, c, store, second, third, &mut [0; WORDS]);
+        return call_read(sample, c);
     }
-    call_held(op, sample, take_head(op, sample, c), store, second, third)
+    call_held(op, sample, c)
 }

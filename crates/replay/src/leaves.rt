@@ -5,13 +5,16 @@
 
 use crate::sample::Found;
 use crate::sample::Seen;
+use crate::sample::WORDS;
+use crate::sample::begun;
 use crate::sample::bytes_at;
 use crate::sample::low;
 use crate::sample::past_bytes;
 use crate::sample::same;
+use crate::sample::same_two;
 use crate::sample::same_words;
 use crate::sample::so_far;
-use crate::sample::take_words;
+use crate::sample::take_word;
 use crate::sample::wide;
 use baby_bear::BabyBearUnit;
 use narg::Cursor;
@@ -22,48 +25,38 @@ use narg::Word;
 const DIRT: u32 = 0xabababab;
 
 // 1: a, b; their sum.
-pub fn add(sample: &[u8], c: Cursor) -> Seen {
-    let mut given = [0u32; 2];
-    let after = take_words(sample, c, &mut given);
-    let sum = baby_bear::add(BabyBearUnit(given[0]), BabyBearUnit(given[1]));
-    same(sample, so_far(after, Found::Same), sum.0)
+fn add(sample: &[u8], c: Cursor) -> Seen {
+    let a = take_word(sample, c);
+    let b = take_word(sample, a.next);
+    let sum = baby_bear::add(BabyBearUnit(a.word), BabyBearUnit(b.word));
+    same(sample, begun(b.next), sum.0)
 }
 
 // 2: a, b; their product.
-pub fn multiply(sample: &[u8], c: Cursor) -> Seen {
-    let mut given = [0u32; 2];
-    let after = take_words(sample, c, &mut given);
-    let product = baby_bear::mul(BabyBearUnit(given[0]), BabyBearUnit(given[1]));
-    same(sample, so_far(after, Found::Same), product.0)
+fn multiply(sample: &[u8], c: Cursor) -> Seen {
+    let a = take_word(sample, c);
+    let b = take_word(sample, a.next);
+    let product = baby_bear::mul(BabyBearUnit(a.word), BabyBearUnit(b.word));
+    same(sample, begun(b.next), product.0)
 }
 
 // 3: bytes; 1 where they are UTF-8, else 0.
-pub fn text(sample: &[u8], c: Cursor) -> Seen {
-    let Word::Read(len, at) = narg::read_u32(sample, c) else {
-        return so_far(c, Found::CutOff);
-    };
-    let answer = utf8::is_utf8(bytes_at(sample, at, len));
-    let after = past_bytes(sample, at, len);
-    same(
-        sample,
-        so_far(after, Found::Same),
-        if answer { 1 } else { 0 },
-    )
+fn text(sample: &[u8], c: Cursor) -> Seen {
+    let len = take_word(sample, c);
+    let answer = utf8::is_utf8(bytes_at(sample, len.next, len.word));
+    let after = past_bytes(sample, len.next, len.word);
+    same(sample, begun(after), if answer { 1 } else { 0 })
 }
 
 // 4: bytes, a place in them; the number and the word that is read there, or 0.
-pub fn read_word(sample: &[u8], c: Cursor) -> Seen {
-    let Word::Read(len, start) = narg::read_u32(sample, c) else {
-        return so_far(c, Found::CutOff);
-    };
-    let mut given = [0u32; 1];
-    let after = take_words(sample, past_bytes(sample, start, len), &mut given);
-    let at = wide(given[0]);
-    let begun = so_far(after, Found::Same);
-    let Word::Read(value, _) = narg::read_u32(bytes_at(sample, start, len), Cursor { at }) else {
-        return same(sample, same(sample, begun, 20), 0);
-    };
-    same(sample, same(sample, begun, 0), value)
+fn read_word(sample: &[u8], c: Cursor) -> Seen {
+    let len = take_word(sample, c);
+    let place = take_word(sample, past_bytes(sample, len.next, len.word));
+    let at = wide(place.word);
+    match narg::read_u32(bytes_at(sample, len.next, len.word), Cursor { at }) {
+        Word::Read(value, _) => same_two(sample, place.next, 0, value),
+        _ => same_two(sample, place.next, 20, 0),
+    }
 }
 
 // What an item case asks: units (0) or wires, from which place of its bytes, into which place of its store, how many.
@@ -84,33 +77,45 @@ fn item_of(bytes: &[u8], asked: Asked, out: &mut [u32]) -> Item {
 }
 
 // The item's number and the place after it, which is the given one where it is refused; then the store.
-fn replay_item(sample: &[u8], begun: Seen, bytes: &[u8], asked: Asked, out: &mut [u32]) -> Seen {
+fn replay_item(sample: &[u8], next: Cursor, bytes: &[u8], asked: Asked, out: &mut [u32]) -> Seen {
     words::fill(out, DIRT);
     let answered = match item_of(bytes, asked, out) {
-        Item::Read(c) => same(sample, same(sample, begun, 0), low(c.at)),
-        Item::Refused(k) => same(sample, same(sample, begun, k), low(asked.at)),
+        Item::Read(c) => same_two(sample, next, 0, low(c.at)),
+        Item::Refused(k) => same_two(sample, next, k, low(asked.at)),
     };
     same_words(sample, answered, out)
 }
 
 // 5: kind, bytes, a place in them, the store's length, a place in it, n; the number, the next place, the store.
-pub fn read_item(sample: &[u8], c: Cursor, store: &mut [u32]) -> Seen {
-    let mut head = [0u32; 2];
-    let start = take_words(sample, c, &mut head);
-    let len = head[1];
-    let mut given = [0u32; 4];
-    let after = take_words(sample, past_bytes(sample, start, len), &mut given);
-    let asked = Asked {
-        kind: head[0],
-        at: wide(given[0]),
-        place: wide(given[2]),
-        n: given[3],
-    };
-    let room = wide(given[1]);
-    if store.len() < room {
-        return so_far(after, Found::TooLong);
+fn read_item(sample: &[u8], c: Cursor) -> Seen {
+    let mut store = [0u32; WORDS];
+    let kind = take_word(sample, c);
+    let len = take_word(sample, kind.next);
+    let at = take_word(sample, past_bytes(sample, len.next, len.word));
+    let room = take_word(sample, at.next);
+    let place = take_word(sample, room.next);
+    let n = take_word(sample, place.next);
+    let size = wide(room.word);
+    if WORDS < size {
+        return so_far(n.next, Found::TooLong);
     }
-    let bytes = bytes_at(sample, start, len);
-    let begun = so_far(after, Found::Same);
-    replay_item(sample, begun, bytes, asked, &mut store[0..room])
+    let asked = Asked {
+        kind: kind.word,
+        at: wide(at.word),
+        place: wide(place.word),
+        n: n.word,
+    };
+    let bytes = bytes_at(sample, len.next, len.word);
+    replay_item(sample, n.next, bytes, asked, &mut store[0..size])
+}
+
+// A case of a leaf, by its operation, at the cursor past its number.
+pub(crate) fn call(op: u32, sample: &[u8], c: Cursor) -> Seen {
+    match op {
+        1 => add(sample, c),
+        2 => multiply(sample, c),
+        3 => text(sample, c),
+        4 => read_word(sample, c),
+        _ => read_item(sample, c),
+    }
 }

@@ -35,30 +35,21 @@ use tally::Tally;
 // The longest sample.
 const BYTES: usize = 1048576;
 
-// The longest store or list of a case.
-const WORDS: usize = 4096;
-
-// A case, by its operation, at the cursor past its number. The stores are lent for what the case lends and writes.
-fn replay_case(
-    op: u32,
-    sample: &[u8],
-    c: Cursor,
-    store: &mut [u32],
-    second: &mut [u32],
-    third: &mut [u32],
-) -> Seen {
-    match op {
-        1 => leaves::add(sample, c),
-        2 => leaves::multiply(sample, c),
-        3 => leaves::text(sample, c),
-        4 => leaves::read_word(sample, c),
-        5 => leaves::read_item(sample, c, store),
-        11..=19 => relation::call(op, sample, c, store, second, third),
-        21..=24 => traces::call(op, sample, c, store, second, third),
-        31..=33 => instances::call(op, sample, c, store, second, third),
-        41 => instances::call(op, sample, c, store, second, third),
-        _ => sample::so_far(c, Found::Unknown),
+// A case, by its operation, at the cursor past its number.
+fn replay_case(op: u32, sample: &[u8], c: Cursor) -> Seen {
+    if !tally::named(op as u64) {
+        return sample::so_far(c, Found::Unknown);
     }
+    if op < 10 {
+        return leaves::call(op, sample, c);
+    }
+    if op < 20 {
+        return relation::call(op, sample, c);
+    }
+    if op < 30 {
+        return traces::call(op, sample, c);
+    }
+    instances::call(op, sample, c)
 }
 
 // After a case that was not compared to its end nothing says where the next one begins.
@@ -79,7 +70,7 @@ fn ended(tally: Tally, sample: &[u8], c: Cursor) -> Tally {
 }
 
 // Every case of the sample in order. Each has a word at least, so there are no more cases than words.
-fn replay(sample: &[u8], store: &mut [u32], second: &mut [u32], third: &mut [u32]) -> Tally {
+fn replay(sample: &[u8]) -> Tally {
     let mut tally = tally::nothing();
     let mut next = Cursor { at: 0 };
     let words = sample.len() / 4;
@@ -92,7 +83,7 @@ fn replay(sample: &[u8], store: &mut [u32], second: &mut [u32], third: &mut [u32
         if op == 0 {
             return ended(tally, sample, c);
         }
-        let seen = replay_case(op, sample, c, store, second, third);
+        let seen = replay_case(op, sample, c);
         let found = seen.found;
         tally = tally::counted(tally, op, found);
         if lost(found) {
@@ -110,15 +101,10 @@ fn more() -> bool {
 }
 
 // Reads the sample into the buffer, replays it and prints what came of it.
-fn run(
-    buffer: &mut [u8; BYTES],
-    store: &mut [u32; WORDS],
-    second: &mut [u32; WORDS],
-    third: &mut [u32; WORDS],
-) {
+fn run(buffer: &mut [u8; BYTES]) {
     let n = io::read_full(STDIN_FILENO, buffer);
     let all: &[u8] = buffer;
-    let tally = replay(&all[..n], store, second, third);
+    let tally = replay(&all[..n]);
     if more() {
         tally::print(tally::faulty(tally, b"the sample is longer than 1 MiB"));
     } else {
@@ -127,10 +113,5 @@ fn run(
 }
 
 fn main() {
-    run(
-        &mut [0; BYTES],
-        &mut [0; WORDS],
-        &mut [0; WORDS],
-        &mut [0; WORDS],
-    );
+    run(&mut [0; BYTES]);
 }

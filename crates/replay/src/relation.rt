@@ -11,11 +11,15 @@ ghost use Rattle.expr.specs.Weighted.{termsOf};
 ghost use Rattle.permutation.specs.Answers.{addEquation, addEquationEquations};
 use crate::sample::Found;
 use crate::sample::Seen;
+use crate::sample::WORDS;
+use crate::sample::begun;
 use crate::sample::same;
+use crate::sample::same_two;
 use crate::sample::same_words;
 use crate::sample::so_far;
 use crate::sample::take_list;
-use crate::sample::take_words;
+use crate::sample::take_lists;
+use crate::sample::take_word;
 use allocator::FieldVar;
 use baby_bear::BabyBearUnit;
 use expr::Weighted;
@@ -35,15 +39,19 @@ struct Begun {
 }
 
 fn take_relation(sample: &[u8], c: Cursor) -> Begun {
-    let mut given = [0u32; 5];
-    let next = take_words(sample, c, &mut given);
+    let width = take_word(sample, c);
+    let vars = take_word(sample, width.next);
+    let queries = take_word(sample, vars.next);
+    let equations = take_word(sample, queries.next);
+    let words = take_word(sample, equations.next);
+    let next = words.next;
     Begun {
         relation: PermutationRelation {
-            width: given[0],
-            vars: given[1],
-            queries: given[2],
-            equations: given[3],
-            words: given[4],
+            width: width.word,
+            vars: vars.word,
+            queries: queries.word,
+            equations: equations.word,
+            words: words.word,
         },
         next,
     }
@@ -58,8 +66,9 @@ fn same_relation(sample: &[u8], seen: Seen, relation: PermutationRelation) -> Se
     same(sample, now, relation.words)
 }
 
-// The number of an outcome.
-pub fn same_outcome(sample: &[u8], seen: Seen, outcome: Outcome) -> Seen {
+// The number of an outcome, which an answer begins with.
+pub(crate) fn same_outcome(sample: &[u8], next: Cursor, outcome: Outcome) -> Seen {
+    let seen = begun(next);
     match outcome {
         Outcome::Accepted => same(sample, seen, 0),
         Outcome::Refused(k) => same(sample, seen, k),
@@ -67,86 +76,105 @@ pub fn same_outcome(sample: &[u8], seen: Seen, outcome: Outcome) -> Seen {
 }
 
 // The number and the record.
-fn same_recorded(sample: &[u8], seen: Seen, answer: Recorded) -> Seen {
+fn same_recorded(sample: &[u8], next: Cursor, answer: Recorded) -> Seen {
     let outcome = answer.outcome;
-    let relation = answer.relation;
-    same_relation(sample, same_outcome(sample, seen, outcome), relation)
+    same_relation(sample, same_outcome(sample, next, outcome), answer.relation)
 }
 
 // The number, the first new wire or 0, and the record.
-fn same_allocated(sample: &[u8], seen: Seen, answer: Allocated) -> Seen {
+fn same_allocated(sample: &[u8], next: Cursor, answer: Allocated) -> Seen {
     let first = answer.first;
-    let relation = answer.relation;
-    let now = match first {
-        First::Var(x) => same(sample, same(sample, seen, 0), x),
-        First::Refused(k) => same(sample, same(sample, seen, k), 0),
+    let seen = match first {
+        First::Var(x) => same_two(sample, next, 0, x),
+        First::Refused(k) => same_two(sample, next, k, 0),
     };
-    same_relation(sample, now, relation)
+    same_relation(sample, seen, answer.relation)
 }
 
 // 11: width, slots; the number, the record, the slots.
-fn new(sample: &[u8], begun: Seen, width: u32, slots: &mut [u32]) -> Seen {
-    let answer = permutation::new(width, slots);
-    same_words(sample, same_recorded(sample, begun, answer), slots)
+fn new(sample: &[u8], c: Cursor) -> Seen {
+    let mut store = [0u32; WORDS];
+    let width = take_word(sample, c);
+    let list = take_list(sample, width.next, &mut store);
+    let n = list.len;
+    let slots = &mut store[0..n];
+    let answer = permutation::new(width.word, slots);
+    same_words(sample, same_recorded(sample, list.next, answer), slots)
 }
 
 // 12: record, slots, how many wires; the number, the first of them or 0, the record, the slots.
-fn allocate_vars(sample: &[u8], begun: Begun, slots: &mut [u32]) -> Seen {
-    let mut given = [0u32; 1];
-    let after = take_words(sample, begun.next, &mut given);
-    let relation = begun.relation;
-    let answer = permutation::allocate_vars(relation, slots, given[0]);
-    let seen = so_far(after, Found::Same);
-    same_words(sample, same_allocated(sample, seen, answer), slots)
+fn allocate_vars(sample: &[u8], c: Cursor) -> Seen {
+    let mut store = [0u32; WORDS];
+    let begun = take_relation(sample, c);
+    let list = take_list(sample, begun.next, &mut store);
+    let n = list.len;
+    let slots = &mut store[0..n];
+    let many = take_word(sample, list.next);
+    let answer = permutation::allocate_vars(begun.relation, slots, many.word);
+    same_words(sample, same_allocated(sample, many.next, answer), slots)
 }
 
 // 13: record, slots, wire, unit; the number, the slots.
-fn set_var(sample: &[u8], begun: Begun, slots: &mut [u32]) -> Seen {
-    let mut given = [0u32; 2];
-    let after = take_words(sample, begun.next, &mut given);
-    let relation = begun.relation;
-    let var = FieldVar(given[0]);
-    let outcome = permutation::set_var(relation, slots, var, BabyBearUnit(given[1]));
-    let seen = so_far(after, Found::Same);
-    same_words(sample, same_outcome(sample, seen, outcome), slots)
+fn set_var(sample: &[u8], c: Cursor) -> Seen {
+    let mut store = [0u32; WORDS];
+    let begun = take_relation(sample, c);
+    let list = take_list(sample, begun.next, &mut store);
+    let n = list.len;
+    let slots = &mut store[0..n];
+    let var = take_word(sample, list.next);
+    let unit = take_word(sample, var.next);
+    let outcome = permutation::set_var(
+        begun.relation,
+        slots,
+        FieldVar(var.word),
+        BabyBearUnit(unit.word),
+    );
+    same_words(sample, same_outcome(sample, unit.next, outcome), slots)
 }
 
 // 14: record, slots, wires, units; the number, how many pairs were accepted, the slots.
-fn set_vars(sample: &[u8], begun: Begun, slots: &mut [u32], vars: &[u32], values: &[u32]) -> Seen {
-    let relation = begun.relation;
+fn set_vars(
+    sample: &[u8],
+    relation: PermutationRelation,
+    c: Cursor,
+    slots: &mut [u32],
+    vars: &[u32],
+    values: &[u32],
+) -> Seen {
     let answer = permutation::set_vars(relation, slots, vars, values);
     let outcome = answer.outcome;
-    let accepted = answer.accepted;
-    let seen = same_outcome(sample, so_far(begun.next, Found::Same), outcome);
-    same_words(sample, same(sample, seen, accepted), slots)
+    let seen = same_outcome(sample, c, outcome);
+    same_words(sample, same(sample, seen, answer.accepted), slots)
 }
 
 // 15: record, queries, inputs, outputs; the number, the record, the queries.
 fn add_permutation(
     sample: &[u8],
-    begun: Begun,
+    relation: PermutationRelation,
+    c: Cursor,
     queries: &mut [u32],
     input: &[u32],
     output: &[u32],
 ) -> Seen {
-    let relation = begun.relation;
     let answer = permutation::add_permutation(relation, queries, input, output);
-    let seen = so_far(begun.next, Found::Same);
-    same_words(sample, same_recorded(sample, seen, answer), queries)
+    same_words(sample, same_recorded(sample, c, answer), queries)
 }
 
 // 16: record, slots, queries, inputs; the number, the first new wire or 0, the record, the slots, the queries.
-fn allocate_permutation(
-    sample: &[u8],
-    begun: Begun,
-    slots: &mut [u32],
-    queries: &mut [u32],
-    input: &[u32],
-) -> Seen {
-    let relation = begun.relation;
-    let answer = permutation::allocate_permutation(relation, slots, queries, input);
-    let seen = so_far(begun.next, Found::Same);
-    let seen = same_words(sample, same_allocated(sample, seen, answer), slots);
+fn allocate_permutation(sample: &[u8], c: Cursor) -> Seen {
+    let mut store = [0u32; WORDS];
+    let mut second = [0u32; WORDS];
+    let mut third = [0u32; WORDS];
+    let begun = take_relation(sample, c);
+    let lists = take_lists(sample, begun.next, &mut store, &mut second, &mut third);
+    let n = lists.first;
+    let m = lists.second;
+    let k = lists.third;
+    let slots = &mut store[0..n];
+    let queries = &mut second[0..m];
+    let input = &third[0..k];
+    let answer = permutation::allocate_permutation(begun.relation, slots, queries, input);
+    let seen = same_words(sample, same_allocated(sample, lists.next, answer), slots);
     same_words(sample, seen, queries)
 }
 
@@ -200,139 +228,79 @@ fn equate(
 // 17: record, equations, wires, weights, image; the number, the record, the equations.
 fn add_equation(
     sample: &[u8],
-    begun: Begun,
+    relation: PermutationRelation,
+    c: Cursor,
     equations: &mut [u32],
     vars: &[u32],
     weights: &[u32],
 ) -> Seen {
-    let mut given = [0u32; 1];
-    let after = take_words(sample, begun.next, &mut given);
-    let relation = begun.relation;
-    let image = BabyBearUnit(given[0]);
+    let image = take_word(sample, c);
     let n = shorter(vars.len(), weights.len());
     if TERMS < n {
-        return so_far(after, Found::TooLong);
+        return so_far(image.next, Found::TooLong);
     }
     let from = TERMS - n;
     let terms = take_terms(vars, weights, from);
-    let answer = equate(relation, equations, terms, from, image);
-    let seen = so_far(after, Found::Same);
-    same_words(sample, same_recorded(sample, seen, answer), equations)
+    let answer = equate(relation, equations, terms, from, BabyBearUnit(image.word));
+    same_words(sample, same_recorded(sample, image.next, answer), equations)
 }
 
 // 18: record, slots, wire; the number, 1 where the wire has a value, and that or 0.
-fn value(sample: &[u8], begun: Begun, slots: &[u32]) -> Seen {
-    let mut given = [0u32; 1];
-    let after = take_words(sample, begun.next, &mut given);
-    let relation = begun.relation;
-    let seen = so_far(after, Found::Same);
-    match permutation::value(relation, slots, FieldVar(given[0])) {
-        VarValue::Value(held) => same(sample, same(sample, same(sample, seen, 0), 1), held),
-        VarValue::Nothing => same(sample, same(sample, same(sample, seen, 0), 0), 0),
-        VarValue::Refused(k) => same(sample, same(sample, same(sample, seen, k), 0), 0),
+fn value(sample: &[u8], c: Cursor) -> Seen {
+    let mut store = [0u32; WORDS];
+    let begun = take_relation(sample, c);
+    let list = take_list(sample, begun.next, &mut store);
+    let n = list.len;
+    let var = take_word(sample, list.next);
+    match permutation::value(begun.relation, &store[0..n], FieldVar(var.word)) {
+        VarValue::Value(held) => same(sample, same_two(sample, var.next, 0, 1), held),
+        VarValue::Nothing => same(sample, same_two(sample, var.next, 0, 0), 0),
+        VarValue::Refused(k) => same(sample, same_two(sample, var.next, k, 0), 0),
     }
 }
 
 // 19: record, wire; the number, 1 where the wire is allocated.
-fn is_allocated(sample: &[u8], begun: Begun) -> Seen {
-    let mut given = [0u32; 1];
-    let after = take_words(sample, begun.next, &mut given);
-    let relation = begun.relation;
-    let seen = so_far(after, Found::Same);
-    match permutation::is_allocated(relation, FieldVar(given[0])) {
-        IsAllocated::Yes => same(sample, same(sample, seen, 0), 1),
-        IsAllocated::No => same(sample, same(sample, seen, 0), 0),
-        IsAllocated::Refused(k) => same(sample, same(sample, seen, k), 0),
-    }
-}
-
-// A fresh relation, over the slots of the case.
-fn call_new(sample: &[u8], c: Cursor, store: &mut [u32]) -> Seen {
-    let mut given = [0u32; 1];
-    let after = take_words(sample, c, &mut given);
-    let list = take_list(sample, after, store);
-    let next = list.next;
-    let len = list.len;
-    if store.len() < len {
-        return so_far(next, Found::TooLong);
-    }
-    new(
-        sample,
-        so_far(next, Found::Same),
-        given[0],
-        &mut store[0..len],
-    )
-}
-
-// A call that is lent slots alone: 12, 13 and 18.
-fn call_with_slots(op: u32, sample: &[u8], begun: Begun, store: &mut [u32]) -> Seen {
-    let relation = begun.relation;
-    let list = take_list(sample, begun.next, store);
-    let next = list.next;
-    let len = list.len;
-    if store.len() < len {
-        return so_far(next, Found::TooLong);
-    }
-    let begun = Begun { relation, next };
-    match op {
-        12 => allocate_vars(sample, begun, &mut store[0..len]),
-        13 => set_var(sample, begun, &mut store[0..len]),
-        _ => value(sample, begun, &store[0..len]),
-    }
-}
-
-// A call that is lent three stores and lists: 14 to 17.
-fn call_with_lists(
-    op: u32,
-    sample: &[u8],
-    begun: Begun,
-    store: &mut [u32],
-    second: &mut [u32],
-    third: &mut [u32],
-) -> Seen {
-    let relation = begun.relation;
-    let list = take_list(sample, begun.next, store);
-    let n = list.len;
-    let list = take_list(sample, list.next, second);
-    let m = list.len;
-    let list = take_list(sample, list.next, third);
-    let k = list.len;
-    let next = list.next;
-    if store.len() < n {
-        return so_far(next, Found::TooLong);
-    }
-    if second.len() < m {
-        return so_far(next, Found::TooLong);
-    }
-    if third.len() < k {
-        return so_far(next, Found::TooLong);
-    }
-    let begun = Begun { relation, next };
-    let store = &mut store[0..n];
-    match op {
-        14 => set_vars(sample, begun, store, &second[0..m], &third[0..k]),
-        15 => add_permutation(sample, begun, store, &second[0..m], &third[0..k]),
-        16 => allocate_permutation(sample, begun, store, &mut second[0..m], &third[0..k]),
-        _ => add_equation(sample, begun, store, &second[0..m], &third[0..k]),
-    }
-}
-
-// A call on a relation, by its operation, at the cursor past its number. The buffers are lent for its stores and lists.
-pub fn call(
-    op: u32,
-    sample: &[u8],
-    c: Cursor,
-    store: &mut [u32],
-    second: &mut [u32],
-    third: &mut [u32],
-) -> Seen {
-    if op == 11 {
-        return call_new(sample, c, store);
-    }
+fn is_allocated(sample: &[u8], c: Cursor) -> Seen {
     let begun = take_relation(sample, c);
+    let var = take_word(sample, begun.next);
+    match permutation::is_allocated(begun.relation, FieldVar(var.word)) {
+        IsAllocated::Yes => same_two(sample, var.next, 0, 1),
+        IsAllocated::No => same_two(sample, var.next, 0, 0),
+        IsAllocated::Refused(k) => same_two(sample, var.next, k, 0),
+    }
+}
+
+// A call that is lent a store and reads two lists: 14, 15 and 17.
+fn call_with_lists(op: u32, sample: &[u8], c: Cursor) -> Seen {
+    let mut store = [0u32; WORDS];
+    let mut second = [0u32; WORDS];
+    let mut third = [0u32; WORDS];
+    let begun = take_relation(sample, c);
+    let lists = take_lists(sample, begun.next, &mut store, &mut second, &mut third);
+    let n = lists.first;
+    let m = lists.second;
+    let k = lists.third;
+    let lent = &mut store[0..n];
+    let one = &second[0..m];
+    let two = &third[0..k];
+    if op == 14 {
+        return set_vars(sample, begun.relation, lists.next, lent, one, two);
+    }
+    if op == 15 {
+        return add_permutation(sample, begun.relation, lists.next, lent, one, two);
+    }
+    add_equation(sample, begun.relation, lists.next, lent, one, two)
+}
+
+// A call on a relation, by its operation, at the cursor past its number.
+pub(crate) fn call(op: u32, sample: &[u8], c: Cursor) -> Seen {
     match op {
-        12 | 13 | 18 => call_with_slots(op, sample, begun, store),
-        14..=17 => call_with_lists(op, sample, begun, store, second, third),
-        _ => is_allocated(sample, begun),
+        11 => new(sample, c),
+        12 => allocate_vars(sample, c),
+        13 => set_var(sample, c),
+        16 => allocate_permutation(sample, c),
+        18 => value(sample, c),
+        19 => is_allocated(sample, c),
+        _ => call_with_lists(op, sample, c),
     }
 }

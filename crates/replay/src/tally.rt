@@ -11,13 +11,13 @@ const TOLD: u64 = 10;
 
 // How many cases were replayed, how many of each operation agree, and how many differences there are: cases that
 // do not agree, and faults of the sample.
-pub struct Tally {
+pub(crate) struct Tally {
     pub replayed: u64,
     pub different: u64,
     pub agree: [u64; KINDS],
 }
 
-pub fn nothing() -> Tally {
+pub(crate) fn nothing() -> Tally {
     Tally {
         replayed: 0,
         different: 0,
@@ -30,7 +30,7 @@ fn one_more(n: u64) -> u64 {
 }
 
 // One case more, of an operation, and what was found in it.
-pub fn counted(tally: Tally, op: u32, found: Found) -> Tally {
+pub(crate) fn counted(tally: Tally, op: u32, found: Found) -> Tally {
     let mut now = tally;
     now.replayed = one_more(now.replayed);
     let Found::Same = found else {
@@ -46,7 +46,7 @@ pub fn counted(tally: Tally, op: u32, found: Found) -> Tally {
 }
 
 // A fault of the sample itself.
-pub fn faulty(tally: Tally, what: &[u8]) -> Tally {
+pub(crate) fn faulty(tally: Tally, what: &[u8]) -> Tally {
     let mut now = tally;
     io::write_all(STDOUT_FILENO, what);
     io::write_all(STDOUT_FILENO, b"\n");
@@ -54,33 +54,83 @@ pub fn faulty(tally: Tally, what: &[u8]) -> Tally {
     now
 }
 
-// What the cases of an operation are.
-fn print_kind(op: u64) -> bool {
+// Has an operation this number?
+pub(crate) fn named(op: u64) -> bool {
+    match op {
+        1..=5 => true,
+        11..=19 => true,
+        21..=24 => true,
+        31..=33 => true,
+        41 => true,
+        _ => false,
+    }
+}
+
+// What the cases of an operation are: in these five functions, each of a few numbers.
+fn print_leaf(op: u64) -> bool {
     match op {
         1 => io::write_all(STDOUT_FILENO, b"sums"),
         2 => io::write_all(STDOUT_FILENO, b"products"),
         3 => io::write_all(STDOUT_FILENO, b"texts"),
         4 => io::write_all(STDOUT_FILENO, b"words"),
-        5 => io::write_all(STDOUT_FILENO, b"items"),
+        _ => io::write_all(STDOUT_FILENO, b"items"),
+    }
+}
+
+fn print_wires(op: u64) -> bool {
+    match op {
         11 => io::write_all(STDOUT_FILENO, b"fresh relations"),
         12 => io::write_all(STDOUT_FILENO, b"allocations"),
         13 => io::write_all(STDOUT_FILENO, b"sets"),
-        14 => io::write_all(STDOUT_FILENO, b"set lists"),
+        _ => io::write_all(STDOUT_FILENO, b"set lists"),
+    }
+}
+
+fn print_relation(op: u64) -> bool {
+    match op {
         15 => io::write_all(STDOUT_FILENO, b"records"),
         16 => io::write_all(STDOUT_FILENO, b"mints"),
         17 => io::write_all(STDOUT_FILENO, b"equations"),
         18 => io::write_all(STDOUT_FILENO, b"values"),
-        19 => io::write_all(STDOUT_FILENO, b"tests for allocation"),
+        _ => io::write_all(STDOUT_FILENO, b"tests for allocation"),
+    }
+}
+
+fn print_trace(op: u64) -> bool {
+    match op {
         21 => io::write_all(STDOUT_FILENO, b"evaluated steps"),
         22 => io::write_all(STDOUT_FILENO, b"appended steps"),
         23 => io::write_all(STDOUT_FILENO, b"writes of SFRW"),
-        24 => io::write_all(STDOUT_FILENO, b"reads of SFRW"),
+        _ => io::write_all(STDOUT_FILENO, b"reads of SFRW"),
+    }
+}
+
+fn print_instance(op: u64) -> bool {
+    match op {
         31 => io::write_all(STDOUT_FILENO, b"gates"),
         32 => io::write_all(STDOUT_FILENO, b"writes of SFRI"),
         33 => io::write_all(STDOUT_FILENO, b"reads of SFRI"),
-        41 => io::write_all(STDOUT_FILENO, b"checks"),
-        _ => io::write_all(STDOUT_FILENO, b"unknown"),
+        _ => io::write_all(STDOUT_FILENO, b"checks"),
     }
+}
+
+fn print_kind(op: u64) -> bool {
+    if !named(op) {
+        return io::write_all(STDOUT_FILENO, b"unknown");
+    }
+    if op < 10 {
+        return print_leaf(op);
+    }
+    if op < 15 {
+        return print_wires(op);
+    }
+    if op < 20 {
+        return print_relation(op);
+    }
+    if op < 30 {
+        return print_trace(op);
+    }
+    print_instance(op)
 }
 
 // A word of an answer that differs.
@@ -136,18 +186,6 @@ fn print_column(n: u64) {
     io::write_all(STDOUT_FILENO, &digits[..k]);
 }
 
-// Has an operation this number?
-fn named(op: u64) -> bool {
-    match op {
-        1..=5 => true,
-        11..=19 => true,
-        21..=24 => true,
-        31..=33 => true,
-        41 => true,
-        _ => false,
-    }
-}
-
 // The line of an operation, and none where the number has no operation.
 fn print_line(op: u64, n: u64) {
     if named(op) {
@@ -159,7 +197,7 @@ fn print_line(op: u64, n: u64) {
 }
 
 // A line for each operation, and the last line.
-pub fn print(tally: Tally) {
+pub(crate) fn print(tally: Tally) {
     let agree = tally.agree;
     let mut op = 1;
     while op < KINDS {

@@ -1,17 +1,14 @@
--- `replay::replay` is safe and ends: there are no more cases than words, and the stores keep their lengths.
--- Assumes nothing.
+-- `replay::replay` is safe and ends: there are no more cases than words. Assumes nothing.
 use Prim.Native.Nat.{_-_}
-use mathlib.Core.Path.{_≡_}
-use lib.ListN.{length}
 use borrow.Author.Needs.{needs}
 use Rattle.replay.proofs.replay.Statement.{statement}
 use Rattle.replay.proofs.replay.Tie as tie
 
 abbrev Inv-loop : tie.InvT-loop
-Inv-loop sample store₀ second₀ third₀ tally₀ next₀ words i₀ t13 store second third tally next i = (length store ≡ length store₀) × (length second ≡ length second₀) × (length third ≡ length third₀)
+Inv-loop sample tally₀ next₀ words i₀ t13 tally next i = Unit
 
 abbrev μ-loop : tie.MeasureT-loop
-μ-loop sample store₀ second₀ third₀ tally₀ next₀ words i₀ t13 store second third tally next i = words - i
+μ-loop sample tally₀ next₀ words i₀ t13 tally next i = words - i
 
 nothing-requires : tie.Need-nothing-requires Inv-loop μ-loop
 nothing-requires c κs = search needs
@@ -34,15 +31,6 @@ enum-told c = search needs
 ended-requires : tie.Need-ended-requires Inv-loop μ-loop
 ended-requires c κs = search needs
 
-same-length : tie.Need-same-length Inv-loop μ-loop
-same-length c = search needs
-
-same-length-2 : tie.Need-same-length-2 Inv-loop μ-loop
-same-length-2 c = search needs
-
-same-length-3 : tie.Need-same-length-3 Inv-loop μ-loop
-same-length-3 c = search needs
-
 returns : tie.Need-returns Inv-loop μ-loop
 returns c = search needs
 
@@ -54,15 +42,6 @@ counted-requires c κs = search needs
 
 lost-requires : tie.Need-lost-requires Inv-loop μ-loop
 lost-requires c κs = search needs
-
-same-length-4 : tie.Need-same-length-4 Inv-loop μ-loop
-same-length-4 c = search needs
-
-same-length-5 : tie.Need-same-length-5 Inv-loop μ-loop
-same-length-5 c = search needs
-
-same-length-6 : tie.Need-same-length-6 Inv-loop μ-loop
-same-length-6 c = search needs
 
 returns-2 : tie.Need-returns-2 Inv-loop μ-loop
 returns-2 c = search needs
@@ -78,15 +57,6 @@ slice-aggregate-faulty c = search needs
 
 faulty-requires : tie.Need-faulty-requires Inv-loop μ-loop
 faulty-requires c κs = search needs
-
-same-length-7 : tie.Need-same-length-7 Inv-loop μ-loop
-same-length-7 c = search needs
-
-same-length-8 : tie.Need-same-length-8 Inv-loop μ-loop
-same-length-8 c = search needs
-
-same-length-9 : tie.Need-same-length-9 Inv-loop μ-loop
-same-length-9 c = search needs
 
 returns-3 : tie.Need-returns-3 Inv-loop μ-loop
 returns-3 c = search needs
@@ -104,22 +74,13 @@ replay-spec =
     enum-known-op
     enum-told
     ended-requires
-    same-length
-    same-length-2
-    same-length-3
     returns
     replay-case-requires
     counted-requires
     lost-requires
-    same-length-4
-    same-length-5
-    same-length-6
     returns-2
     loop-less
     loop-again
     slice-aggregate-faulty
     faulty-requires
-    same-length-7
-    same-length-8
-    same-length-9
     returns-3)

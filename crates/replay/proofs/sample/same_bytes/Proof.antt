@@ -20,6 +20,12 @@ bytes-at-requires c κs = search needs
 loop-holds : tie.Need-loop-holds Inv-loop μ-loop
 loop-holds c = search needs
 
+missing-requires : tie.Need-missing-requires Inv-loop μ-loop
+missing-requires c κs = search needs
+
+so-far-requires : tie.Need-so-far-requires Inv-loop μ-loop
+so-far-requires c κs = search needs
+
 returns : tie.Need-returns Inv-loop μ-loop
 returns c = search needs
 
@@ -59,6 +65,8 @@ same-bytes-spec =
     low-requires
     bytes-at-requires
     loop-holds
+    missing-requires
+    so-far-requires
     returns
     shared-slice-read-first-byte
     shared-slice-read-first-byte-2
