@@ -11,11 +11,13 @@ use crate::sample::Seen;
 use crate::sample::Taken;
 use crate::sample::WORDS;
 use crate::sample::bytes_at;
+use crate::sample::lent;
 use crate::sample::low;
 use crate::sample::past_bytes;
 use crate::sample::same;
 use crate::sample::same_bytes;
 use crate::sample::same_words;
+use crate::sample::shown;
 use crate::sample::so_far;
 use crate::sample::take_list;
 use crate::sample::take_lists;
@@ -36,7 +38,7 @@ struct Headed {
     next: Cursor,
 }
 
-// A relation's record has no count of publics.
+// The count of publics, which a relation's record does not have.
 fn take_publics(op: u32, sample: &[u8], c: Cursor) -> Taken {
     if op == 31 {
         return Taken { word: 0, next: c };
@@ -44,6 +46,7 @@ fn take_publics(op: u32, sample: &[u8], c: Cursor) -> Taken {
     take_word(sample, c)
 }
 
+// The record, the label's place and the cursor past it.
 fn take_head(op: u32, sample: &[u8], c: Cursor) -> Headed {
     let width = take_word(sample, c);
     let vars = take_word(sample, width.next);
@@ -125,10 +128,8 @@ fn gate(
     let mut second = [0u32; WORDS];
     let one = take_list(sample, c, &mut first);
     let two = take_list(sample, one.next, &mut second);
-    let n = one.len;
-    let m = two.len;
-    let publics = &mut first[0..n];
-    let scratch = &mut second[0..m];
+    let publics = lent(&mut first, one.len);
+    let scratch = lent(&mut second, two.len);
     let label = bytes_at(sample, head.start, head.len);
     let answer = compile(
         head.instance,
@@ -184,9 +185,6 @@ fn check(
     let mut second = [0u32; WORDS];
     let mut third = [0u32; WORDS];
     let lists = take_lists(sample, c, &mut first, &mut second, &mut third);
-    let n = lists.first;
-    let m = lists.second;
-    let k = lists.third;
     is_witness_valid(
         sample,
         head,
@@ -194,9 +192,9 @@ fn check(
         publics,
         queries,
         equations,
-        &first[0..n],
-        &second[0..m],
-        &mut third[0..k],
+        shown(&first, lists.first),
+        shown(&second, lists.second),
+        lent(&mut third, lists.third),
     )
 }
 
@@ -236,12 +234,9 @@ fn call_held(op: u32, sample: &[u8], c: Cursor) -> Seen {
     let mut third = [0u32; WORDS];
     let head = take_head(op, sample, c);
     let lists = take_lists(sample, head.next, &mut store, &mut second, &mut third);
-    let n = lists.first;
-    let m = lists.second;
-    let k = lists.third;
-    let first = &store[0..n];
-    let queries = &second[0..m];
-    let equations = &third[0..k];
+    let first = shown(&store, lists.first);
+    let queries = shown(&second, lists.second);
+    let equations = shown(&third, lists.third);
     if op == 31 {
         return gate(sample, head, lists.next, first, queries, equations);
     }
@@ -302,19 +297,15 @@ fn call_read(sample: &[u8], c: Cursor) -> Seen {
     let after = past_bytes(sample, len.next, len.word);
     let lists = take_lists(sample, after, &mut publics, &mut queries, &mut equations);
     let last = take_list(sample, lists.next, &mut scratch);
-    let n = lists.first;
-    let m = lists.second;
-    let k = lists.third;
-    let r = last.len;
     read(
         sample,
         last.next,
         width.word,
         bytes_at(sample, len.next, len.word),
-        &mut publics[0..n],
-        &mut queries[0..m],
-        &mut equations[0..k],
-        &mut scratch[0..r],
+        lent(&mut publics, lists.first),
+        lent(&mut queries, lists.second),
+        lent(&mut equations, lists.third),
+        lent(&mut scratch, last.len),
     )
 }
 

@@ -2,7 +2,7 @@
 //
 // A case hands in the record, each store that the call is lent, and the arguments. What the call is to answer
 // follows: its number and what it has besides, the record where it gives one back, and every word of the stores that
-// it may write. The words of stores and lists are taken into the fronts of three buffers, and just these are lent.
+// it may write. The words of stores and lists are taken into the fronts of buffers, and just these are lent.
 
 ghost use mathlib.Core.Path.{_≡_};
 ghost use Prim.Native.Nat.{_≤_};
@@ -13,9 +13,11 @@ use crate::sample::Found;
 use crate::sample::Seen;
 use crate::sample::WORDS;
 use crate::sample::begun;
+use crate::sample::lent;
 use crate::sample::same;
 use crate::sample::same_two;
 use crate::sample::same_words;
+use crate::sample::shown;
 use crate::sample::so_far;
 use crate::sample::take_list;
 use crate::sample::take_lists;
@@ -96,8 +98,7 @@ fn new(sample: &[u8], c: Cursor) -> Seen {
     let mut store = [0u32; WORDS];
     let width = take_word(sample, c);
     let list = take_list(sample, width.next, &mut store);
-    let n = list.len;
-    let slots = &mut store[0..n];
+    let slots = lent(&mut store, list.len);
     let answer = permutation::new(width.word, slots);
     same_words(sample, same_recorded(sample, list.next, answer), slots)
 }
@@ -107,8 +108,7 @@ fn allocate_vars(sample: &[u8], c: Cursor) -> Seen {
     let mut store = [0u32; WORDS];
     let begun = take_relation(sample, c);
     let list = take_list(sample, begun.next, &mut store);
-    let n = list.len;
-    let slots = &mut store[0..n];
+    let slots = lent(&mut store, list.len);
     let many = take_word(sample, list.next);
     let answer = permutation::allocate_vars(begun.relation, slots, many.word);
     same_words(sample, same_allocated(sample, many.next, answer), slots)
@@ -119,8 +119,7 @@ fn set_var(sample: &[u8], c: Cursor) -> Seen {
     let mut store = [0u32; WORDS];
     let begun = take_relation(sample, c);
     let list = take_list(sample, begun.next, &mut store);
-    let n = list.len;
-    let slots = &mut store[0..n];
+    let slots = lent(&mut store, list.len);
     let var = take_word(sample, list.next);
     let unit = take_word(sample, var.next);
     let outcome = permutation::set_var(
@@ -167,12 +166,9 @@ fn allocate_permutation(sample: &[u8], c: Cursor) -> Seen {
     let mut third = [0u32; WORDS];
     let begun = take_relation(sample, c);
     let lists = take_lists(sample, begun.next, &mut store, &mut second, &mut third);
-    let n = lists.first;
-    let m = lists.second;
-    let k = lists.third;
-    let slots = &mut store[0..n];
-    let queries = &mut second[0..m];
-    let input = &third[0..k];
+    let slots = lent(&mut store, lists.first);
+    let queries = lent(&mut second, lists.second);
+    let input = shown(&third, lists.third);
     let answer = permutation::allocate_permutation(begun.relation, slots, queries, input);
     let seen = same_words(sample, same_allocated(sample, lists.next, answer), slots);
     same_words(sample, seen, queries)
@@ -250,9 +246,8 @@ fn value(sample: &[u8], c: Cursor) -> Seen {
     let mut store = [0u32; WORDS];
     let begun = take_relation(sample, c);
     let list = take_list(sample, begun.next, &mut store);
-    let n = list.len;
     let var = take_word(sample, list.next);
-    match permutation::value(begun.relation, &store[0..n], FieldVar(var.word)) {
+    match permutation::value(begun.relation, shown(&store, list.len), FieldVar(var.word)) {
         VarValue::Value(held) => same(sample, same_two(sample, var.next, 0, 1), held),
         VarValue::Nothing => same(sample, same_two(sample, var.next, 0, 0), 0),
         VarValue::Refused(k) => same(sample, same_two(sample, var.next, k, 0), 0),
@@ -277,19 +272,16 @@ fn call_with_lists(op: u32, sample: &[u8], c: Cursor) -> Seen {
     let mut third = [0u32; WORDS];
     let begun = take_relation(sample, c);
     let lists = take_lists(sample, begun.next, &mut store, &mut second, &mut third);
-    let n = lists.first;
-    let m = lists.second;
-    let k = lists.third;
-    let lent = &mut store[0..n];
-    let one = &second[0..m];
-    let two = &third[0..k];
+    let written = lent(&mut store, lists.first);
+    let one = shown(&second, lists.second);
+    let two = shown(&third, lists.third);
     if op == 14 {
-        return set_vars(sample, begun.relation, lists.next, lent, one, two);
+        return set_vars(sample, begun.relation, lists.next, written, one, two);
     }
     if op == 15 {
-        return add_permutation(sample, begun.relation, lists.next, lent, one, two);
+        return add_permutation(sample, begun.relation, lists.next, written, one, two);
     }
-    add_equation(sample, begun.relation, lists.next, lent, one, two)
+    add_equation(sample, begun.relation, lists.next, written, one, two)
 }
 
 // A call on a relation, by its operation, at the cursor past its number.

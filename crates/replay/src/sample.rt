@@ -5,8 +5,6 @@
 // comparison then finds the case cut off. A list that is too long leaves it past the sample's end, and the comparison
 // finds that. Nothing in the sample is trusted.
 
-ghost use Prim.Native.Nat.{_≤_};
-ghost use lib.ListN.{length};
 use narg::Cursor;
 use narg::Word;
 
@@ -98,9 +96,7 @@ pub(crate) struct List {
 
 // A list, its length first. Where it is longer than the buffer none of its words is taken, and the cursor goes past
 // the end of every sample.
-pub(crate) fn take_list(sample: &[u8], c: Cursor, buffer: &mut [u32]) -> List
-    ensures { λ r. ⌜ r .len ≤ length (now (buffer .exit)) ⌝ }
-{
+pub(crate) fn take_list(sample: &[u8], c: Cursor, buffer: &mut [u32]) -> List {
     let head = take_word(sample, c);
     let len = wide(head.word);
     if buffer.len() < len {
@@ -128,9 +124,7 @@ pub(crate) fn take_lists(
     first: &mut [u32],
     second: &mut [u32],
     third: &mut [u32],
-) -> Lists
-    ensures { λ r. ⌜ (r .first ≤ length (now (first .exit))) × (r .second ≤ length (now (second .exit))) × (r .third ≤ length (now (third .exit))) ⌝ }
-{
+) -> Lists {
     let one = take_list(sample, c, first);
     let two = take_list(sample, one.next, second);
     let three = take_list(sample, two.next, third);
@@ -141,6 +135,22 @@ pub(crate) fn take_lists(
         third: three.len,
         next,
     }
+}
+
+// The first n words of a buffer, as those of a list that was taken into it; none where it has fewer.
+pub(crate) fn lent(buffer: &mut [u32], n: usize) -> &mut [u32] {
+    if buffer.len() < n {
+        return &mut buffer[0..0];
+    }
+    &mut buffer[0..n]
+}
+
+// The same, to be read alone.
+pub(crate) fn shown(buffer: &[u32], n: usize) -> &[u32] {
+    if buffer.len() < n {
+        return &buffer[0..0];
+    }
+    &buffer[0..n]
 }
 
 // The `len` bytes at the cursor, or as many of them as there are.

@@ -66,7 +66,7 @@ pub(crate) fn named(op: u64) -> bool {
     }
 }
 
-// What the cases of an operation are: in these five functions, each of a few numbers.
+// What the cases of the leaves are: 1 to 5.
 fn print_leaf(op: u64) -> bool {
     match op {
         1 => io::write_all(STDOUT_FILENO, b"sums"),
@@ -77,6 +77,7 @@ fn print_leaf(op: u64) -> bool {
     }
 }
 
+// Of the first calls on a relation: 11 to 14.
 fn print_wires(op: u64) -> bool {
     match op {
         11 => io::write_all(STDOUT_FILENO, b"fresh relations"),
@@ -86,6 +87,7 @@ fn print_wires(op: u64) -> bool {
     }
 }
 
+// Of the other calls on a relation: 15 to 19.
 fn print_relation(op: u64) -> bool {
     match op {
         15 => io::write_all(STDOUT_FILENO, b"records"),
@@ -96,6 +98,7 @@ fn print_relation(op: u64) -> bool {
     }
 }
 
+// Of the calls on a trace: 21 to 24.
 fn print_trace(op: u64) -> bool {
     match op {
         21 => io::write_all(STDOUT_FILENO, b"evaluated steps"),
@@ -105,6 +108,7 @@ fn print_trace(op: u64) -> bool {
     }
 }
 
+// Of the calls on an instance: 31 to 33 and 41.
 fn print_instance(op: u64) -> bool {
     match op {
         31 => io::write_all(STDOUT_FILENO, b"gates"),
@@ -114,6 +118,7 @@ fn print_instance(op: u64) -> bool {
     }
 }
 
+// What the cases of an operation are.
 fn print_kind(op: u64) -> bool {
     if !named(op) {
         return io::write_all(STDOUT_FILENO, b"unknown");

@@ -10,11 +10,13 @@ use crate::sample::Found;
 use crate::sample::Seen;
 use crate::sample::WORDS;
 use crate::sample::bytes_at;
+use crate::sample::lent;
 use crate::sample::low;
 use crate::sample::past_bytes;
 use crate::sample::same;
 use crate::sample::same_bytes;
 use crate::sample::same_words;
+use crate::sample::shown;
 use crate::sample::so_far;
 use crate::sample::take_list;
 use crate::sample::take_lists;
@@ -74,12 +76,9 @@ fn call_step(op: u32, sample: &[u8], c: Cursor) -> Seen {
         steps: steps.word,
     };
     let lists = take_lists(sample, steps.next, &mut store, &mut second, &mut third);
-    let n = lists.first;
-    let m = lists.second;
-    let k = lists.third;
-    let trace = &mut store[0..n];
-    let input = &second[0..m];
-    let last = &third[0..k];
+    let trace = lent(&mut store, lists.first);
+    let input = shown(&second, lists.second);
+    let last = shown(&third, lists.third);
     if op == 21 {
         return allocate_permutation(sample, lists.next, witness, trace, input, last);
     }
@@ -105,9 +104,8 @@ fn write(sample: &[u8], c: Cursor) -> Seen {
     if BYTES < len {
         return so_far(room.next, Found::TooLong);
     }
-    let n = list.len;
     let out = &mut output[0..len];
-    let answer = encoding::witness_to_bytes(width.word, steps.word, &store[0..n], out);
+    let answer = encoding::witness_to_bytes(width.word, steps.word, shown(&store, list.len), out);
     same_written(sample, room.next, answer, out)
 }
 
@@ -117,8 +115,7 @@ fn read(sample: &[u8], c: Cursor) -> Seen {
     let width = take_word(sample, c);
     let len = take_word(sample, width.next);
     let list = take_list(sample, past_bytes(sample, len.next, len.word), &mut store);
-    let n = list.len;
-    let trace = &mut store[0..n];
+    let trace = lent(&mut store, list.len);
     let bytes = bytes_at(sample, len.next, len.word);
     let answer = encoding::witness_from_bytes(width.word, bytes, trace);
     let outcome = answer.outcome;
