@@ -24,8 +24,8 @@ use crate::sample::take_lists;
 use crate::sample::take_word;
 use crate::sample::wide;
 use crate::traces::same_written;
-use encoding::InstanceRead;
-use instance::Compiled;
+use compile::Compiled;
+use decoding::InstanceRead;
 use instance::PermutationInstance;
 use narg::Cursor;
 use permutation::PermutationRelation;
@@ -98,7 +98,7 @@ fn compile(
         equations: given.equations,
         words: given.words,
     };
-    instance::compile(relation, label, slots, queries, equations, publics, scratch)
+    compile::compile(relation, label, slots, queries, equations, publics, scratch)
 }
 
 // The number, the record, the publics, scratch.
@@ -248,7 +248,7 @@ fn call_held(op: u32, sample: &[u8], c: Cursor) -> Seen {
 
 // The number, the record, the label's length and its bytes.
 fn same_read(sample: &[u8], next: Cursor, bytes: &[u8], answer: InstanceRead) -> Seen {
-    let label = encoding::label(bytes, answer);
+    let label = decoding::label(bytes, answer);
     let outcome = answer.outcome;
     let now = same_outcome(sample, next, outcome);
     let now = same_instance(sample, now, answer.instance);
@@ -281,7 +281,7 @@ fn read(
     equations: &mut [u32],
     scratch: &mut [u32],
 ) -> Seen {
-    let answer = encoding::instance_from_bytes(width, bytes, publics, queries, equations, scratch);
+    let answer = decoding::instance_from_bytes(width, bytes, publics, queries, equations, scratch);
     let seen = same_read(sample, c, bytes, answer);
     same_stores(sample, seen, publics, queries, equations, scratch)
 }

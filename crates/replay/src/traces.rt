@@ -117,7 +117,7 @@ fn read(sample: &[u8], c: Cursor) -> Seen {
     let list = take_list(sample, past_bytes(sample, len.next, len.word), &mut store);
     let trace = lent(&mut store, list.len);
     let bytes = bytes_at(sample, len.next, len.word);
-    let answer = encoding::witness_from_bytes(width.word, bytes, trace);
+    let answer = decoding::witness_from_bytes(width.word, bytes, trace);
     let outcome = answer.outcome;
     let now = same_outcome(sample, list.next, outcome);
     same_words(sample, same(sample, now, answer.steps), trace)
