@@ -1,5 +1,10 @@
 -- `permutation::add_permutation_no` meets its contract: its questions in a row.
 -- Assumes nothing.
+use Prim.Native.Nat.{_+_}
+use mathlib.Core.Path.{_≡_}
+use lib.Dec.{leb}
+use Rattle.limits.specs.Questions.{_▸_, ask}
+use Rattle.words.specs.Pieces.{wordsOf}
 use Rattle.permutation.proofs.Chain.{record-chain}
 use Rattle.permutation.specs.Numbers.{addPermutationNo}
 use borrow.Author.Needs.{needs}
@@ -48,8 +53,11 @@ asked-one-more-requires c κs = search needs
 returns : tie.Need-returns
 unfolding addPermutationNo
 returns c =
+    let a = c .before .before .before .before .before .before .before .before .before .before .before .before .before .args in
+    let ten = ask 10 (leb (wordsOf (a .rel .width) (a .rel .queries + 1)) (a .len)) in
+    let room : c .asked-one-more .result ≡ (c .before .asked-below2 .result ▸ ten) = c .asked-one-more .ensures in
     rw (
-      c .asked-one-more .ensures,
+      room,
       c .before .asked-below2 .ensures,
       c .before .before .asked-below .ensures,
       c .before .before .before .asked2 .ensures,

@@ -3,6 +3,7 @@
 use Prim.Native.Nat.{_-_}
 use mathlib.Core.Path.{_≡_}
 use mathlib.Core.Logic.{⊎-elim, inl, inr}
+use mathlib.Core.List.{[]}
 use native.Mathlib.Omega.{arith}
 use borrow.Author.Needs.{needs}
 use lib.ListN.{drop}
@@ -51,7 +52,7 @@ array-read-t36 c = search needs
 returns-2 : tie.Need-returns-2 Inv-loop μ-loop
 returns-2 c =
     let l = c .before .before .before in
-    begins _ _ (found _ _ (l .loop-test .taken) _ (l .before .loop .inv) (c .before .if2 .taken) (c .if3 .taken))
+    begins _ _ (found [] _ (l .loop-test .taken) _ (l .before .loop .inv) (c .before .if2 .taken) (c .if3 .taken))
 
 add-i : tie.Need-add-i Inv-loop μ-loop
 add-i c = search needs
@@ -62,7 +63,7 @@ loop-less c = search needs
 loop-again : tie.Need-loop-again Inv-loop μ-loop
 loop-again c =
     let l = c .before .before in
-    passed _ _ (l .loop-test .taken) _ (l .before .loop .inv)
+    passed [] _ (l .loop-test .taken) _ (l .before .loop .inv)
     (⊎-elim (λ w. inr (w .1 .left)) (λ w. inl (w .left)) (c .if2 .came))
 
 returns-3 : tie.Need-returns-3 Inv-loop μ-loop

@@ -1,5 +1,9 @@
 -- `words::asked_one_more` meets its contract: the half of the words is compared with the half of the store.
 -- Assumes nothing.
+use Prim.Native.Nat.{_+_, _*_, _/_}
+use mathlib.Core.Path.{_≡_}
+use lib.Dec.{leb}
+use Rattle.limits.specs.Questions.{_▸_, ask}
 use Rattle.limits.proofs.Product.{below}
 use Rattle.words.proofs.Pieces.{one-more-fits, one-more-below}
 use borrow.Author.Needs.{needs}
@@ -20,7 +24,8 @@ asked-requires c κs = search needs
 returns : tie.Need-returns
 returns c =
     let a = c .before .args in
-    rw (c .asked .ensures, one-more-fits (a .width) (a .n) (a .len))
+    let asked : c .asked .result ≡ (a .no ▸ ask (a .k) (leb (a .n * a .width + a .width) (a .len / 2))) = c .asked .ensures in
+    rw (asked, one-more-fits (a .width) (a .n) (a .len))
 
 pub asked-one-more-spec : {M : Type 1} → statement M
 asked-one-more-spec = tie.close (tie.spec mul-wanted add-wanted asked-requires returns)
