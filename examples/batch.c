@@ -9,7 +9,7 @@
 #define LENT(list) (list), sizeof(list) / sizeof *(list)
 
 static const uint8_t label[] = {'b', 'a', 't', 'c', 'h', ' ', '7'};
-static const uint32_t sheet[] = {0, SFR_PRIME - 1, 5}; /* the recipe: one round that makes x to 5(x - 1)^7 */
+static const uint32_t params[] = {0, SFR_PRIME - 1, 5}; /* the recipe: one round that makes x to 5(x - 1)^7 */
 
 static void accepted(uint32_t number)
 {
@@ -45,7 +45,7 @@ static uint32_t batch(const uint32_t weights[2])
 
     sfr_trace_answer steps = {0, {1, 0}};
     for (int i = 0; i < 2; i++) {
-        steps = sfr_evaluate_step(steps.trace, LENT(trace), &weights[i], 1, 1, LENT(sheet));
+        steps = sfr_evaluate_step(steps.trace, LENT(trace), &weights[i], 1, 1, LENT(params));
         accepted(steps.number);
     }
 
@@ -62,7 +62,7 @@ static uint32_t batch(const uint32_t weights[2])
     steps = sfr_witness_from_bytes(1, sfrw, witness.len, LENT(trace));
     accepted(steps.number);
     return sfr_is_witness_valid(read.instance, sfri + SFR_LABEL_AT, read.label_len, LENT(publics), LENT(queries),
-                                LENT(equations), steps.trace.steps, LENT(trace), 1, LENT(sheet), LENT(scratch));
+                                LENT(equations), steps.trace.steps, LENT(trace), 1, LENT(params), LENT(scratch));
 }
 
 int main(void)

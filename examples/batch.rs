@@ -9,7 +9,7 @@ use sfr::{Refused, Trace, Weighted, PRIME};
 
 const LABEL: &[u8] = b"batch 7";
 /// The recipe: one round that makes x to 5(x - 1)^7.
-const SHEET: [u32; 3] = [0, PRIME - 1, 5];
+const PARAMS: [u32; 3] = [0, PRIME - 1, 5];
 
 /// The check's answer on the files of a batch of these two weights.
 fn batch(by_hopper: u32, by_hand: u32) -> Result<u32, Refused> {
@@ -30,7 +30,7 @@ fn batch(by_hopper: u32, by_hand: u32) -> Result<u32, Refused> {
 
     let mut rec = Trace { width: 1, steps: 0 };
     for weight in [by_hopper, by_hand] {
-        rec = sfr::evaluate_step(rec, trace, &[weight], 1, &SHEET).accepted()?;
+        rec = sfr::evaluate_step(rec, trace, &[weight], 1, &PARAMS).accepted()?;
     }
 
     let instance = sfr::instance_to_bytes(ins, LABEL, publics, queries, equations, sfri);
@@ -42,7 +42,7 @@ fn batch(by_hopper: u32, by_hand: u32) -> Result<u32, Refused> {
     let (ins, label) = (read.accepted()?, sfr::label(sfri, &read));
     let rec = sfr::witness_from_bytes(1, sfrw, trace).accepted()?;
     Ok(sfr::is_witness_valid(
-        ins, label, publics, queries, equations, rec.steps, trace, 1, &SHEET, scratch,
+        ins, label, publics, queries, equations, rec.steps, trace, 1, &PARAMS, scratch,
     ))
 }
 

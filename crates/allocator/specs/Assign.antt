@@ -17,6 +17,7 @@ assignVar count slots p =
     (pick (eqb (getD slots (p .var) unassigned) unassigned) Fresh Repeated)
     (Refused (pairNo count slots p))
 
+-- the slots afterwards: the wire's slot holds the value, or all as they were
 unfoldable pub assignVarSlots : ℕ → List ℕ → Pair → List ℕ
 assignVarSlots count slots p = onYes (pairNo count slots p) (set slots (p .var) (p .value)) slots
 

@@ -14,6 +14,7 @@ pub record Pair : Type 0 where
   pub var : ℕ
   pub value : ℕ
 
+-- this wire with this unit
 abbrev pub pair : ℕ → ℕ → Pair
 pair var value = record { var = var; value = value }
 
@@ -46,6 +47,7 @@ pairAsks count slots p =
     ∷ question 8 (slotTakes slots p)
     ∷ []
 
+-- the number of one pair: the first no of its questions
 unfoldable pub pairNo : ℕ → List ℕ → Pair → ℕ
 pairNo count slots p = firstNo (pairAsks count slots p)
 
@@ -60,9 +62,11 @@ pub record SetRun : Type 0 where
   pub accepted : ℕ
   pub slots : List ℕ
 
+-- a run that came to this number, with so many accepted and these slots
 abbrev pub ran : ℕ → ℕ → List ℕ → SetRun
 ran number accepted slots = record { number = number; accepted = accepted; slots = slots }
 
+-- each pair is asked on the slots as the earlier ones leave them; the first that is refused ends the run
 unfoldable pub setRun : ℕ → List ℕ → List Pair → SetRun
 setRun count slots [] = ran 0 0 slots
 setRun count slots (p ∷ ps) =

@@ -11,13 +11,16 @@ use Rattle.limits.specs.Questions.{pick}
 use Rattle.words.specs.Store.{All}
 use Rattle.allocator.specs.Slots.{Pair}
 
+-- what each wire carries, if anything
 abbrev pub Values : Type 0
 Values = ℕ → Option ℕ
 
+-- is anything carried?
 abbrev pub isSome : Option ℕ → Bool
 isSome none = false
 isSome (some v) = true
 
+-- no wire carries anything
 abbrev pub nothing : Values
 nothing x = none
 

@@ -6,9 +6,11 @@ use mathlib.Core.List.{List, [], _∷_}
 use lib.Dec.{ltb}
 use Rattle.limits.specs.Numbers.{prime}
 
+-- the sum modulo p
 unfoldable pub addUnit : ℕ → ℕ → ℕ
 addUnit a b = (a + b) % prime
 
+-- the product modulo p
 unfoldable pub mulUnit : ℕ → ℕ → ℕ
 mulUnit a b = a * b % prime
 
@@ -42,10 +44,12 @@ unfoldable pub dotUnits : List ℕ → List ℕ → ℕ
 dotUnits r x = sumUnits (productUnits r x)
 
 -- ---- the same without reducing: the laws in proofs/Ring say that one reduction at the end is enough
+-- the sum of a list, in the numbers
 unfoldable pub sum : List ℕ → ℕ
 sum [] = 0
 sum (a ∷ l) = a + sum l
 
+-- the sum over j of r[j] times x[j], up to the shorter length, in the numbers
 unfoldable pub dot : List ℕ → List ℕ → ℕ
 dot [] x = 0
 dot (a ∷ r) [] = 0

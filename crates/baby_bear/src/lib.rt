@@ -8,6 +8,7 @@ ghost use Rattle.baby_bear.specs.Field.{addUnit, mulUnit, seventh, areUn
 ghost use Prim.Native.Nat.{max};
 use limits::P;
 
+// A unit of the field, as a word (the source's `BabyBearUnit`); a caller may put any u32 into it.
 #[repr(C)]
 pub struct BabyBearUnit(pub u32);
 
@@ -48,6 +49,7 @@ pub fn are_units(words: &[u32]) -> bool
     top < P
 }
 
+// The larger of the two.
 fn larger(a: u32, b: u32) -> u32
     ensures { λ r. ⌜ r ≡ max a b ⌝ }
 {

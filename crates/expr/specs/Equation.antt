@@ -19,13 +19,16 @@ pub record Equation : Type 0 where
   pub terms : List Term
   pub image : ℕ
 
+-- the equation of these terms and this image
 abbrev pub equation : List Term → ℕ → Equation
 equation terms image = record { terms = terms; image = image }
 
+-- the wires of the terms, in order
 abbrev pub termVars : List Term → List ℕ
 termVars [] = []
 termVars (t ∷ ts) = t .var ∷ termVars ts
 
+-- the weights of the terms, in order
 abbrev pub termWeights : List Term → List ℕ
 termWeights [] = []
 termWeights (t ∷ ts) = t .weight ∷ termWeights ts
@@ -35,10 +38,12 @@ abbrev pub termsAsks : List Term → List Question
 termsAsks terms = question 3 (allBelow maxCount (termVars terms)) ∷ question 4 (allBelow prime (termWeights terms)) ∷ []
 
 -- ---- in a store: the term count, then wire and weight per term, then the image
+-- the words of the terms: each one's wire and weight, in order
 abbrev pub termWords : List Term → List ℕ
 termWords [] = []
 termWords (t ∷ ts) = t .var ∷ t .weight ∷ termWords ts
 
+-- the words of an equation: how many terms, the terms, the image
 abbrev pub equationWords : Equation → List ℕ
 equationWords e = length (e .terms) ∷ (termWords (e .terms) ++ (e .image ∷ []))
 
@@ -57,13 +62,16 @@ equationsWords [] = []
 equationsWords (e ∷ es) = equationWords e ++ equationsWords es
 
 -- ---- the same read back, by counts
+-- the first t terms that the words hold; where they end, zeros
 abbrev pub termsAt : ℕ → List ℕ → List Term
 termsAt zero s = []
 termsAt (suc t) s = record { var = getD s 0 0; weight = getD s 1 0 } ∷ termsAt t (drop 2 s)
 
+-- the equation at the front of the words, by the count that stands first
 unfoldable pub equationAt : List ℕ → Equation
 equationAt s = equation (termsAt (getD s 0 0) (drop 1 s)) (getD (drop 1 s) (2 * getD s 0 0) 0)
 
+-- and how many words it takes, by that count
 unfoldable pub sizeAt : List ℕ → ℕ
 sizeAt s = equationSize (getD s 0 0)
 

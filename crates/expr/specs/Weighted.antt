@@ -28,6 +28,7 @@ scaledBy factor t = record { var = t .var; weight = record { 0 = mulUnit (t .wei
 abbrev pub scaleAsks : List Weighted → ℕ → List Question
 scaleAsks ts factor = termsAsks (termsOf ts) ++ (question 4 (ltb factor prime) ∷ [])
 
+-- the number of a scaling: the first no of its questions
 unfoldable pub scaleNo : List Weighted → ℕ → ℕ
 scaleNo ts factor = firstNo (scaleAsks ts factor)
 
@@ -35,5 +36,6 @@ scaleNo ts factor = firstNo (scaleAsks ts factor)
 abbrev pub scaled : List Weighted → ℕ → Scaled
 scaled ts factor = onYes (scaleNo ts factor) Accepted (Refused (scaleNo ts factor))
 
+-- the list afterwards: every weight times the factor, or as it was
 abbrev pub scaledTerms : List Weighted → ℕ → List Weighted
 scaledTerms ts factor = onYes (scaleNo ts factor) (map (scaledBy factor) ts) ts

@@ -35,6 +35,7 @@ pub record State : Type 0 where
   pub queries : List ℕ
   pub equations : List ℕ
 
+-- this record and these stores
 abbrev pub state : PermutationRelation → (slots queries equations : List ℕ) → State
 state relation slots queries equations =
     record { relation = relation; slots = slots; queries = queries; equations = equations }
@@ -45,6 +46,7 @@ abbrev pub pairsAsks : ℕ → List ℕ → List Pair → List Question
 pairsAsks count slots [] = []
 pairsAsks count slots (p ∷ ps) = pairAsks count slots p ++ pairsAsks count (set slots (p .var) (p .value)) ps
 
+-- of each call, on the state that it gets
 unfoldable pub asks : State → Call → List Question
 asks s (Allocate n) = allocateVarsAsks (s .relation) (length (s .slots)) n
 asks s (Set p) = setVarAsks (s .relation) (s .slots) p
@@ -56,6 +58,7 @@ asks s (Mint input) = allocatePermutationAsks (s .relation) (length (s .slots)) 
 asks s (Equate terms image) = addEquationAsks (s .relation) (length (s .equations)) (termsOf terms) image
 
 -- ---- answers: document 01's number, the first new wire, and how many pairs were accepted
+-- where a call has no such value it is 0
 pub record Answer : Type 0 where
   pub number : ℕ
   pub first : ℕ
@@ -65,16 +68,20 @@ pub record Answer : Type 0 where
 abbrev pub ofOutcome : Outcome → Answer
 ofOutcome o = record { number = outcomeNumber o; first = 0; accepted = 0 }
 
+-- the first new wire, 0 after a refusal
 abbrev pub firstVar : First → ℕ
 firstVar (first.Var x) = x
 firstVar (first.Refused k) = 0
 
+-- an allocation's answer: the number and the first new wire
 abbrev pub ofFirst : First → Answer
 ofFirst f = record { number = firstNumber f; first = firstVar f; accepted = 0 }
 
+-- a set list's answer: the number and how many pairs were accepted
 abbrev pub ofSetVars : SetVars → Answer
 ofSetVars r = record { number = outcomeNumber (r .outcome); first = 0; accepted = r .accepted }
 
+-- what each call answers on the state that it gets
 unfoldable pub answer : State → Call → Answer
 answer s (Allocate n) = ofFirst (allocateVars (s .relation) (s .slots) n .first)
 answer s (Set p) = ofOutcome (setVar (s .relation) (s .slots) p)
@@ -84,6 +91,7 @@ answer s (Mint input) = ofFirst (allocatePermutation (s .relation) (s .slots) (s
 answer s (Equate terms image) = ofOutcome (addEquation (s .relation) (s .equations) (termsOf terms) image .outcome)
 
 -- ---- what a call leaves
+-- the record and the stores after each call
 unfoldable pub after : State → Call → State
 after s (Allocate n) =
     state (allocateVars (s .relation) (s .slots) n .relation) (allocateVarsSlots (s .relation) (s .slots) n)
@@ -107,6 +115,7 @@ abbrev pub fresh : ℕ → (slots queries equations : List ℕ) → State
 fresh w slots queries equations = state (newRelation w slots .relation) (newSlots w slots) queries equations
 
 -- ---- the ledger
+-- the ledger of this count, these sets, queries and equations
 abbrev pub ledger : ℕ → List Pair → List (List ℕ) → List Equation → Ledger
 ledger count sets queries equations =
     record { count = count; sets = sets; queries = queries; equations = equations }
@@ -131,18 +140,22 @@ noted w l (Equate terms image) a =
     ledger (l .count) (l .sets) (l .queries) (onYes (a .number) (l .equations ++ (equation (termsOf terms) image ∷ [])) (l .equations))
 
 -- ---- a list of calls: what was called and answered, what is left at the end, and the ledger of it
+-- one call, and what it was answered
 pub record Entry : Type 0 where
   pub called : Call
   pub answered : Answer
 
+-- the calls in order, each with its answer on the state that the calls before it left
 abbrev pub log : State → List Call → List Entry
 log s [] = []
 log s (c ∷ cs) = record { called = c; answered = answer s c } ∷ log (after s c) cs
 
+-- what is left after every call, each on what the last one left
 abbrev pub final : State → List Call → State
 final s [] = s
 final s (c ∷ cs) = final (after s c) cs
 
+-- the ledger after all entries, from calls and answers alone
 abbrev pub ledgerOf : ℕ → Ledger → List Entry → Ledger
 ledgerOf w l [] = l
 ledgerOf w l (e ∷ es) = ledgerOf w (noted w l (e .called) (e .answered)) es

@@ -20,6 +20,7 @@ use Rattle.history.specs.Calls.{Call, Allocate, Set, SetList, Record, Mi
 use Rattle.history.specs.Left.{Lengths, left}
 
 -- ---- along the list
+-- the lengths of a state's three stores
 abbrev pub lengthsOf : State → Lengths
 lengthsOf s = record { slots = length (s .slots); queries = length (s .queries); equations = length (s .equations) }
 

@@ -28,6 +28,7 @@ pub record Lengths : Type 0 where
   pub equations : ℕ
 
 -- ---- calls: 1 is never answered, nor 2 of the slots or a count
+-- the number that a call answers, by ledger and lengths; 0 is yes
 unfoldable pub left : ℕ → Lengths → Ledger → Call → ℕ
 left w lengths l (Allocate n) = firstNo (allocateVarsLeft (l .count) (lengths .slots) n)
 left w lengths l (Set p) = firstNo (setVarLeft (l .count) (l .sets) p)

@@ -57,6 +57,7 @@ pub record TraceLent : Type 0 where
   pub room : ℕ
 
 module _ (w : ℕ) (t : TraceLent) where
+  -- the number of the write
   abbrev witnessNo : ℕ
   witnessNo = witnessToBytesNo w (t .steps) (t .trace) (length (t .out))
 
@@ -64,6 +65,7 @@ module _ (w : ℕ) (t : TraceLent) where
   abbrev pub witnessWritten : Written
   witnessWritten = writtenOf witnessNo (witnessToBytes w (t .steps) (t .trace))
 
+  -- the bytes: as many of the output's as the answer counts
   abbrev pub witnessBytesMade : List ℕ
   witnessBytesMade = take (witnessWritten .len) (writtenOut witnessNo (witnessToBytes w (t .steps) (t .trace)) (t .out))
 
@@ -71,9 +73,11 @@ module _ (w : ℕ) (t : TraceLent) where
   abbrev witnessGot : Got (List (List ℕ))
   witnessGot = witnessFromBytes w witnessBytesMade (t .room)
 
+  -- the answer
   abbrev pub witnessReadBack : WitnessRead
   witnessReadBack = witnessAnswer witnessGot
 
+  -- the store that was read into, afterwards
   abbrev pub traceReadBack : List ℕ
   traceReadBack = traceAfter (t .room) witnessGot
 
@@ -97,14 +101,17 @@ pub record FileLent : Type 0 where
 abbrev pub compiled : State → (label publics scratch : List ℕ) → Compiled
 compiled s label publics scratch = compile (s .relation) label (s .slots) (s .queries) (s .equations) publics scratch
 
+-- the publics afterwards
 abbrev pub publicsMade : State → (label publics scratch : List ℕ) → List ℕ
 publicsMade s label publics scratch = compilePublics (s .relation) label (s .slots) (s .queries) (s .equations) publics scratch
 
 -- `ins` and `made`: the instance and the publics that the gate made
 module _ (w : ℕ) (s : State) (ins : PermutationInstance) (made : List ℕ) (f : FileLent) where
+  -- the number of the write
   abbrev instanceNo : ℕ
   instanceNo = instanceToBytesNo ins (f .label) made (s .queries) (s .equations) (length (f .out))
 
+  -- the bytes that an accepted write writes
   abbrev instanceBytesMeant : List ℕ
   instanceBytesMeant = instanceToBytes ins (f .label) made (s .queries) (s .equations)
 
@@ -112,6 +119,7 @@ module _ (w : ℕ) (s : State) (ins : PermutationInstance) (made : List ℕ) (f 
   abbrev pub instanceWritten : Written
   instanceWritten = writtenOf instanceNo instanceBytesMeant
 
+  -- the bytes: as many of the output's as the answer counts
   abbrev pub instanceBytesMade : List ℕ
   instanceBytesMade = take (instanceWritten .len) (writtenOut instanceNo instanceBytesMeant (f .out))
 
@@ -119,18 +127,23 @@ module _ (w : ℕ) (s : State) (ins : PermutationInstance) (made : List ℕ) (f 
   abbrev instanceGot : Got File
   instanceGot = instanceFromBytes w instanceBytesMade (f .rooms)
 
+  -- the answer, with the record that was read
   abbrev pub instanceReadBack : InstanceRead
   instanceReadBack = instanceAnswer w instanceGot
 
+  -- the label: that part of the bytes
   abbrev pub labelReadBack : List ℕ
   labelReadBack = labelPart instanceBytesMade (instanceReadBack .label)
 
+  -- the publics, afterwards
   abbrev pub publicsReadBack : List ℕ
   publicsReadBack = publicsAfter (f .rooms .publics) instanceGot
 
+  -- the queries, afterwards
   abbrev pub queriesReadBack : List ℕ
   queriesReadBack = queriesAfter (f .rooms .queries) instanceGot
 
+  -- the equations, afterwards
   abbrev pub equationsReadBack : List ℕ
   equationsReadBack = equationsAfter (f .rooms .equations) instanceGot
 
@@ -161,16 +174,19 @@ module _ (w : ℕ) (s : State) (ins : PermutationInstance) (made : List ℕ) (f 
 
 -- ---- the whole
 module _ (w : ℕ) (slots queries equations : List ℕ) (cs : List Call) where
-  -- what fresh leaves, what the calls leave, and the ledger at the gate
+  -- what fresh leaves
   abbrev pub begin : State
   begin = fresh w slots queries equations
 
+  -- what the calls leave
   abbrev pub last : State
   last = final begin cs
 
+  -- the ledger at the gate, fed the calls and their answers
   abbrev pub lastLedger : Ledger
   lastLedger = ledgerOf w firstLedger (log begin cs)
 
+  -- demand 3 of this list of calls: all four of the head
   pub record Whole : Type 0 where
     -- (1) along the list
     pub told : AllTold w begin firstLedger cs

@@ -27,6 +27,7 @@ pub record Question : Type 0 where
   pub number : ℕ
   pub says : Bool
 
+-- question k, which says this
 abbrev pub question : ℕ → Bool → Question
 question k says = record { number = k; says = says }
 

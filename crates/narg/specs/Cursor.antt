@@ -16,6 +16,7 @@ use Rattle.narg.specs.declared.Put.the-variants.{Written, Full}
 use Rattle.narg.specs.declared.Item.{Item}
 use Rattle.narg.specs.declared.Item.the-variants.{Read as ReadItem, Refused}
 
+-- a cursor at this byte
 abbrev pub cursor : ℕ → Cursor
 cursor at = record { at = at }
 

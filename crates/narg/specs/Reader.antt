@@ -18,6 +18,7 @@ pub data Got (A : Type 0) : Type 0 where
   got : A → List ℕ → Got A
   stop : ℕ → Got A
 
+-- a reader makes of bytes a value and the bytes that are left, or a refusal
 abbrev pub Reader : Type 0 → Type 0
 Reader A = List ℕ → Got A
 
@@ -31,6 +32,7 @@ infixr 10 _>>=_ _>>_
 abbrev pub _>>=_ : {A B : Type 0} → Reader A → (A → Reader B) → Reader B
 _>>=_ p next bytes = onGot (p bytes) next
 
+-- one reader, and then another whatever the first read
 abbrev pub _>>_ : {A B : Type 0} → Reader A → Reader B → Reader B
 _>>_ p next bytes = onGot (p bytes) (λ a. next)
 

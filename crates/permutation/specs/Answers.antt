@@ -41,15 +41,18 @@ abbrev pub outcomeNumber : Outcome → ℕ
 outcomeNumber outcome.Accepted = 0
 outcomeNumber (outcome.Refused k) = k
 
+-- of an allocation's answer
 abbrev pub firstNumber : First → ℕ
 firstNumber (first.Var v) = 0
 firstNumber (first.Refused k) = k
 
+-- of a look at a wire's value
 abbrev pub valueNumber : VarValue → ℕ
 valueNumber (varValue.Value v) = 0
 valueNumber varValue.Nothing = 0
 valueNumber (varValue.Refused k) = k
 
+-- of a look whether a wire is allocated
 abbrev pub isAllocatedNumber : IsAllocated → ℕ
 isAllocatedNumber isAllocated-is.Yes = 0
 isAllocatedNumber isAllocated-is.No = 0
@@ -64,45 +67,57 @@ isAccepted (outcome.Refused k) = false
 abbrev pub recordedOf : ℕ → PermutationRelation → PermutationRelation → Recorded
 recordedOf k new given = record { outcome = outcomeOf k; relation = onYes k new given }
 
+-- the first new wire with the record, in the same way
 abbrev pub allocatedOf : ℕ → ℕ → PermutationRelation → PermutationRelation → Allocated
 allocatedOf k var new given = record { first = firstOf k var; relation = onYes k new given }
 
 -- ---- records
+-- the record of these counts
 abbrev pub relation : ℕ → ℕ → ℕ → ℕ → ℕ → PermutationRelation
 relation width vars queries equations words =
     record { width = width; vars = vars; queries = queries; equations = equations; words = words }
 
+-- n wires more
 abbrev pub moreVars : PermutationRelation → ℕ → PermutationRelation
 moreVars rel n = relation (rel .width) (rel .vars + n) (rel .queries) (rel .equations) (rel .words)
 
+-- one query more
 abbrev pub oneQuery : PermutationRelation → PermutationRelation
 oneQuery rel = relation (rel .width) (rel .vars) (rel .queries + 1) (rel .equations) (rel .words)
 
+-- one equation of t terms more, and the words that it takes
 abbrev pub oneEquation : PermutationRelation → ℕ → PermutationRelation
 oneEquation rel t = relation (rel .width) (rel .vars) (rel .queries) (rel .equations + 1) (rel .words + equationSize t)
 
 -- ---- fresh: one wire, slot 0 becomes 0; refused, a record of zeros
+-- the answer: a record with one wire
 abbrev pub newRelation : ℕ → List ℕ → Recorded
 newRelation width slots = recordedOf (newNo width (length slots)) (relation width 1 0 0 0) (relation 0 0 0 0 0)
 
+-- the slots afterwards
 abbrev pub newSlots : ℕ → List ℕ → List ℕ
 newSlots width slots = onYes (newNo width (length slots)) (set slots 0 0) slots
 
 -- ---- allocate: the next n wires, all slots unassigned, answered by the wire count before the call
+-- the answer, with n wires more in the record
 abbrev pub allocateVars : PermutationRelation → List ℕ → ℕ → Allocated
 allocateVars rel slots n = allocatedOf (allocateVarsNo rel (length slots) n) (rel .vars) (moreVars rel n) rel
 
+-- the slots afterwards
 abbrev pub allocateVarsSlots : PermutationRelation → List ℕ → ℕ → List ℕ
 allocateVarsSlots rel slots n = onYes (allocateVarsNo rel (length slots) n) (grownSlots (rel .vars) n slots) slots
 
 -- ---- set: the slot becomes the value
+-- the answer; the record has nothing new
 abbrev pub setVar : PermutationRelation → List ℕ → Pair → Outcome
 setVar rel slots p = outcomeOf (setVarNo rel slots p)
 
+-- the slots afterwards
 abbrev pub setVarSlots : PermutationRelation → List ℕ → Pair → List ℕ
 setVarSlots rel slots p = onYes (setVarNo rel slots p) (set slots (p .var) (p .value)) slots
 
 -- ---- set list: nothing is tried where 1 or 2 says no; 9 comes after the common pairs, which stay set
+-- the number, how many pairs were accepted, and the slots
 unfoldable pub setVarsRun : PermutationRelation → List ℕ → List ℕ → List ℕ → SetRun
 setVarsRun rel slots vars values =
     let r = setRun (rel .vars) slots (pairs vars values) in
@@ -110,6 +125,7 @@ setVarsRun rel slots vars values =
     (ran (r .number ▸ ask 9 (eqb (length vars) (length values))) (r .accepted) (r .slots))
     (ran (setVarsNo rel (length slots) vars values) 0 slots)
 
+-- the answer: the number and the tally of that run
 abbrev pub setVars : PermutationRelation → List ℕ → List ℕ → List ℕ → SetVars
 setVars rel slots vars values =
     record {
@@ -117,17 +133,21 @@ setVars rel slots vars values =
       accepted = setVarsRun rel slots vars values .accepted;
     }
 
+-- the slots afterwards: those of that run
 abbrev pub setVarsSlots : PermutationRelation → List ℕ → List ℕ → List ℕ → List ℕ
 setVarsSlots rel slots vars values = setVarsRun rel slots vars values .slots
 
 -- ---- record: inputs then outputs at the end of the queries
+-- the store with these cells behind the queries that it holds
 abbrev pub queriesWith : PermutationRelation → List ℕ → List ℕ → List ℕ
 queriesWith rel cells queries = putWords (wordsOf (rel .width) (rel .queries)) cells queries
 
+-- the answer, with one query more in the record
 abbrev pub addPermutation : PermutationRelation → List ℕ → List ℕ → List ℕ → Recorded
 addPermutation rel queries input output =
     recordedOf (addPermutationNo rel (length queries) input output) (oneQuery rel) rel
 
+-- the queries afterwards
 abbrev pub addPermutationQueries : PermutationRelation → List ℕ → List ℕ → List ℕ → List ℕ
 addPermutationQueries rel queries input output =
     onYes (addPermutationNo rel (length queries) input output) (queriesWith rel (input ++ output) queries) queries
@@ -142,35 +162,42 @@ upFrom n (suc k) = n ∷ upFrom (suc n) k
 abbrev pub fitVars : ℕ → ℕ → ℕ → List ℕ → List ℕ
 fitVars at first n s = pick (leb (first + n) maxCount) (fitWords at (upFrom first n) s) s
 
+-- the answer, the first new wire, with w wires and one query more in the record
 abbrev pub allocatePermutation : PermutationRelation → List ℕ → List ℕ → List ℕ → Allocated
 allocatePermutation rel slots queries input =
     allocatedOf (allocatePermutationNo rel (length slots) (length queries) input) (rel .vars)
     (oneQuery (moreVars rel (rel .width))) rel
 
+-- the slots afterwards: those of the w new wires unassigned
 abbrev pub allocatePermutationSlots : PermutationRelation → List ℕ → List ℕ → List ℕ → List ℕ
 allocatePermutationSlots rel slots queries input =
     onYes (allocatePermutationNo rel (length slots) (length queries) input)
     (grownSlots (rel .vars) (rel .width) slots) slots
 
+-- the queries afterwards: the inputs and the new wires behind those that were there
 abbrev pub allocatePermutationQueries : PermutationRelation → List ℕ → List ℕ → List ℕ → List ℕ
 allocatePermutationQueries rel slots queries input =
     onYes (allocatePermutationNo rel (length slots) (length queries) input)
     (queriesWith rel (input ++ upFrom (rel .vars) (rel .width)) queries) queries
 
 -- ---- equation: its words at the end of the used words
+-- the answer, with one equation more in the record
 abbrev pub addEquation : PermutationRelation → List ℕ → List Term → ℕ → Recorded
 addEquation rel equations terms image =
     recordedOf (addEquationNo rel (length equations) terms image) (oneEquation rel (length terms)) rel
 
+-- the equations afterwards
 abbrev pub addEquationEquations : PermutationRelation → List ℕ → List Term → ℕ → List ℕ
 addEquationEquations rel equations terms image =
     onYes (addEquationNo rel (length equations) terms image)
     (putWords (rel .words) (equationWords (equation terms image)) equations) equations
 
 -- ---- value of a wire: its slot, none where it is unassigned or beyond the count
+-- what a slot says of its wire
 abbrev pub slotValue : ℕ → VarValue
 slotValue held = pick (eqb held unassigned) varValue.Nothing (varValue.Value held)
 
+-- the answer
 abbrev pub valueOf : PermutationRelation → List ℕ → ℕ → VarValue
 valueOf rel slots var =
     onYes (valueNo rel (length slots) var)
@@ -178,6 +205,7 @@ valueOf rel slots var =
     (varValue.Refused (valueNo rel (length slots) var))
 
 -- ---- is it allocated: is it below the count?
+-- the answer
 abbrev pub isAllocated : PermutationRelation → ℕ → IsAllocated
 isAllocated rel var =
     onYes (isAllocatedNo rel var)

@@ -79,6 +79,7 @@ abbrev pub given : Option ℕ → VarValue
 given none = varValue.Nothing
 given (some v) = varValue.Value v
 
+-- the answer to it, by the sets alone
 abbrev pub valueLeft : List Pair → ℕ → VarValue
 valueLeft sets x =
     onYes (ask 3 (ltb x maxCount)) (given (look sets x)) (varValue.Refused (ask 3 (ltb x maxCount)))

@@ -10,12 +10,15 @@ use Rattle.expr.specs.Equation.{Term, equationSize}
 use Rattle.permutation.specs.Relation.{newAsks, allocateVarsAsks, setVarAsks, setVarsAsks, valueAsks, isAllocatedAsks, addPermutationAsks, allocatePermutationAsks, equationsAsks, addEquationAsks}
 use Rattle.permutation.specs.declared.PermutationRelation.{PermutationRelation}
 
+-- of fresh
 unfoldable pub newNo : ℕ → ℕ → ℕ
 newNo width len = firstNo (newAsks width len)
 
+-- of allocate
 unfoldable pub allocateVarsNo : PermutationRelation → ℕ → ℕ → ℕ
 allocateVarsNo rel len n = firstNo (allocateVarsAsks rel len n)
 
+-- of set
 unfoldable pub setVarNo : PermutationRelation → List ℕ → Pair → ℕ
 setVarNo rel slots p = firstNo (setVarAsks rel slots p)
 
@@ -23,18 +26,23 @@ setVarNo rel slots p = firstNo (setVarAsks rel slots p)
 unfoldable pub setVarsNo : PermutationRelation → ℕ → List ℕ → List ℕ → ℕ
 setVarsNo rel len vars values = firstNo (setVarsAsks rel len vars values)
 
+-- of the value of a wire
 unfoldable pub valueNo : PermutationRelation → ℕ → ℕ → ℕ
 valueNo rel len var = firstNo (valueAsks rel len var)
 
+-- of the question whether a wire is allocated
 unfoldable pub isAllocatedNo : PermutationRelation → ℕ → ℕ
 isAllocatedNo rel var = firstNo (isAllocatedAsks rel var)
 
+-- of record
 unfoldable pub addPermutationNo : PermutationRelation → ℕ → List ℕ → List ℕ → ℕ
 addPermutationNo rel len input output = firstNo (addPermutationAsks rel len input output)
 
+-- of mint
 unfoldable pub allocatePermutationNo : PermutationRelation → ℕ → ℕ → List ℕ → ℕ
 allocatePermutationNo rel slots len input = firstNo (allocatePermutationAsks rel slots len input)
 
+-- of equation
 unfoldable pub addEquationNo : PermutationRelation → ℕ → List Term → ℕ → ℕ
 addEquationNo rel len terms image = firstNo (addEquationAsks rel len terms image)
 

@@ -14,6 +14,7 @@ use Rattle.words.specs.Pieces.{wordsOf}
 use Rattle.permutation.specs.declared.PermutationRelation.{PermutationRelation}
 
 -- ---- 2: each count fits the store that is lent, counted by itself
+-- n queries take 2wn words
 abbrev pub queriesAsks : PermutationRelation → ℕ → List Question
 queriesAsks rel len = storeAsks len ++ (question 2 (leb (wordsOf (rel .width) (rel .queries)) len) ∷ [])
 
@@ -23,9 +24,11 @@ equationsAsks rel len =
     storeAsks len ++ (question 2 (leb (rel .words) len) ∷ question 2 (leb (2 * rel .equations) len) ∷ [])
 
 -- ---- 10: does the store hold one item more?
+-- one query more
 abbrev pub queryRoom : PermutationRelation → ℕ → List Question
 queryRoom rel len = question 10 (leb (wordsOf (rel .width) (rel .queries + 1)) len) ∷ []
 
+-- one equation of these terms more
 abbrev pub equationRoom : PermutationRelation → ℕ → List Term → List Question
 equationRoom rel len terms = question 10 (leb (rel .words + equationSize (length terms)) len) ∷ []
 

@@ -50,6 +50,7 @@ pub struct Recorded {
     pub relation: PermutationRelation,
 }
 
+// The first new wire with the record beside it; a refused call gives the record back as it was.
 pub struct Allocated {
     pub first: First,
     pub relation: PermutationRelation,
@@ -68,6 +69,7 @@ pub enum VarValue {
     Refused(u32),
 }
 
+// Whether a wire is allocated.
 pub enum IsAllocated {
     Yes,
     No,

@@ -63,6 +63,7 @@ permuteAsks w rounds words x =
     ∷ question 17 (soundParameters w rounds words)
     ∷ []
 
+-- the number: the first no of these
 unfoldable pub permuteNo : ℕ → ℕ → List ℕ → List ℕ → ℕ
 permuteNo w rounds words x = firstNo (permuteAsks w rounds words x)
 

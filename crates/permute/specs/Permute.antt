@@ -4,13 +4,16 @@ use Prim.Native.Nat.{ℕ, zero, suc}
 use mathlib.Core.List.{List, [], _∷_, map}
 use Rattle.baby_bear.specs.Field.{addUnit, seventh, dotUnits}
 
+-- a round: its kind, and its w constants
 pub record Round : Type 0 where
   pub kind : ℕ
   pub constants : List ℕ
 
+-- the round of this kind with these constants
 abbrev pub roundOf : ℕ → List ℕ → Round
 roundOf kind constants = record { kind = kind; constants = constants }
 
+-- the rounds in order, and the matrix row by row
 pub record Parameters : Type 0 where
   pub rounds : List Round
   pub matrix : List (List ℕ)
@@ -32,6 +35,7 @@ unfoldable pub timesMatrix : List (List ℕ) → List ℕ → List ℕ
 timesMatrix [] x = []
 timesMatrix (row ∷ m) x = dotUnits row x ∷ timesMatrix m x
 
+-- one round: the three in this order
 unfoldable pub runRound : List (List ℕ) → Round → List ℕ → List ℕ
 runRound m r x = timesMatrix m (raise (r .kind) (addConstants (r .constants) x))
 
@@ -40,5 +44,6 @@ unfoldable pub runRounds : List (List ℕ) → List Round → List ℕ → List 
 runRounds m [] x = x
 runRounds m (r ∷ rs) x = runRounds m rs (runRound m r x)
 
+-- the permutation that the parameters are: every round, with the one matrix
 abbrev pub permute : Parameters → List ℕ → List ℕ
 permute ps x = runRounds (ps .matrix) (ps .rounds) x

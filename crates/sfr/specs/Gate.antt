@@ -8,6 +8,7 @@ use Rattle.permutation.specs.Answers.{outcomeNumber}
 use Rattle.sfr.specs.declared.gate.SfrInstanceAnswer.{SfrInstanceAnswer}
 use Rattle.sfr.specs.declared.gate.SfrHeading.{SfrHeading}
 
+-- the gate's number and the instance's record
 abbrev pub compiledAnswer : Compiled → SfrInstanceAnswer
 compiledAnswer c = record { number = outcomeNumber (c .outcome); instance = c .instance }
 

@@ -10,6 +10,7 @@ use Rattle.narg.specs.declared.Item.the-variants.{Read as ReadItem, Refused}
 use Rattle.sfr.specs.declared.SfrWord.{SfrWord}
 use Rattle.sfr.specs.declared.SfrPlace.{SfrPlace}
 
+-- this number with this place
 abbrev pub place : ℕ → ℕ → SfrPlace
 place number next = record { number = number; next = next }
 

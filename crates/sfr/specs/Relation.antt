@@ -29,20 +29,25 @@ abbrev pub firstVar : First → ℕ
 firstVar (first.Var x) = x
 firstVar (first.Refused k) = 0
 
+-- a call that has no value to give: its number and the record
 abbrev pub recordedAnswer : Recorded → SfrRelationAnswer
 recordedAnswer r = record { number = outcomeNumber (r .outcome); first = 0; relation = r .relation }
 
+-- an allocation: its number, the first new wire and the record
 abbrev pub allocatedAnswer : Allocated → SfrRelationAnswer
 allocatedAnswer r = record { number = firstNumber (r .first); first = firstVar (r .first); relation = r .relation }
 
+-- a set list: its number, and how many of its first pairs were accepted
 abbrev pub tallyOf : SetVars → SfrTally
 tallyOf r = record { number = outcomeNumber (r .outcome); accepted = r .accepted }
 
+-- a look at a value: its number, whether there is one, and the value or 0
 abbrev pub valueAnswer : VarValue → SfrValue
 valueAnswer (varValue.Value v) = record { number = 0; some = true; value = v }
 valueAnswer varValue.Nothing = record { number = 0; some = false; value = 0 }
 valueAnswer (varValue.Refused k) = record { number = k; some = false; value = 0 }
 
+-- a look whether a wire is allocated: its number and yes or no, no after a refusal
 abbrev pub flagOf : IsAllocated → SfrFlag
 flagOf allocated.Yes = record { number = 0; yes = true }
 flagOf allocated.No = record { number = 0; yes = false }

@@ -4,5 +4,6 @@ use Rattle.decoding.specs.declared.InstanceRead.{InstanceRead}
 use Rattle.permutation.specs.Answers.{outcomeNumber}
 use Rattle.sfr.specs.declared.sfri.SfrInstanceRead.{SfrInstanceRead}
 
+-- the three, taken from what the read answers
 abbrev pub readAnswer : InstanceRead → SfrInstanceRead
 readAnswer r = record { number = outcomeNumber (r .outcome); instance = r .instance; label = r .label }

@@ -11,9 +11,11 @@ use Rattle.permutation.specs.Answers.{outcomeNumber}
 use Rattle.sfr.specs.declared.trace.SfrTraceAnswer.{SfrTraceAnswer}
 use Rattle.sfr.specs.declared.trace.SfrWritten.{SfrWritten}
 
+-- a builder's call: its number and the trace's record
 abbrev pub tracedAnswer : Traced → SfrTraceAnswer
 tracedAnswer t = record { number = outcomeNumber (t .outcome); trace = t .witness }
 
+-- a write: its number, and how many bytes were written
 abbrev pub writtenAnswer : Written → SfrWritten
 writtenAnswer w = record { number = outcomeNumber (w .outcome); len = w .len }
 
@@ -22,5 +24,6 @@ abbrev pub readRecord : ℕ → Outcome → ℕ → PermutationWitness
 readRecord width outcome.Accepted steps = record { width = width; steps = steps }
 readRecord width (outcome.Refused k) steps = record { width = 0; steps = 0 }
 
+-- a trace's read: its number and that record
 abbrev pub traceRead : ℕ → WitnessRead → SfrTraceAnswer
 traceRead width r = record { number = outcomeNumber (r .outcome); trace = readRecord width (r .outcome) (r .steps) }

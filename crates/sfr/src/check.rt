@@ -7,6 +7,7 @@ ghost use Rattle.permutation.specs.Answers.{outcomeNumber};
 use crate::relation::outcome_no;
 use instance::PermutationInstance;
 
+// Is the trace valid for the instance, by the permutation of these parameters? 0 is yes.
 #[no_mangle]
 pub extern "C" fn sfr_is_witness_valid(
     ins: PermutationInstance,

@@ -20,6 +20,7 @@ pub struct SfrInstanceAnswer {
     pub instance: PermutationInstance,
 }
 
+// The gate: the relation becomes an instance, and its publics are written.
 #[no_mangle]
 pub extern "C" fn sfr_compile(
     rel: PermutationRelation,
@@ -43,6 +44,7 @@ pub extern "C" fn sfr_compile(
     }
 }
 
+// The value of a wire in an instance: that of the last public pair that lists it.
 #[no_mangle]
 pub extern "C" fn sfr_public_value(ins: PermutationInstance, publics: &[u32], var: u32) -> SfrValue
     ensures { λ r. ⌜ r ≡ valueAnswer (publicValue ins (now (publics .entry)) var) ⌝ }

@@ -41,6 +41,7 @@ pub struct SfrPlace {
     pub next: usize,
 }
 
+// The sum modulo p.
 #[no_mangle]
 pub extern "C" fn sfr_add(a: u32, b: u32) -> u32
     ensures { λ r. ⌜ r ≡ addUnit a b ⌝ }
@@ -48,6 +49,7 @@ pub extern "C" fn sfr_add(a: u32, b: u32) -> u32
     baby_bear::add(BabyBearUnit(a), BabyBearUnit(b)).0
 }
 
+// The product modulo p.
 #[no_mangle]
 pub extern "C" fn sfr_mul(a: u32, b: u32) -> u32
     ensures { λ r. ⌜ r ≡ mulUnit a b ⌝ }
@@ -55,6 +57,7 @@ pub extern "C" fn sfr_mul(a: u32, b: u32) -> u32
     baby_bear::mul(BabyBearUnit(a), BabyBearUnit(b)).0
 }
 
+// Are the bytes UTF-8?
 #[no_mangle]
 pub extern "C" fn sfr_is_utf8(bytes: &[u8]) -> bool
     ensures { λ r. ⌜ (r ≡ isUtf8 (now (bytes .entry))) × ((r ≡ true) ↔ Utf8 (now (bytes .entry))) ⌝ }
@@ -62,6 +65,7 @@ pub extern "C" fn sfr_is_utf8(bytes: &[u8]) -> bool
     utf8::is_utf8(bytes)
 }
 
+// The little-endian word at a place of the bytes.
 #[no_mangle]
 pub extern "C" fn sfr_read_u32(bytes: &[u8], at: usize) -> SfrWord
     ensures { λ r. ⌜ r ≡ wordRead at (wordAt (now (bytes .entry)) at) ⌝ }
@@ -80,6 +84,7 @@ pub extern "C" fn sfr_read_u32(bytes: &[u8], at: usize) -> SfrWord
     }
 }
 
+// A word, little-endian, at a place of the output; nothing is written where it does not fit.
 #[no_mangle]
 pub extern "C" fn sfr_put_u32(out: &mut [u8], at: usize, value: u32) -> SfrPlace
     ensures { λ r. ⌜ (r ≡ placeWritten at (putAt (now (out .entry)) at (u32Bytes value))) × (now (out .exit) ≡ fitWords at (u32Bytes value) (now (out .entry))) ⌝ }
@@ -112,6 +117,7 @@ fn place_read(at: usize, item: Item) -> SfrPlace
     }
 }
 
+// n units from place `at` of the bytes on, into the store from `place` on, or none of them.
 #[no_mangle]
 pub extern "C" fn sfr_read_units(
     bytes: &[u8],
@@ -125,6 +131,7 @@ pub extern "C" fn sfr_read_units(
     place_read(at, narg::read_units(bytes, Cursor { at }, out, place, n))
 }
 
+// n wires, in the same way.
 #[no_mangle]
 pub extern "C" fn sfr_read_vars(
     bytes: &[u8],

@@ -41,6 +41,7 @@ pub struct SfrValue {
     pub value: u32,
 }
 
+// Yes or no; no after a refusal.
 #[repr(C)]
 pub struct SfrFlag {
     pub number: u32,
@@ -57,6 +58,7 @@ pub(crate) fn outcome_no(o: Outcome) -> u32
     }
 }
 
+// What a call answers that has no value to give, for C.
 fn recorded_answer(r: Recorded) -> SfrRelationAnswer
     ensures { λ a. ⌜ a ≡ recordedAnswer r ⌝ }
 {
@@ -69,6 +71,7 @@ fn recorded_answer(r: Recorded) -> SfrRelationAnswer
     }
 }
 
+// What an allocation answers, for C.
 fn allocated_answer(r: Allocated) -> SfrRelationAnswer
     ensures { λ a. ⌜ a ≡ allocatedAnswer r ⌝ }
 {
@@ -88,6 +91,7 @@ fn allocated_answer(r: Allocated) -> SfrRelationAnswer
     }
 }
 
+// A relation with wire 0 alone, which has the value 0.
 #[no_mangle]
 pub extern "C" fn sfr_new(width: u32, slots: &mut [u32]) -> SfrRelationAnswer
     ensures { λ r. ⌜ (r ≡ recordedAnswer (newRelation width (now (slots .entry)))) × (now (slots .exit) ≡ newSlots width (now (slots .entry))) ⌝ }
@@ -95,6 +99,7 @@ pub extern "C" fn sfr_new(width: u32, slots: &mut [u32]) -> SfrRelationAnswer
     recorded_answer(permutation::new(width, slots))
 }
 
+// The next n wires, unassigned.
 #[no_mangle]
 pub extern "C" fn sfr_allocate_vars(
     rel: PermutationRelation,
@@ -106,6 +111,7 @@ pub extern "C" fn sfr_allocate_vars(
     allocated_answer(permutation::allocate_vars(rel, slots, n))
 }
 
+// A wire is assigned its value.
 #[no_mangle]
 pub extern "C" fn sfr_set_var(
     rel: PermutationRelation,
@@ -118,6 +124,7 @@ pub extern "C" fn sfr_set_var(
     outcome_no(permutation::set_var(rel, slots, FieldVar(var), BabyBearUnit(value)))
 }
 
+// Wires are assigned values pair by pair, up to the first pair that is refused.
 #[no_mangle]
 pub extern "C" fn sfr_set_vars(
     rel: PermutationRelation,
@@ -136,6 +143,7 @@ pub extern "C" fn sfr_set_vars(
     }
 }
 
+// A query from input to output wires.
 #[no_mangle]
 pub extern "C" fn sfr_add_permutation(
     rel: PermutationRelation,
@@ -148,6 +156,7 @@ pub extern "C" fn sfr_add_permutation(
     recorded_answer(permutation::add_permutation(rel, queries, input, output))
 }
 
+// A query from input wires to as many new ones.
 #[no_mangle]
 pub extern "C" fn sfr_allocate_permutation(
     rel: PermutationRelation,
@@ -160,6 +169,7 @@ pub extern "C" fn sfr_allocate_permutation(
     allocated_answer(permutation::allocate_permutation(rel, slots, queries, input))
 }
 
+// An equation: the sum of the terms is the image.
 #[no_mangle]
 pub extern "C" fn sfr_add_equation(
     rel: PermutationRelation,
@@ -213,6 +223,7 @@ pub(crate) fn value_answer(v: VarValue) -> SfrValue
     }
 }
 
+// The value of a wire of the relation, if it has one.
 #[no_mangle]
 pub extern "C" fn sfr_value_of(rel: PermutationRelation, slots: &[u32], var: u32) -> SfrValue
     ensures { λ r. ⌜ r ≡ valueAnswer (valueOf rel (now (slots .entry)) var) ⌝ }
@@ -220,6 +231,7 @@ pub extern "C" fn sfr_value_of(rel: PermutationRelation, slots: &[u32], var: u32
     value_answer(permutation::value(rel, slots, FieldVar(var)))
 }
 
+// Is the wire one of the relation's?
 #[no_mangle]
 pub extern "C" fn sfr_is_allocated(rel: PermutationRelation, var: u32) -> SfrFlag
     ensures { λ r. ⌜ r ≡ flagOf (isAllocated rel var) ⌝ }

@@ -20,6 +20,7 @@ pub struct SfrInstanceRead {
     pub label: usize,
 }
 
+// The instance's bytes, SFRI, into the output.
 #[no_mangle]
 pub extern "C" fn sfr_instance_to_bytes(
     ins: PermutationInstance,
@@ -35,6 +36,7 @@ pub extern "C" fn sfr_instance_to_bytes(
     written_answer(encoding::instance_to_bytes(ins, label, publics, queries, equations, out))
 }
 
+// The instance that the bytes hold, for this width, into the stores.
 #[no_mangle]
 pub extern "C" fn sfr_instance_from_bytes(
     width: u32,

@@ -27,6 +27,7 @@ pub struct SfrWritten {
     pub len: usize,
 }
 
+// The state is turned in place by the permutation of these parameters.
 #[no_mangle]
 pub extern "C" fn sfr_permute(width: u32, rounds: u32, params: &[u32], state: &mut [u32]) -> u32
     ensures { λ r. ⌜ (r ≡ permuteNo width rounds (now (params .entry)) (now (state .entry))) × (now (state .exit) ≡ permuted width rounds (now (params .entry)) (now (state .entry))) ⌝ }
@@ -34,6 +35,7 @@ pub extern "C" fn sfr_permute(width: u32, rounds: u32, params: &[u32], state: &m
     permute::permute(width, rounds, params, state)
 }
 
+// What a builder's call answers, for C.
 fn traced_answer(t: Traced) -> SfrTraceAnswer
     ensures { λ r. ⌜ r ≡ tracedAnswer t ⌝ }
 {
@@ -45,6 +47,7 @@ fn traced_answer(t: Traced) -> SfrTraceAnswer
     }
 }
 
+// A given step, appended.
 #[no_mangle]
 pub extern "C" fn sfr_append_step(
     rec: PermutationWitness,
@@ -57,6 +60,7 @@ pub extern "C" fn sfr_append_step(
     traced_answer(witness::add_permutation(rec, trace, input, output))
 }
 
+// A step from these inputs, evaluated and appended.
 #[no_mangle]
 pub extern "C" fn sfr_evaluate_step(
     rec: PermutationWitness,
@@ -81,6 +85,7 @@ pub(crate) fn written_answer(w: Written) -> SfrWritten
     }
 }
 
+// The trace's bytes, SFRW, into the output.
 #[no_mangle]
 pub extern "C" fn sfr_witness_to_bytes(
     rec: PermutationWitness,
@@ -92,6 +97,7 @@ pub extern "C" fn sfr_witness_to_bytes(
     written_answer(encoding::witness_to_bytes(rec.width, rec.steps, trace, out))
 }
 
+// The trace that the bytes hold, for this width, into the store.
 #[no_mangle]
 pub extern "C" fn sfr_witness_from_bytes(
     width: u32,

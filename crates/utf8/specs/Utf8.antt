@@ -18,6 +18,7 @@ pub record Range : Type 0 where
   pub low : ℕ
   pub high : ℕ
 
+-- the range from a to z
 infix 70 _to_
 abbrev pub _to_ : ℕ → ℕ → Range
 a to z = record { low = a; high = z }

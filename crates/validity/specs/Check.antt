@@ -45,6 +45,7 @@ sumFrom sum g (t ∷ ts) = sumFrom (addUnit sum (mulUnit (t .weight) (orZero (g 
 abbrev pub equationNo : Values → Equation → ℕ
 equationNo g e = termsNo g (e .terms) ▸ ask 35 (eqb (sumFrom 0 g (e .terms)) (e .image))
 
+-- equation by equation
 abbrev pub equationsNo : Values → List Equation → ℕ
 equationsNo g [] = 0
 equationsNo g (e ∷ es) = equationNo g e ▸ equationsNo g es
@@ -53,6 +54,7 @@ equationsNo g (e ∷ es) = equationNo g e ▸ equationsNo g es
 abbrev pub carried : Parts → List (List ℕ) → Values
 carried parts steps = putAll (putAll nothing (parts .publics)) (cells (parts .queries) steps)
 
+-- the check's number: 31, 36 of the publics, then step by step, then equation by equation
 unfoldable pub checkNo : (List ℕ → Bool) → Parts → List (List ℕ) → ℕ
 checkNo evaluation parts steps =
     ask 31 (eqb (length steps) (length (parts .queries)))

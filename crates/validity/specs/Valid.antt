@@ -22,6 +22,7 @@ use Rattle.validity.specs.Check.{checkNo}
 abbrev pub stepsOf : ℕ → ℕ → List ℕ → List (List ℕ)
 stepsOf width steps trace = pieces (width + width) steps (take (wordsOf width steps) trace)
 
+-- the questions before the check: 1, 2 of every store and count, 17, 11 of what is held, the trace included, 16
 abbrev pub isWitnessValidAsks : PermutationInstance → (label publics queries equations : List ℕ)
     → (steps : ℕ) (trace : List ℕ) (rounds : ℕ) (params : List ℕ) (scratch : ℕ) → List Question
 isWitnessValidAsks ins label publics queries equations steps trace rounds params scratch =
@@ -35,6 +36,7 @@ isWitnessValidAsks ins label publics queries equations steps trace rounds params
     ∷ question 16 (leb (ins .vars) scratch)
     ∷ []))))))))
 
+-- the number: the first no of those, else the check's
 unfoldable pub isWitnessValidNo : PermutationInstance → (label publics queries equations : List ℕ)
     → (steps : ℕ) (trace : List ℕ) (rounds : ℕ) (params : List ℕ) (scratch : ℕ) → ℕ
 isWitnessValidNo ins label publics queries equations steps trace rounds params scratch =

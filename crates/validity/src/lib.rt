@@ -37,9 +37,10 @@ struct Counts {
     rounds: u32,
 }
 
-// p and p·p, for sums of products of units.
+// p as a u64.
 const P_WIDE: u64 = 2013265921;
 
+// p·p, which no product of two units reaches.
 const P_SQUARED: u64 = 4053239668659978241;
 
 // May a wire of word m carry the unit v: does it carry nothing, or that unit?

@@ -58,13 +58,16 @@ addPermutationNo wit len input output = firstNo (addPermutationAsks wit len inpu
 unfoldable pub inputNo : PermutationWitness → ℕ → List ℕ → List ℕ → ℕ
 inputNo wit len input params = firstNo (inputAsks wit len input params)
 
+-- of an evaluated step, the whole number
 unfoldable pub allocatePermutationNo : PermutationWitness → ℕ → List ℕ → ℕ → List ℕ → ℕ
 allocatePermutationNo wit len input rounds params = firstNo (allocatePermutationAsks wit len input rounds params)
 
 -- ---- what is answered and left: one step more, or everything as it was
+-- the record with one step more
 abbrev pub oneStep : PermutationWitness → PermutationWitness
 oneStep wit = record { width = wit .width; steps = wit .steps + 1 }
 
+-- the answer to a number: accepted with one step more at 0, else refused with the record as it was
 abbrev pub tracedOf : ℕ → PermutationWitness → Traced
 tracedOf k wit = record { outcome = outcomeOf k; witness = onYes k (oneStep wit) wit }
 
@@ -72,9 +75,11 @@ tracedOf k wit = record { outcome = outcomeOf k; witness = onYes k (oneStep wit)
 abbrev pub traceWith : PermutationWitness → List ℕ → List ℕ → List ℕ
 traceWith wit step trace = putWords (wordsOf (wit .width) (wit .steps)) step trace
 
+-- a given step: the answer
 abbrev pub addPermutation : PermutationWitness → List ℕ → List ℕ → List ℕ → Traced
 addPermutation wit trace input output = tracedOf (addPermutationNo wit (length trace) input output) wit
 
+-- and the trace: the inputs and outputs appended, or as it was
 abbrev pub addPermutationTrace : PermutationWitness → List ℕ → List ℕ → List ℕ → List ℕ
 addPermutationTrace wit trace input output =
     onYes (addPermutationNo wit (length trace) input output) (traceWith wit (input ++ output) trace) trace
@@ -83,15 +88,18 @@ addPermutationTrace wit trace input output =
 abbrev pub evaluatedStep : PermutationWitness → List ℕ → ℕ → List ℕ → List ℕ
 evaluatedStep wit input rounds params = input ++ permute (parametersOf (wit .width) rounds params) input
 
+-- an evaluated step: the answer
 abbrev pub allocatePermutation : PermutationWitness → List ℕ → List ℕ → ℕ → List ℕ → Traced
 allocatePermutation wit trace input rounds params =
     tracedOf (allocatePermutationNo wit (length trace) input rounds params) wit
 
+-- and the trace: that step appended, or as it was
 abbrev pub allocatePermutationTrace : PermutationWitness → List ℕ → List ℕ → ℕ → List ℕ → List ℕ
 allocatePermutationTrace wit trace input rounds params =
     onYes (allocatePermutationNo wit (length trace) input rounds params)
     (traceWith wit (evaluatedStep wit input rounds params) trace) trace
 
 -- ---- the steps that a trace holds, in order
+-- as many as the record counts, of 2w words each
 abbrev pub stepsOf : PermutationWitness → List ℕ → List (List ℕ)
 stepsOf wit trace = pieces (wit .width + wit .width) (wit .steps) trace
