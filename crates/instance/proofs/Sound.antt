@@ -2,12 +2,12 @@
 -- of them. Assumes nothing.
 use Prim.Native.Nat.{ℕ, zero, suc, _+_, _*_, _-_, _≤_, _<_}
 use mathlib.Core.Path.{_≡_, refl, sym, ap, _∙_}
-use mathlib.Core.Bool.{Bool, true, false, _&&_, _||_, and-false, and-true, and-assoc, or-true}
+use mathlib.Core.Bool.{Bool, true, false, _&&_, _||_, and-false, and-true, and-assoc}
 use mathlib.Core.List.{List, [], _∷_}
 use native.Mathlib.Omega.{arith}
 use native.Mathlib.Numerals.{add-one}
 use native.Mathlib.Nat.{mul-add}
-use borrow.Author.Tests.{lt-ltb, le-ltb, eq-eqb, ne-eqb}
+use borrow.Author.Tests.{lt-ltb, le-ltb, ne-eqb}
 use lib.Dec.{eqb, ltb}
 use lib.ListN.{length, drop, getD, drop-of-length-le}
 use lib.Seq.{drop-cons, drop-drop, getD-drop}
@@ -59,6 +59,18 @@ module _ (s : List ℕ) (i n : ℕ) (whole : Bool) (e : publicsSound n (drop i s
 
       pub sound-more : getD s (i + 1) 0 < prime → publicsSound (n - 1) (drop (i + 2) s) ≡ whole
       sound-more l = sym (sound-at s i n h ∙ simp (lt-ltb (getD s i 0) maxCount k, lt-ltb (getD s (i + 1) 0) prime l)) ∙ e
+
+-- what the pairs before i say, with the n pairs from i on still to be looked at
+module _ (s : List ℕ) (sound : Bool) (i n : ℕ) (whole : Bool) (e : (sound && publicsSound n (drop i s)) ≡ whole) where
+  pub pairs-more : 0 < n
+      → ((sound && (ltb (getD s i 0) maxCount && ltb (getD s (i + 1) 0) prime)) && publicsSound (n - 1) (drop (i + 2) s)) ≡ whole
+  pairs-more h =
+      and-assoc sound (ltb (getD s i 0) maxCount && ltb (getD s (i + 1) 0) prime) (publicsSound (n - 1) (drop (i + 2) s))
+      ∙ sym (ap (λ (b : Bool). sound && b) (sound-at s i n h)) ∙ e
+
+  pub pairs-all : n ≤ 0 → sound ≡ whole
+  unfolding publicsSound allBelow
+  pairs-all h = let z : n ≡ 0 = omega arith in sym (and-true sound) ∙ rw z at e
 
 -- ---- one equation: its terms are as pairs, and its image is a unit
 pub one-sound : (s : List ℕ) (at : ℕ)
@@ -147,20 +159,17 @@ slots-at : (s : List ℕ) (i : ℕ) → i < length s
 unfolding slotsSound
 slots-at s i h = rw (drop-cons s i 0 h, add-one)
 
-module _ (s : List ℕ) (i : ℕ) (e : slotsSound (drop i s) ≡ slotsSound s) where
-  pub slots-all : length s ≤ i → true ≡ slotsSound s
+-- what the slots before i say, with the slots from i on still to be looked at
+module _ (s : List ℕ) (sound : Bool) (i : ℕ) (e : (sound && slotsSound (drop i s)) ≡ slotsSound s) where
+  pub slots-more : i < length s
+      → ((sound && (ltb (getD s i 0) prime || eqb (getD s i 0) unassigned)) && slotsSound (drop (i + 1) s)) ≡ slotsSound s
+  slots-more h =
+      and-assoc sound (ltb (getD s i 0) prime || eqb (getD s i 0) unassigned) (slotsSound (drop (i + 1) s))
+      ∙ sym (ap (λ (b : Bool). sound && b) (slots-at s i h)) ∙ e
+
+  pub slots-all : length s ≤ i → sound ≡ slotsSound s
   unfolding slotsSound
-  slots-all h = rw (drop-of-length-le s h) at e
-
-  module _ (h : i < length s) where
-    pub slots-no : prime ≤ getD s i 0 → (getD s i 0 ≡ unassigned → ⊥) → false ≡ slotsSound s
-    slots-no k u = sym (slots-at s i h ∙ simp (le-ltb (getD s i 0) prime k, ne-eqb (getD s i 0) unassigned u)) ∙ e
-
-    pub slots-unit : getD s i 0 < prime → slotsSound (drop (i + 1) s) ≡ slotsSound s
-    slots-unit k = sym (slots-at s i h ∙ simp (lt-ltb (getD s i 0) prime k)) ∙ e
-
-    pub slots-unassigned : getD s i 0 ≡ unassigned → slotsSound (drop (i + 1) s) ≡ slotsSound s
-    slots-unassigned u = sym (slots-at s i h ∙ simp (eq-eqb (getD s i 0) unassigned u, or-true)) ∙ e
+  slots-all h = sym (and-true sound) ∙ rw (drop-of-length-le s h) at e
 
 -- ---- the words of n pieces, by their half
 pub twice-half : (width n : ℕ) → 2 * (n * width) ≡ wordsOf width n

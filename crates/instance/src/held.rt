@@ -7,7 +7,7 @@
 
 ghost use mathlib.Core.Path.{_≡_};
 ghost use mathlib.Core.List.{[], _∷_};
-ghost use Prim.Native.Nat.{_≤_};
+ghost use Prim.Native.Nat.{_+_, _*_, _≤_};
 ghost use lib.ListN.{length, take, drop, getD};
 ghost use Rattle.limits.specs.Questions.{_▸_, ask, firstNo};
 ghost use Rattle.words.specs.Pieces.{wordsOf};
@@ -62,20 +62,20 @@ pub fn size_at(s: &[u32], at: usize) -> usize
 
 // ---- 11 of each part
 
-// Of the n pairs from place `at` on, is every wire below 2^30 and every unit below p?
-fn pairs_sound(s: &[u32], at: usize, n: u32) -> bool
-    ensures { λ r. ⌜ r ≡ publicsSound n (drop at (now (s .entry))) ⌝ }
+// Public wires are below 2^30, their units below p.
+pub fn publics_sound(held: &[u32], n: u32) -> bool
+    ensures { λ r. ⌜ r ≡ publicsSound n (now (held .entry)) ⌝ }
 {
-    let mut i = at;
+    let mut i: usize = 0;
     let mut left = n;
     while 0 < left {
-        if s.len() <= i {
+        if held.len() <= i {
             return true;
         }
-        if MAX_COUNT <= s[i] {
+        if MAX_COUNT <= held[i] {
             return false;
         }
-        if P <= word_at(s, i + 1) {
+        if P <= word_at(held, i + 1) {
             return false;
         }
         i += 2;
@@ -84,23 +84,31 @@ fn pairs_sound(s: &[u32], at: usize, n: u32) -> bool
     true
 }
 
-// Public wires are below 2^30, their units below p.
-pub fn publics_sound(held: &[u32], n: u32) -> bool
-    ensures { λ r. ⌜ r ≡ publicsSound n (now (held .entry)) ⌝ }
+// The same of n terms from place `at` on, none of them lacking. (Each is looked at, so that the loop has no
+// exit of its own.)
+fn terms_sound(s: &[u32], at: usize, n: u32) -> bool
+    requires { ⌜ at + 2 * n ≤ length (now s) ⌝ }
+    ensures { λ r. ⌜ r ≡ publicsSound n (drop at (now (s .entry))) ⌝ }
 {
-    pairs_sound(held, 0, n)
+    let mut sound = true;
+    let mut i = at;
+    let mut left = n;
+    while 0 < left {
+        sound = sound & ((s[i] < MAX_COUNT) & (s[i + 1] < P));
+        i += 2;
+        left -= 1;
+    }
+    sound
 }
 
-// Are the wires, weights and image of the equation at place `at` sound?
+// Are the wires, weights and image of the equation at place `at` sound? None of its words is lacking.
 fn equation_sound(s: &[u32], at: usize) -> bool
-    requires { ⌜ at ≤ length (now s) ⌝ }
+    requires { ⌜ at + (2 + 2 * getD (now s) at 0) ≤ length (now s) ⌝ }
     ensures { λ r. ⌜ r ≡ equationsHeld (equationAt (drop at (now (s .entry))) ∷ []) ⌝ }
 {
-    let t = word_at(s, at);
-    if !pairs_sound(s, at + 1, t) {
-        return false;
-    }
-    word_at(s, at + 1 + 2 * t as usize) < P
+    let t = s[at];
+    let image = s[at + 1 + 2 * t as usize];
+    terms_sound(s, at + 1, t) & (image < P)
 }
 
 // The n equations end exactly at the end of the words, and all that they hold is sound.
@@ -123,21 +131,18 @@ pub fn equations_sound(held: &[u32], n: u32) -> bool
     at == held.len()
 }
 
-// Every slot is a unit, or unassigned.
+// Every slot is a unit, or unassigned. (Each is looked at, so that the loop has no exit of its own.)
 pub fn slots_sound(held: &[u32]) -> bool
     ensures { λ r. ⌜ r ≡ slotsSound (now (held .entry)) ⌝ }
 {
+    let mut sound = true;
     let mut i = 0;
     while i < held.len() {
         let x = held[i];
-        if P <= x {
-            if x != UNASSIGNED {
-                return false;
-            }
-        }
+        sound = sound & ((x < P) | (x == UNASSIGNED));
         i += 1;
     }
-    true
+    sound
 }
 
 // ---- the same as question 11; not looked at where an earlier question said no

@@ -3,13 +3,13 @@
 use borrow.Author.Needs.{needs}
 use native.Mathlib.Omega.{arith}
 use denote.Ref.{now}
-use Prim.Native.Nat.{_≤_, _<_, _-_}
+use Prim.Native.Nat.{_+_, _*_, _≤_, _<_, _-_}
 use mathlib.Core.Path.{_≡_, sym, _∙_}
 use borrow.Author.Tests.{not-true, not-false}
-use lib.ListN.{length, drop}
+use lib.ListN.{length, drop, getD}
 use Rattle.expr.specs.Equation.{sizeAt}
 use Rattle.instance.specs.Held.{equationsSound}
-use Rattle.instance.proofs.Sound.{restSound, rest-whole, rest-end, rest-long, rest-unsound, rest-more}
+use Rattle.instance.proofs.Sound.{size-is, restSound, rest-whole, rest-end, rest-long, rest-unsound, rest-more}
 use Rattle.instance.proofs.held.equations_sound.Statement.{statement}
 use Rattle.instance.proofs.held.equations_sound.Tie as tie
 
@@ -37,7 +37,12 @@ returns c =
     rest-long s (l .at) (l .left) _ (l .inv .1) (t .loop-test .taken) (l .inv .0) h
 
 equation-sound-requires : tie.Need-equation-sound-requires Inv-loop μ-loop
-equation-sound-requires c κs = search needs
+equation-sound-requires c κs =
+    let t = c .before .before in
+    let l = t .before .loop in
+    let s = now (t .before .before .before .args .held) in
+    let h : l .at + (2 + 2 * getD s (l .at) 0) ≤ length s = omega (arith, size-is s (l .at), c .before .size-at .ensures) in
+    h
 
 returns-2 : tie.Need-returns-2 Inv-loop μ-loop
 returns-2 c =
