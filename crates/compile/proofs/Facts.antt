@@ -9,7 +9,7 @@ use lib.Dec.{leb}
 use lib.ListN.{length, take}
 use Rattle.limits.specs.Numbers.{maxCount, maxWidth, labelEnd}
 use Rattle.limits.specs.Questions.{ask, firstNo}
-use Rattle.limits.proofs.Questions.{ask-yes, both, join, zero-▸, accepted-says, saysAt}
+use Rattle.limits.proofs.Questions.{ask-yes, says-yes, both, join, zero-▸, accepted-says, saysAt}
 use Rattle.words.specs.Store.{All}
 use Rattle.words.specs.Pieces.{wordsOf}
 use Rattle.utf8.specs.Utf8.{isUtf8}
@@ -54,7 +54,8 @@ unfolding compiledParts preparedNo
 compile-facts rel label slots queries equations publics scratch e =
     let parts = compiledParts rel slots queries equations in
     let n = both _ _ (sym (number-is rel label slots queries equations publics scratch) ∙ e) in
-    let g = gate-facts parts (length scratch) (n .1) in
+    let m = both _ _ (n .1) in
+    let g = gate-facts parts (length scratch) (m .1) in
     let r : (i : ℕ) → saysAt (preparedAsks rel label slots queries equations (length publics) (length scratch)) i ≡ true =
     accepted-says (preparedAsks rel label slots queries equations (length publics) (length scratch)) tt (n .0) in
     let q = equationsSound-facts (rel .equations) (take (rel .words) equations) (r 14) in
@@ -78,7 +79,7 @@ compile-facts rel label slots queries equations publics scratch e =
       queries-sound = allBelow-facts maxCount _ (r 15);
       slots-sound = slotsSound-facts _ (r 16);
       label-sound = r 17;
-      room = leb-true _ _ (r 18);
+      room = leb-true _ _ (says-yes 9 _ (m .0));
       scratch-held = g .0;
       valid = validated-facts parts (g .1);
     }
@@ -105,13 +106,14 @@ facts-compile rel label slots queries equations publics scratch c =
     (join _ _ (fits (c .equations-held))
     (join _ _ (fits (c .publics-high))
     (join _ _ (fits (c .scratch-high)) (join _ _ (ask-yes 2 _ (lt-ltb _ _ (c .label-high))) refl))))))) in
-    let sound : firstNo (soundAsks rel label slots queries equations (length publics)) ≡ 0 =
+    let sound : firstNo (soundAsks rel label slots queries equations) ≡ 0 =
     join _ _ (ask-yes 11 _ (facts-equationsSound _ _ (c .ends) (c .equations-sound)))
     (join _ _ (ask-yes 11 _ (facts-allBelow maxCount _ (c .queries-sound)))
     (join _ _ (ask-yes 11 _ (facts-slotsSound _ (c .slots-sound)))
-    (join _ _ (ask-yes 11 _ (c .label-sound)) (join _ _ (ask-yes 10 _ (le-leb _ _ (c .room))) refl)))) in
+    (join _ _ (ask-yes 11 _ (c .label-sound)) refl))) in
     let prepared =
     prepared-by rel label slots queries equations (length publics) (length scratch) 0 0 0 (sym relation)
     (sym (zero-▸ _ ∙ stores)) (sym (zero-▸ _ ∙ sound)) in
     number-is rel label slots queries equations publics scratch
-    ∙ join _ _ (sym prepared) (facts-gate parts (length scratch) (c .scratch-held) (facts-validated parts (c .valid)))
+    ∙ join _ _ (sym prepared)
+    (join _ _ (ask-yes 10 _ (le-leb _ _ (c .room))) (facts-gate parts (length scratch) (c .scratch-held) (facts-validated parts (c .valid))))

@@ -1,12 +1,14 @@
 -- The gate: the parts that it judges, and what it answers. Assumes nothing.
 use Prim.Native.Nat.{ℕ, zero, suc, _+_, _*_, _-_, _≤_}
-use mathlib.Core.Path.{_≡_, refl, sym, ap, ap₂, _∙_}
-use mathlib.Core.Bool.{true}
-use mathlib.Core.List.{List, _++_}
+use mathlib.Core.Path.{_≡_, refl, sym, ap, _∙_}
+use mathlib.Core.Bool.{Bool, true, false}
+use mathlib.Core.List.{List, _∷_, _++_}
+use native.Mathlib.Omega.{arith}
 use borrow.Author.Tests.{leb-true}
+use lib.Dec.{leb}
 use lib.ListN.{length, take, replicate}
-use Rattle.limits.specs.Questions.{_▸_, firstNo}
-use Rattle.limits.proofs.Questions.{stays, goes-on, join, ▸-assoc, firstNo-append, accepted-says, saysAt}
+use Rattle.limits.specs.Questions.{question, ask, _▸_, firstNo}
+use Rattle.limits.proofs.Questions.{ask-no, stays, goes-on, join, both, says-yes, ▸-assoc, firstNo-append, accepted-says, saysAt}
 use Rattle.words.specs.Store.{putWords}
 use Rattle.words.specs.Pieces.{wordsOf, pieces}
 use Rattle.expr.specs.Equation.{equationsAt}
@@ -39,13 +41,13 @@ module _ (rel : PermutationRelation) (slots queries equations : List ℕ) where
 pub prepared-by : (rel : PermutationRelation) (label slots queries equations : List ℕ) (publics scratch a b r : ℕ)
     → a ≡ firstNo (relationAsks rel (length slots))
     → b ≡ a ▸ firstNo (storesAsks rel (length label) (length queries) (length equations) publics scratch)
-    → r ≡ b ▸ firstNo (soundAsks rel label slots queries equations publics)
+    → r ≡ b ▸ firstNo (soundAsks rel label slots queries equations)
     → r ≡ preparedNo rel label slots queries equations publics scratch
 unfolding preparedNo
 prepared-by rel label slots queries equations publics scratch a b r ea eb er =
     let relation = relationAsks rel (length slots) in
     let stores = storesAsks rel (length label) (length queries) (length equations) publics scratch in
-    let sound = soundAsks rel label slots queries equations publics in
+    let sound = soundAsks rel label slots queries equations in
     rw (er, eb, ea)
     (▸-assoc (firstNo relation) (firstNo stores) (firstNo sound)
     ∙ sym (firstNo-append relation (stores ++ sound) ∙ ap (λ (n : ℕ). firstNo relation ▸ n) (firstNo-append stores sound)))
@@ -56,7 +58,7 @@ module _ (rel : PermutationRelation) (label slots queries equations publics scra
   prepares = preparedNo rel label slots queries equations (length publics) (length scratch)
 
   abbrev pub gates : ℕ
-  gates = gateNo (compiledParts rel slots queries equations) (length scratch)
+  gates = ask 10 (leb (2 * length (publicsOf rel slots)) (length publics)) ▸ gateNo (compiledParts rel slots queries equations) (length scratch)
 
   abbrev pub number : ℕ
   number = compileNo rel label slots queries equations (length publics) (length scratch)
@@ -65,7 +67,7 @@ module _ (rel : PermutationRelation) (label slots queries equations publics scra
   unfolding compileNo preparedNo gateNo
   number-is =
       firstNo-append (preparedAsks rel label slots queries equations (length publics) (length scratch))
-      (gateAsks (compiledParts rel slots queries equations) (length scratch))
+      (question 10 (leb (2 * length (publicsOf rel slots)) (length publics)) ∷ gateAsks (compiledParts rel slots queries equations) (length scratch))
 
   -- ---- the answer and the publics, by the number: a refusal answers its number and leaves zeros
   abbrev pub Refuses : ℕ → Type 0
@@ -91,29 +93,41 @@ module _ (rel : PermutationRelation) (label slots queries equations publics scra
     pub vars-fit : rel .vars ≤ 1073741824
     vars-fit = leb-true _ _ (asked 4)
 
-    -- the store holds the publics
-    pub publics-fit : 2 * length (publicsFrom 0 (take (rel .vars) slots)) ≤ length publics
-    unfolding publicsOf
-    publics-fit = leb-true _ _ (asked 18)
-
-    -- the count and the store that the gate makes, and what 16 and 12 to 15 answer on them
+    -- the count and the store that the gate makes, and what 10, 16 and 12 to 15 answer on them
     module _ (count : ℕ) (store : List ℕ) (k : ℕ)
         (c : count ≡ length (publicsFrom 0 (take (rel .vars) slots)))
-        (s : store ≡ putWords 0 (pairWords (publicsFrom 0 (take (rel .vars) slots))) (replicate (length publics) 0))
-        (e : k ≡ gateNo (partsOf (instanceOf rel count) store queries equations) (length scratch)) where
+        (s : 2 * length (publicsFrom 0 (take (rel .vars) slots)) ≤ length publics
+        → store ≡ putWords 0 (pairWords (publicsFrom 0 (take (rel .vars) slots))) (replicate (length publics) 0))
+        (e : k ≡ ask 10 (leb (2 * count) (length publics)) ▸ gateNo (partsOf (instanceOf rel count) store queries equations) (length scratch)) where
       count-is : count ≡ length (publicsOf rel slots)
       unfolding publicsOf
       count-is = c
 
-      store-is : store ≡ publicsStore (length publics) (publicsOf rel slots)
+      abbrev fits : Bool
+      fits = leb (2 * length (publicsOf rel slots)) (length publics)
+
+      store-is : fits ≡ true → store ≡ publicsStore (length publics) (publicsOf rel slots)
       unfolding publicsOf
-      store-is = s ∙ put-zeros (length publics) (publicsFrom 0 (take (rel .vars) slots))
+      store-is h = s (leb-true _ _ h) ∙ put-zeros (length publics) (publicsFrom 0 (take (rel .vars) slots))
+
+      -- the parts of that store are asked only where it holds the publics
+      gate-of : (b : Bool) → fits ≡ b
+          → ask 10 b ▸ gateNo (partsOf (instanceOf rel (length (publicsOf rel slots))) store queries equations) (length scratch)
+          ≡ ask 10 b ▸ gateNo (compiledParts rel slots queries equations) (length scratch)
+      gate-of true h =
+          ap (λ (p : Parts). ask 10 true ▸ gateNo p (length scratch))
+          (ap (λ (l : List ℕ). partsOf (instanceOf rel (length (publicsOf rel slots))) l queries equations) (store-is h)
+          ∙ compiled-parts rel slots queries equations (length publics))
+      gate-of false h = ten _ ∙ sym (ten _)
+        where
+          ten : (rest : ℕ) → ask 10 false ▸ rest ≡ 10
+          ten rest = ap (λ (n : ℕ). n ▸ rest) (ask-no 10 false refl) ∙ stays 10 rest (λ z. omega arith)
 
       gate-is : k ≡ gates
       gate-is =
           e
-          ∙ ap₂ (λ (n : ℕ) (l : List ℕ). gateNo (partsOf (instanceOf rel n) l queries equations) (length scratch)) count-is store-is
-          ∙ ap (λ (p : Parts). gateNo p (length scratch)) (compiled-parts rel slots queries equations (length publics))
+          ∙ ap (λ (n : ℕ). ask 10 (leb (2 * n) (length publics)) ▸ gateNo (partsOf (instanceOf rel n) store queries equations) (length scratch)) count-is
+          ∙ gate-of fits refl
 
       pub refuses-gate : (k ≡ 0 → ⊥) → Refuses k
       refuses-gate h = refuses-by k (number-is ∙ goes-on prepares gates z ∙ sym gate-is) h
@@ -124,4 +138,5 @@ module _ (rel : PermutationRelation) (label slots queries equations publics scra
       unfolding compile compilePublics
       accepts g =
           let n : number ≡ 0 = number-is ∙ join prepares gates z (sym gate-is ∙ g) in
-          (rw (n, count-is), rw n store-is)
+          let f : fits ≡ true = says-yes 9 _ (both _ _ (sym gate-is ∙ g) .0) in
+          (rw (n, count-is), rw n (store-is f))

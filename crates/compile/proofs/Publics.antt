@@ -1,17 +1,14 @@
 -- The publics of a relation: the assigned wires in index order. Assumes nothing.
 use Prim.Native.Nat.{ℕ, zero, suc, _+_, _*_, _-_, _≤_, _<_}
 use mathlib.Core.Path.{_≡_, refl, ap, _∙_}
-use mathlib.Core.Bool.{Bool, true, false}
 use mathlib.Core.List.{List, [], _∷_, _++_}
 use native.Mathlib.Omega.{arith}
 use native.Mathlib.Numerals.{add-one}
-use native.Mathlib.Nat.{min-le-left, min-le-right}
+use native.Mathlib.Nat.{min-le-left}
 use borrow.Author.Tests.{eq-eqb, ne-eqb}
-use lib.Dec.{eqb}
 use lib.ListN.{length, take, drop, getD, set, replicate, length-take, drop-of-length-le}
 use lib.Seq.{drop-cons, sets}
 use Rattle.limits.specs.Numbers.{unassigned}
-use Rattle.limits.specs.Questions.{pick}
 use Rattle.words.specs.Store.{putWords}
 use Rattle.words.proofs.Written.{sets-put}
 use Rattle.allocator.specs.Slots.{Pair, pair}
@@ -42,24 +39,9 @@ module _ (slots : List ℕ) where
       unfolding publicsAt
       publics-take u = rw (drop-cons slots i 0 h, add-one) (simp (ne-eqb (getD slots i 0) unassigned u))
 
--- ---- no more than slots
-fewer : (i : ℕ) (s : List ℕ) → length (publicsFrom i s) ≤ length s
-fewer i [] = omega arith
-fewer i (x ∷ s) = go (eqb x unassigned) (fewer (suc i) s)
-  where
-    go : (b : Bool) → length (publicsFrom (suc i) s) ≤ length s
-        → length (pick b (publicsFrom (suc i) s) (pair i x ∷ publicsFrom (suc i) s)) ≤ suc (length s)
-    go true h = omega arith
-    go false h = omega arith
-
+-- ---- no more slots than wires
 pub take-few : (n : ℕ) (slots : List ℕ) → length (take n slots) ≤ n
 take-few n slots = simp length-take (min-le-left n (length slots))
-
-pub publics-fewer : (n : ℕ) (slots : List ℕ) → length (publicsFrom 0 (take n slots)) ≤ length slots
-publics-fewer n slots =
-    let h = fewer 0 (take n slots) in
-    let k : length (take n slots) ≤ length slots = simp length-take (min-le-right n (length slots)) in
-    omega arith
 
 -- ---- pairs stored one by one, from place `to` on
 unfoldable pub stored : List ℕ → ℕ → List Pair → List ℕ

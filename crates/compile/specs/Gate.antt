@@ -65,32 +65,31 @@ storesAsks rel label queries equations publics scratch =
     queriesAsks rel queries
     ++ (equationsAsks rel equations ++ (storeAsks publics ++ (storeAsks scratch ++ labelAsks label)))
 
--- 11 of what the stores hold, and 10
-abbrev pub soundAsks : PermutationRelation → (label slots queries equations : List ℕ) → (publics : ℕ) → List Question
-soundAsks rel label slots queries equations publics =
+-- 11 of what the stores hold
+abbrev pub soundAsks : PermutationRelation → (label slots queries equations : List ℕ) → List Question
+soundAsks rel label slots queries equations =
     question 11 (equationsSound (rel .equations) (take (rel .words) equations))
     ∷ question 11 (allBelow maxCount (take (wordsOf (rel .width) (rel .queries)) queries))
     ∷ question 11 (slotsSound (take (rel .vars) slots))
     ∷ question 11 (isUtf8 label)
-    ∷ question 10 (leb (2 * length (publicsOf rel slots)) publics)
     ∷ []
 
--- 1, 2, 11, 10: what is asked before the publics are made
+-- 1, 2, 11: what is asked before the publics are made
 abbrev pub preparedAsks : PermutationRelation → (label slots queries equations : List ℕ) → (publics scratch : ℕ) → List Question
 preparedAsks rel label slots queries equations publics scratch =
     relationAsks rel (length slots)
     ++ (storesAsks rel (length label) (length queries) (length equations) publics scratch
-    ++ soundAsks rel label slots queries equations publics)
+    ++ soundAsks rel label slots queries equations)
 
 unfoldable pub preparedNo : PermutationRelation → (label slots queries equations : List ℕ) → (publics scratch : ℕ) → ℕ
 preparedNo rel label slots queries equations publics scratch =
     firstNo (preparedAsks rel label slots queries equations publics scratch)
 
--- then 16 and 12 to 15 of the parts
+-- then 10, whether the store holds the publics, and 16 and 12 to 15 of the parts
 abbrev pub compileAsks : PermutationRelation → (label slots queries equations : List ℕ) → (publics scratch : ℕ) → List Question
 compileAsks rel label slots queries equations publics scratch =
     preparedAsks rel label slots queries equations publics scratch
-    ++ gateAsks (compiledParts rel slots queries equations) scratch
+    ++ (question 10 (leb (2 * length (publicsOf rel slots)) publics) ∷ gateAsks (compiledParts rel slots queries equations) scratch)
 
 unfoldable pub compileNo : PermutationRelation → (label slots queries equations : List ℕ) → (publics scratch : ℕ) → ℕ
 compileNo rel label slots queries equations publics scratch =

@@ -1,7 +1,7 @@
 // The gate (the source's `compile`, of permutation.rs): from a relation and its stores to an instance.
 //
-// What is asked before the publics are made is 1, 2, 11 and 10; then 16 and 12 to 15 are asked of the
-// instance, as a read asks them. Every open function answers on every input.
+// What is asked before the publics are made is 1, 2 and 11; then 10, whether their store holds them, and of the
+// instance 16 and 12 to 15, as a read asks them. Every open function answers on every input.
 
 ghost use mathlib.Core.Path.{_≡_};
 ghost use Prim.Native.Nat.{_*_, _≤_, _<_};
@@ -22,26 +22,11 @@ pub struct Compiled {
     pub instance: PermutationInstance,
 }
 
-// How many slots are assigned.
-fn assigned(slots: &[u32]) -> usize
-    ensures { λ r. ⌜ r ≡ length (publicsFrom 0 (now (slots .entry))) ⌝ }
-{
-    let mut n: usize = 0;
-    let mut i: usize = 0;
-    while i < slots.len() {
-        if slots[i] != UNASSIGNED {
-            n += 1;
-        }
-        i += 1;
-    }
-    n
-}
-
-// The assigned wires in index order, with their units, at the front of a store that holds them; and how many
-// they are.
+// The assigned wires in index order, with their units, at the front of the store where it holds them; and how
+// many they are. A store that is too short has only the first of them.
 fn put_publics(out: &mut [u32], slots: &[u32]) -> u32
-    requires { ⌜ (2 * length (publicsFrom 0 (now slots)) ≤ length (now out)) × (length (now slots) < 4294967296) ⌝ }
-    ensures { λ r. ⌜ (r ≡ length (publicsFrom 0 (now (slots .entry)))) × (now (out .exit) ≡ putWords 0 (pairWords (publicsFrom 0 (now (slots .entry)))) (now (out .entry))) ⌝ }
+    requires { ⌜ length (now slots) < 4294967296 ⌝ }
+    ensures { λ r. ⌜ (r ≡ length (publicsFrom 0 (now (slots .entry)))) × (2 * length (publicsFrom 0 (now (slots .entry))) ≤ length (now (out .entry)) → now (out .exit) ≡ putWords 0 (pairWords (publicsFrom 0 (now (slots .entry)))) (now (out .entry))) ⌝ }
 {
     let mut n: u32 = 0;
     let mut to: usize = 0;
@@ -49,9 +34,11 @@ fn put_publics(out: &mut [u32], slots: &[u32]) -> u32
     while i < slots.len() {
         let v = slots[i];
         if v != UNASSIGNED {
-            out[to] = i as u32;
-            out[to + 1] = v;
-            to += 2;
+            if to + 1 < out.len() {
+                out[to] = i as u32;
+                out[to + 1] = v;
+                to += 2;
+            }
             n += 1;
         }
         i += 1;
@@ -83,7 +70,7 @@ fn asked_stores(
     limits::asked(g, label < 4294967296, 2)
 }
 
-// 11 and 10 of the gate, after the answer so far.
+// 11 of the gate, after the answer so far.
 fn asked_sound(
     no: u32,
     rel: PermutationRelation,
@@ -91,9 +78,8 @@ fn asked_sound(
     slots: &[u32],
     queries: &[u32],
     equations: &[u32],
-    publics: usize,
 ) -> u32
-    ensures { λ r. ⌜ r ≡ no ▸ firstNo (soundAsks rel (now (label .entry)) (now (slots .entry)) (now (queries .entry)) (now (equations .entry)) publics) ⌝ }
+    ensures { λ r. ⌜ r ≡ no ▸ firstNo (soundAsks rel (now (label .entry)) (now (slots .entry)) (now (queries .entry)) (now (equations .entry))) ⌝ }
 {
     let words = rel.words;
     let vars = rel.vars;
@@ -108,13 +94,11 @@ fn asked_sound(
         MAX_COUNT,
         11,
     );
-    let allocated = instance::held_words(slots, vars as usize);
-    let c = instance::asked_slots_sound(b, allocated);
-    let d = instance::asked_utf8(c, label);
-    limits::asked(d, 2 * assigned(allocated) <= publics, 10)
+    let c = instance::asked_slots_sound(b, instance::held_words(slots, vars as usize));
+    instance::asked_utf8(c, label)
 }
 
-// What is asked before the publics are made: 1, 2, 11, 10.
+// What is asked before the publics are made: 1, 2, 11.
 fn prepared(
     rel: PermutationRelation,
     label: &[u8],
@@ -136,7 +120,7 @@ fn prepared(
         publics,
         scratch,
     );
-    asked_sound(b, rel, label, slots, queries, equations, publics)
+    asked_sound(b, rel, label, slots, queries, equations)
 }
 
 // A refused gate's answer.
@@ -195,7 +179,8 @@ pub fn compile(
         words: rel.words,
         publics: count,
     };
-    let no = instance::asked_validated(0, instance, publics, queries, equations, scratch);
+    let room = limits::asked(0, 2 * count as usize <= publics.len(), 10);
+    let no = instance::asked_validated(room, instance, publics, queries, equations, scratch);
     if no != 0 {
         words::fill(publics, 0);
         return refused(no);

@@ -4,13 +4,15 @@
 use borrow.Author.Needs.{needs}
 use native.Mathlib.Omega.{arith}
 use denote.Ref.{now}
-use Prim.Native.Nat.{ℕ, _<_}
+use Prim.Native.Nat.{ℕ, _*_, _<_}
 use mathlib.Core.Path.{_≡_, sym, ap, _∙_}
-use lib.ListN.{length, take, replicate}
+use lib.Dec.{leb}
+use lib.ListN.{length, take, replicate, length-replicate}
+use Rattle.limits.specs.Questions.{ask}
 use Rattle.limits.proofs.Questions.{zero-▸}
 use Rattle.compile.specs.Gate.{preparedNo}
 use Rattle.compile.proofs.Publics.{take-few}
-use Rattle.compile.proofs.Gate.{prepares, refuses-first, refuses-gate, accepts, vars-fit, publics-fit}
+use Rattle.compile.proofs.Gate.{prepares, refuses-first, refuses-gate, accepts, vars-fit}
 use Rattle.compile.proofs.compile.Statement.{statement}
 use Rattle.compile.proofs.compile.Tie as tie
 
@@ -72,7 +74,16 @@ put-publics-requires c κs =
     let z = sym e ∙ c .before .before .if1 .left in
     let t : length (take (rel .vars) slots) < 4294967296 =
     omega (arith, take-few (rel .vars) slots, vars-fit rel label slots queries equations publics scratch z) in
-    rw (c .held-words .ensures, f .kept .0) (publics-fit rel label slots queries equations publics scratch z, t)
+    rw (c .held-words .ensures) t
+
+cast-asked : tie.Need-cast-asked
+cast-asked c = search needs
+
+mul-asked : tie.Need-mul-asked
+mul-asked c = search needs
+
+asked-requires : tie.Need-asked-requires
+asked-requires c κs = search needs
 
 asked-validated-requires : tie.Need-asked-validated-requires
 asked-validated-requires c κs = search needs
@@ -91,7 +102,7 @@ same-length-4 c = search needs
 
 returns-2 : tie.Need-returns-2
 returns-2 c =
-    let s = c .before .before .before .before .before .before .before .before .before .before .before .before .before .before .before .before .before in
+    let s = c .before .before .before .before .before .before .before .before .before .before .before .before .before .before .before .before .before .before in
     let f = s .before .before .before .fill in
     let a = s .before .before .before .before .before .before .before .before .before .before .before .args in
     let rel = a .rel in
@@ -103,13 +114,16 @@ returns-2 c =
     let scratch = now (a .scratch) in
     let e : s .prepared .result ≡ prepares rel label slots queries equations publics scratch =
     s .prepared .ensures ∙ ap (λ (n : ℕ). preparedNo rel label slots queries equations n (length scratch)) (f .kept .0) in
-    let z = sym e ∙ c .before .before .before .before .before .before .before .before .before .before .before .before .before .before .before .before .if1 .left in
-    let p = c .before .before .before .before .before .before .before .before .before .before .before .before .before .put-publics in
-    let w = c .before .before .before .before .before .before .before .before .before .before .before .before .before .before .held-words .ensures in
+    let z = sym e ∙ c .before .before .before .before .before .before .before .before .before .before .before .before .before .before .before .before .before .if1 .left in
+    let p = c .before .before .before .before .before .before .before .before .before .before .before .before .before .before .put-publics in
+    let w = c .before .before .before .before .before .before .before .before .before .before .before .before .before .before .before .held-words .ensures in
     let count = rw w at (p .ensures .0) in
-    let store = rw (w, f .ensures) at (p .ensures .1) in
+    let store = rw (w, f .ensures, length-replicate {A = ℕ} (length publics) 0) at (p .ensures .1) in
     let v = c .before .before .before .before .before .before .before .before .asked-validated in
-    let r = refuses-gate rel label slots queries equations publics scratch z _ _ _ count store (v .ensures .0 ∙ zero-▸ _) (c .before .before .before .before .before .if2 .taken) in (
+    let d = c .before .before .before .before .before .before .before .before .before .before .before .asked in
+    let room : d .result ≡ ask 10 (leb (2 * p .result) (length publics)) =
+    d .ensures ∙ zero-▸ _ ∙ ap (λ (n : ℕ). ask 10 (leb (2 * p .result) n)) (p .kept .0 ∙ f .kept .0) in
+    let r = refuses-gate rel label slots queries equations publics scratch z _ _ _ count store (rw room at (v .ensures .0)) (c .before .before .before .before .before .if2 .taken) in (
       c .refused2 .ensures ∙ r .0,
       c .before .before .before .fill3 .ensures ∙ ap (λ (k : ℕ). replicate {A = ℕ} k 0) (p .kept .0 ∙ f .kept .0) ∙ r .1,
       v .ensures .1,
@@ -123,7 +137,7 @@ same-length-6 c = search needs
 
 returns-3 : tie.Need-returns-3
 returns-3 c =
-    let s = c .before .before .before .before .before .before .before .before .before .before .before .before in
+    let s = c .before .before .before .before .before .before .before .before .before .before .before .before .before in
     let f = s .before .before .before .fill in
     let a = s .before .before .before .before .before .before .before .before .before .before .before .args in
     let rel = a .rel in
@@ -135,13 +149,16 @@ returns-3 c =
     let scratch = now (a .scratch) in
     let e : s .prepared .result ≡ prepares rel label slots queries equations publics scratch =
     s .prepared .ensures ∙ ap (λ (n : ℕ). preparedNo rel label slots queries equations n (length scratch)) (f .kept .0) in
-    let z = sym e ∙ c .before .before .before .before .before .before .before .before .before .before .before .if1 .left in
-    let p = c .before .before .before .before .before .before .before .before .put-publics in
-    let w = c .before .before .before .before .before .before .before .before .before .held-words .ensures in
+    let z = sym e ∙ c .before .before .before .before .before .before .before .before .before .before .before .before .if1 .left in
+    let p = c .before .before .before .before .before .before .before .before .before .put-publics in
+    let w = c .before .before .before .before .before .before .before .before .before .before .held-words .ensures in
     let count = rw w at (p .ensures .0) in
-    let store = rw (w, f .ensures) at (p .ensures .1) in
+    let store = rw (w, f .ensures, length-replicate {A = ℕ} (length publics) 0) at (p .ensures .1) in
     let v = c .before .before .before .asked-validated in
-    let r = accepts rel label slots queries equations publics scratch z _ _ _ count store (v .ensures .0 ∙ zero-▸ _) (c .if2 .left) in
+    let d = c .before .before .before .before .before .before .asked in
+    let room : d .result ≡ ask 10 (leb (2 * p .result) (length publics)) =
+    d .ensures ∙ zero-▸ _ ∙ ap (λ (n : ℕ). ask 10 (leb (2 * p .result) n)) (p .kept .0 ∙ f .kept .0) in
+    let r = accepts rel label slots queries equations publics scratch z _ _ _ count store (rw room at (v .ensures .0)) (c .if2 .left) in
     (r .0, r .1, v .ensures .1)
 
 pub compile-spec : {M : Type 1} → statement M
@@ -158,6 +175,9 @@ compile-spec =
     cast-held-words
     held-words-requires
     put-publics-requires
+    cast-asked
+    mul-asked
+    asked-requires
     asked-validated-requires
     fill-requires-3
     refused-requires-2
