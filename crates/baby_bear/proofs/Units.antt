@@ -11,6 +11,7 @@ use lib.Dec.{ltb, lit<}
 use lib.ListN.{length, getD, take, drop, drop-of-length-le}
 use lib.Seq.{drop-cons}
 use Rattle.limits.specs.Numbers.{prime}
+use Rattle.limits.specs.Below.{allBelow}
 use Rattle.baby_bear.specs.Field.{areUnits}
 
 -- ---- two tests and one
@@ -23,25 +24,25 @@ true-both a b e f = simp e f
 
 -- ---- every place
 pub units-at : (l : List ℕ) → areUnits l ≡ true → (i : ℕ) → getD l i 0 < prime
-unfolding areUnits
+unfolding allBelow
 units-at [] e i = lit< tt
 units-at (a ∷ l) e zero = ltb-true a prime (both-true _ _ e .0)
 units-at (a ∷ l) e (suc i) = units-at l (both-true (ltb a prime) _ e .1) i
 
 pub at-units : (l : List ℕ) → ((i : ℕ) → getD l i 0 < prime) → areUnits l ≡ true
-unfolding areUnits
+unfolding allBelow
 at-units [] h = refl
 at-units (a ∷ l) h = true-both _ _ (lt-ltb a prime (h 0)) (at-units l (λ i. h (suc i)))
 
 -- ---- parts
 pub units-drop : (n : ℕ) (l : List ℕ) → areUnits l ≡ true → areUnits (drop n l) ≡ true
-unfolding areUnits
+unfolding allBelow
 units-drop zero l e = e
 units-drop (suc n) [] e = e
 units-drop (suc n) (a ∷ l) e = units-drop n l (both-true (ltb a prime) _ e .1)
 
 pub units-take : (n : ℕ) (l : List ℕ) → areUnits l ≡ true → areUnits (take n l) ≡ true
-unfolding areUnits
+unfolding allBelow
 units-take zero l e = refl
 units-take (suc n) [] e = e
 units-take (suc n) (a ∷ l) e =
@@ -64,7 +65,7 @@ and-assoc false b c = refl
 module _ (l : List ℕ) (top i : ℕ) (e : (ltb top prime && areUnits (drop i l)) ≡ areUnits l) where
   pub largest-turn : (v : ℕ) → v ≡ max top (getD l i 0) → i < length l
       → (ltb v prime && areUnits (drop (i + 1) l)) ≡ areUnits l
-  unfolding areUnits
+  unfolding allBelow
   largest-turn v g h =
       let d : drop i l ≡ getD l i 0 ∷ drop (i + 1) l = rw (add-one, drop-cons l i 0) in
       ap (λ (t : ℕ). ltb t prime && areUnits (drop (i + 1) l)) g
@@ -73,7 +74,7 @@ module _ (l : List ℕ) (top i : ℕ) (e : (ltb top prime && areUnits (drop i l)
       ∙ sym (ap (λ (m : List ℕ). ltb top prime && areUnits m) d) ∙ e
 
   pub largest-done : length l ≤ i → ltb top prime ≡ areUnits l
-  unfolding areUnits
+  unfolding allBelow
   largest-done h = sym (and-true (ltb top prime)) ∙ rw (drop-of-length-le l h) at e
     where
       and-true : (a : Bool) → (a && true) ≡ a

@@ -1,10 +1,10 @@
 -- Arithmetic of units (document 01: "a unit is a u32 below p, added and multiplied modulo p"), on any
 -- numbers: each counts as what it leaves modulo p. Assumes nothing.
 use Prim.Native.Nat.{ℕ, zero, suc, _+_, _*_, _%_}
-use mathlib.Core.Bool.{Bool, true, _&&_}
+use mathlib.Core.Bool.{Bool}
 use mathlib.Core.List.{List, [], _∷_}
-use lib.Dec.{ltb}
 use Rattle.limits.specs.Numbers.{prime}
+use Rattle.limits.specs.Below.{allBelow}
 
 -- the sum modulo p
 unfoldable pub addUnit : ℕ → ℕ → ℕ
@@ -15,9 +15,8 @@ unfoldable pub mulUnit : ℕ → ℕ → ℕ
 mulUnit a b = a * b % prime
 
 -- is every number of the list a unit?
-unfoldable pub areUnits : List ℕ → Bool
-areUnits [] = true
-areUnits (a ∷ l) = ltb a prime && areUnits l
+abbrev pub areUnits : List ℕ → Bool
+areUnits l = allBelow prime l
 
 -- a times itself, n times in all
 abbrev pub powerUnit : ℕ → ℕ → ℕ

@@ -12,6 +12,7 @@ use lib.Dec.{eqb, ltb}
 use lib.ListN.{length, take}
 use lib.Seq.{length-take-le}
 use Rattle.limits.specs.Numbers.{prime, maxCount}
+use Rattle.limits.specs.Below.{allBelow}
 use Rattle.limits.proofs.Questions.{join, ask-yes}
 use Rattle.words.specs.Store.{All}
 use Rattle.baby_bear.specs.Field.{areUnits}
@@ -37,7 +38,7 @@ same-refl (a ∷ x) = and-eq-true-iff (eqb a a) (sameWords x x) .1 (eq-eqb a a r
 
 -- ---- the first words of units are units
 take-units : (n : ℕ) (l : List ℕ) → All (λ v. v < prime) l → areUnits (take n l) ≡ true
-unfolding areUnits
+unfolding allBelow
 take-units zero l u = refl
 take-units (suc n) [] u = refl
 take-units (suc n) (v ∷ l) u =

@@ -9,7 +9,7 @@ use lib.ListN.{replicate}
 use Rattle.limits.specs.Questions.{ask, _▸_}
 use Rattle.words.specs.Store.{allBelow}
 use Rattle.utf8.specs.Utf8.{follow, isUtf8}
-use Rattle.baby_bear.specs.Field.{addUnit, mulUnit, areUnits, seventh, dotUnits}
+use Rattle.baby_bear.specs.Field.{addUnit, mulUnit, seventh, dotUnits}
 use Rattle.allocator.specs.Slots.{pair, pairNo, setRun}
 use Rattle.expr.specs.Equation.{Term, equation, equationAt, sizeAt}
 use Rattle.expr.specs.declared.Weighted.{Weighted}
@@ -116,7 +116,7 @@ abbrev check : Parts → List (List ℕ) → ℕ
 check parts steps = checkNo (isEvaluation 1 1 params) parts steps
 
 yes-A : check instanceA ((2 ∷ 5 ∷ []) ∷ []) ≡ 0
-unfolding ask _▸_ checkNo isEvaluation permuteNo soundParameters roundsOf rowsOf soundKinds unitConstants unitRows areUnits sameWords runRounds runRound addConstants raise timesMatrix addUnit mulUnit seventh dotUnits
+unfolding ask _▸_ checkNo isEvaluation permuteNo soundParameters roundsOf rowsOf soundKinds unitConstants unitRows allBelow sameWords runRounds runRound addConstants raise timesMatrix addUnit mulUnit seventh dotUnits
 yes-A = refl
 
 no-31 : check instanceA [] ≡ 31
@@ -124,11 +124,11 @@ unfolding ask _▸_ checkNo
 no-31 = refl
 
 no-32 : check instanceA ((2 ∷ 6 ∷ []) ∷ []) ≡ 32
-unfolding ask _▸_ checkNo isEvaluation permuteNo soundParameters roundsOf rowsOf soundKinds unitConstants unitRows areUnits sameWords runRounds runRound addConstants raise timesMatrix addUnit mulUnit seventh dotUnits
+unfolding ask _▸_ checkNo isEvaluation permuteNo soundParameters roundsOf rowsOf soundKinds unitConstants unitRows allBelow sameWords runRounds runRound addConstants raise timesMatrix addUnit mulUnit seventh dotUnits
 no-32 = refl
 
 no-33 : check instanceA ((3 ∷ 640 ∷ []) ∷ []) ≡ 33
-unfolding ask _▸_ checkNo isEvaluation permuteNo soundParameters roundsOf rowsOf soundKinds unitConstants unitRows areUnits sameWords runRounds runRound addConstants raise timesMatrix addUnit mulUnit seventh dotUnits
+unfolding ask _▸_ checkNo isEvaluation permuteNo soundParameters roundsOf rowsOf soundKinds unitConstants unitRows allBelow sameWords runRounds runRound addConstants raise timesMatrix addUnit mulUnit seventh dotUnits
 no-33 = refl
 
 -- weight 0 on an allocated unbound wire: gate yes, check 34; weight 1: 15
@@ -173,7 +173,7 @@ abbrev lentTrace : TraceLent
 lentTrace = record { steps = 1; trace = 2 ∷ 5 ∷ 9 ∷ []; out = replicate 25 7; room = 2 }
 
 pub satisfied : Sat (Evaluates 1 (parametersOf 1 1 params)) (lastLedger 1 slots queries equations calls) ((2 ∷ 5 ∷ []) ∷ [])
-unfolding ask _▸_ newNo allocateVarsNo setVarNo setVarsNo addPermutationNo allocatePermutationNo addEquationNo pairNo setRun setVarsRun allBelow answer after compiledParts publicsOf equationAt sizeAt equationsSound publicsSound slotsSound follow isUtf8 compileNo compile compilePublics partsOf checkNo isWitnessValidNo isEvaluation permuteNo soundParameters roundsOf rowsOf soundKinds unitConstants unitRows areUnits sameWords runRounds runRound addConstants raise timesMatrix addUnit mulUnit seventh dotUnits validatedNo gateNo instanceToBytesNo instanceBytes headerBytes u32Bytes instanceFromBytes readInstance readFile readHeader readMagic readLabel readParts readPublics readQueries readEquations word part below witnessToBytesNo witnessBytes witnessFromBytes readWitness readSteps labelPart
+unfolding ask _▸_ newNo allocateVarsNo setVarNo setVarsNo addPermutationNo allocatePermutationNo addEquationNo pairNo setRun setVarsRun allBelow answer after compiledParts publicsOf equationAt sizeAt equationsSound publicsSound slotsSound follow isUtf8 compileNo compile compilePublics partsOf checkNo isWitnessValidNo isEvaluation permuteNo soundParameters roundsOf rowsOf soundKinds unitConstants unitRows sameWords runRounds runRound addConstants raise timesMatrix addUnit mulUnit seventh dotUnits validatedNo gateNo instanceToBytesNo instanceBytes headerBytes u32Bytes instanceFromBytes readInstance readFile readHeader readMagic readLabel readParts readPublics readQueries readEquations word part below witnessToBytesNo witnessBytes witnessFromBytes readWitness readSteps labelPart
 satisfied =
     whole 1 slots queries equations fresh-accepted calls .gated [] publics scratch gate-accepted lentFile
     .checks refl refl lentTrace refl refl 1 params refl 3 (omega arith) (omega arith)

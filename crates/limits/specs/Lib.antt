@@ -1,3 +1,4 @@
 pub mod Numbers
 pub mod Questions
 pub mod Asks
+pub mod Below

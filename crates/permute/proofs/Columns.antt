@@ -16,6 +16,7 @@ use lib.Dec.{ltb, lit<}
 use lib.ListN.{length, getD, take, drop, set, replicate, length-set, length-take, length-drop, drop-of-length-le}
 use lib.Seq.{drop-cons, drop-drop, getD-take, getD-drop, getD-set-same, getD-set-other}
 use Rattle.limits.specs.Numbers.{prime}
+use Rattle.limits.specs.Below.{allBelow}
 use Rattle.baby_bear.specs.Field.{areUnits, dot}
 use Rattle.baby_bear.proofs.Units.{both-true, true-both, units-at, at-units, units-take, units-drop}
 use Rattle.permute.specs.Parameters.{rowsOf}
@@ -23,7 +24,7 @@ use Rattle.permute.specs.Columns.{strided, turnedRows, four}
 
 -- ---- places
 units-set : (l : List ℕ) (i v : ℕ) → areUnits l ≡ true → v < prime → areUnits (set l i v) ≡ true
-unfolding areUnits
+unfolding allBelow
 units-set [] i v e h = e
 units-set (a ∷ l) zero v e h =
     true-both (ltb v prime) (areUnits l) (lt-ltb v prime h) (both-true (ltb a prime) (areUnits l) e .1)

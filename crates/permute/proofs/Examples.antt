@@ -5,9 +5,10 @@ use Prim.Native.Nat.{ℕ}
 use mathlib.Core.Path.{_≡_, refl}
 use mathlib.Core.Bool.{true, false}
 use mathlib.Core.List.{List, [], _∷_}
+use Rattle.limits.specs.Below.{allBelow}
 use Rattle.limits.specs.Questions.{ask, _▸_}
 use Rattle.words.specs.Pieces.{pieces}
-use Rattle.baby_bear.specs.Field.{addUnit, mulUnit, seventh, areUnits, dotUnits}
+use Rattle.baby_bear.specs.Field.{addUnit, mulUnit, seventh, dotUnits}
 use Rattle.permute.specs.Permute.{addConstants, raise, timesMatrix, runRound, runRounds, permute}
 use Rattle.permute.specs.Parameters.{roundsOf, rowsOf, parametersOf, soundKinds, unitConstants, unitRows, soundParameters, permuteNo, sameWords, isEvaluation, leading}
 
@@ -19,5 +20,5 @@ pub worked : (soundParameters 1 1 words ≡ true)
     × (isEvaluation 1 1 words (2 ∷ 5 ∷ []) ≡ true) × (isEvaluation 1 1 words (3 ∷ 640 ∷ []) ≡ true)
     × (isEvaluation 1 1 words (2 ∷ 6 ∷ []) ≡ false)
     × (leading (isEvaluation 1 1 words) (pieces 2 3 (2 ∷ 5 ∷ 2 ∷ 6 ∷ 3 ∷ 640 ∷ [])) ≡ 1)
-unfolding ask _▸_ addUnit mulUnit seventh areUnits dotUnits addConstants raise timesMatrix runRound runRounds roundsOf rowsOf soundKinds unitConstants unitRows soundParameters permuteNo sameWords isEvaluation leading
+unfolding ask _▸_ addUnit mulUnit seventh allBelow dotUnits addConstants raise timesMatrix runRound runRounds roundsOf rowsOf soundKinds unitConstants unitRows soundParameters permuteNo sameWords isEvaluation leading
 worked = (refl, refl, refl, refl, refl, refl, refl)

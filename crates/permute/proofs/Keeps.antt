@@ -8,6 +8,7 @@ use borrow.Author.Tests.{lt-ltb}
 use lib.Dec.{ltb, lit<}
 use lib.ListN.{length, drop, length-map}
 use Rattle.limits.specs.Numbers.{prime}
+use Rattle.limits.specs.Below.{allBelow}
 use Rattle.baby_bear.specs.Field.{areUnits, addUnit, mulUnit, seventh, sumUnits, productUnits, dotUnits}
 use Rattle.baby_bear.proofs.Ring.{addUnit-below, seventh-below}
 use Rattle.baby_bear.proofs.Units.{both-true, true-both}
@@ -45,11 +46,11 @@ dotUnits-below (a ∷ r) [] = lit< tt
 dotUnits-below (a ∷ r) (b ∷ x) = addUnit-below (mulUnit a b) (sumUnits (productUnits r x))
 
 one-more : (a : ℕ) (l : List ℕ) → a < prime → areUnits l ≡ true → areUnits (a ∷ l) ≡ true
-unfolding areUnits
+unfolding allBelow
 one-more a l h e = true-both (ltb a prime) (areUnits l) (lt-ltb a prime h) e
 
 less : (a : ℕ) (l : List ℕ) → areUnits (a ∷ l) ≡ true → areUnits l ≡ true
-unfolding areUnits
+unfolding allBelow
 less a l e = both-true (ltb a prime) (areUnits l) e .1
 
 pub addConstants-units : (cs x : List ℕ) → areUnits x ≡ true → areUnits (addConstants cs x) ≡ true
@@ -60,7 +61,7 @@ addConstants-units (c ∷ cs) (a ∷ x) e =
     one-more (addUnit a c) (addConstants cs x) (addUnit-below a c) (addConstants-units cs x (less a x e))
 
 sevenths-units : (x : List ℕ) → areUnits (map seventh x) ≡ true
-unfolding areUnits
+unfolding allBelow
 sevenths-units [] = refl
 sevenths-units (a ∷ x) = one-more (seventh a) (map seventh x) (seventh-below a) (sevenths-units x)
 
@@ -71,7 +72,7 @@ raise-units zero (a ∷ x) e = sevenths-units (a ∷ x)
 raise-units (suc kind) (a ∷ x) e = one-more (seventh a) x (seventh-below a) (less a x e)
 
 pub timesMatrix-units : (m : List (List ℕ)) (x : List ℕ) → areUnits (timesMatrix m x) ≡ true
-unfolding timesMatrix areUnits
+unfolding timesMatrix allBelow
 timesMatrix-units [] x = refl
 timesMatrix-units (row ∷ m) x = one-more (dotUnits row x) (timesMatrix m x) (dotUnits-below row x) (timesMatrix-units m x)
 

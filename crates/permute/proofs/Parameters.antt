@@ -12,6 +12,7 @@ use lib.Dec.{ltb, leb, eqb}
 use lib.ListN.{length, getD, take, drop, length-drop}
 use lib.Seq.{drop-drop, getD-drop}
 use Rattle.limits.specs.Numbers.{prime}
+use Rattle.limits.specs.Below.{allBelow}
 use Rattle.baby_bear.specs.Field.{areUnits}
 use Rattle.baby_bear.proofs.Units.{both-true, true-both, units-take, units-drop}
 use Rattle.permute.specs.Permute.{roundOf}
@@ -19,7 +20,7 @@ use Rattle.permute.specs.Parameters.{roundsOf, rowsOf, soundKinds, unitC
 
 -- ---- units in two parts
 units-join : (n : ℕ) (l : List ℕ) → areUnits (take n l) ≡ true → areUnits (drop n l) ≡ true → areUnits l ≡ true
-unfolding areUnits
+unfolding allBelow
 units-join zero l e f = f
 units-join (suc n) [] e f = e
 units-join (suc n) (a ∷ l) e f =
@@ -41,7 +42,7 @@ none w words = let z : 0 * (w + 1) ≡ 0 = omega arith in rw z
 -- ---- rounds: kinds, constants and what follows are all words
 rounds-units : (w n : ℕ) (words : List ℕ) → soundKinds (roundsOf w n words) ≡ true → unitConstants (roundsOf w n words) ≡ true
     → areUnits (drop (n * (w + 1)) words) ≡ true → areUnits words ≡ true
-unfolding roundsOf soundKinds unitConstants areUnits
+unfolding roundsOf soundKinds unitConstants allBelow
 rounds-units w zero words k c r = rw none at r
 rounds-units w (suc n) [] k c r = refl
 rounds-units w (suc n) (a ∷ l) k c r =
@@ -59,7 +60,7 @@ units-rounds w (suc n) words e =
 
 -- ---- rows
 rows-units : (w n : ℕ) (l : List ℕ) → length l ≡ n * w → unitRows (rowsOf w n l) ≡ true → areUnits l ≡ true
-unfolding rowsOf unitRows areUnits
+unfolding rowsOf unitRows allBelow
 rows-units w zero [] h e = refl
 rows-units w zero (a ∷ l) h e = absurd (omega arith)
 rows-units w (suc n) l h e =

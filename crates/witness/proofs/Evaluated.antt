@@ -13,7 +13,6 @@ use Rattle.words.specs.Pieces.{wordsOf}
 use Rattle.permute.specs.Parameters.{soundParameters, permuteNo}
 use Rattle.witness.specs.Trace.{inputAsks, stepRoom, inputNo, allocatePermutationNo}
 use Rattle.witness.specs.declared.PermutationWitness.{PermutationWitness}
-use Rattle.witness.proofs.Units.{units-below}
 use Rattle.witness.proofs.Accepted.{input-yes}
 
 -- a question that says yes is passed
@@ -63,7 +62,7 @@ module _ (wit : PermutationWitness) (len : ℕ) (input : List ℕ) (rounds : ℕ
         (past 2 _ _ _ (le-leb _ _ (y .paramsStore))
         (past 2 _ _ _ (le-leb _ _ (y .inputStore))
         (past 9 _ _ _ (eq-eqb _ _ (y .inputs))
-        (past 4 _ _ _ (units-below input ∙ y .inputUnits) (▸-zero _))))))
+        (past 4 _ _ _ (y .inputUnits) (▸-zero _))))))
 
     -- the trace has room
     pub room-number : wordsOf (wit .width) (wit .steps + 1) ≤ len

@@ -1,5 +1,4 @@
 pub mod Chain
-pub mod Units
 pub mod Accepted
 pub mod Evaluated
 pub mod Written

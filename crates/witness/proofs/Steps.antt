@@ -19,7 +19,6 @@ use Rattle.permute.specs.Parameters.{parametersOf, permuteNo, isEvaluation}
 use Rattle.permute.proofs.Laws.{permute-length, permute-units, is-evaluation}
 use Rattle.witness.specs.Trace.{addPermutationNo, addPermutation, addPermutationTrace, evaluatedStep, allocatePermutationNo, allocatePermutation, allocatePermutationTrace, stepsOf}
 use Rattle.witness.specs.declared.PermutationWitness.{PermutationWitness}
-use Rattle.witness.proofs.Units.{units-below}
 use Rattle.witness.proofs.Accepted.{addPermutation-yes, input-yes, allocatePermutation-yes}
 use Rattle.witness.proofs.Evaluated.{room-number}
 
@@ -97,8 +96,8 @@ module _ (wit : PermutationWitness) (trace input : List ℕ) (rounds : ℕ) (par
   pub allocatePermutation-units : allBelow prime (evaluatedStep wit input rounds params) ≡ true
   allocatePermutation-units =
       let y = input-yes wit (length trace) input params (allocatePermutation-yes wit (length trace) input rounds params e .asked) in
-      let u = permute-units (wit .width) rounds params input (units-below input ∙ y .inputUnits) in
-      step-units input _ (y .inputUnits) (sym (units-below _) ∙ u)
+      let u = permute-units (wit .width) rounds params input (y .inputUnits) in
+      step-units input _ (y .inputUnits) u
 
   pub allocatePermutation-evaluation : isEvaluation (wit .width) rounds params (evaluatedStep wit input rounds params) ≡ true
   allocatePermutation-evaluation =

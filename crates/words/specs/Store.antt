@@ -1,16 +1,12 @@
 -- Words of a lent store. Assumes nothing.
 use Prim.Native.Nat.{ℕ, _+_}
 use mathlib.Core.Path.{_≡_}
-use mathlib.Core.Bool.{Bool, true, _&&_}
 use mathlib.Core.List.{List, [], _∷_, _++_}
 use lib.ListN.{length, take, drop}
-use lib.Dec.{leb, ltb}
+use lib.Dec.{leb}
 use Rattle.limits.specs.Questions.{pick}
-
 -- every word is below the bound
-unfoldable pub allBelow : ℕ → List ℕ → Bool
-allBelow bound [] = true
-allBelow bound (x ∷ s) = ltb x bound && allBelow bound s
+unfoldable pub use Rattle.limits.specs.Below.{allBelow}
 
 -- the store with the words in the place of as many of its own, from place `at` on
 abbrev pub putWords : ℕ → List ℕ → List ℕ → List ℕ

@@ -8,6 +8,7 @@ use borrow.Author.Needs.{needs}
 use lib.Dec.{ltb}
 use lib.ListN.{length, drop}
 use Rattle.limits.specs.Numbers.{prime}
+use Rattle.limits.specs.Below.{allBelow}
 use Rattle.baby_bear.specs.Field.{areUnits}
 use Rattle.baby_bear.proofs.Units.{largest-turn, largest-done}
 use Rattle.baby_bear.proofs.are_units.Statement.{statement}
@@ -20,7 +21,7 @@ abbrev μ-loop : tie.MeasureT-loop
 μ-loop words top₀ i₀ top i = length words - i
 
 loop-holds : tie.Need-loop-holds Inv-loop μ-loop
-unfolding areUnits
+unfolding allBelow
 loop-holds c = (search needs, refl)
 
 mul-larger : tie.Need-mul-larger Inv-loop μ-loop
