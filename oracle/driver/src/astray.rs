@@ -1,7 +1,7 @@
 //! Inputs led astray: records, stores, sheets and labels that lie beside the sound ones.
 
 use reading::MAX_COUNT;
-use source::Sheet;
+use source::Params;
 
 use crate::{
     calls::{State, DIRT},
@@ -83,27 +83,27 @@ pub fn state(rng: &mut Rng, state: &mut State) {
 }
 
 /// A sheet, sound or nearly so.
-pub fn sheet(rng: &mut Rng, width: u32) -> Sheet {
-    let mut sheet = generate::sheet(rng, width);
+pub fn params(rng: &mut Rng, width: u32) -> Params {
+    let mut params = generate::params(rng, width);
     match rng.below(12) {
-        0 => sheet.rounds = near(rng, sheet.rounds),
+        0 => params.rounds = near(rng, params.rounds),
         1 => {
-            sheet.rounds = near(rng, 128).min(200);
-            let words = sheet.rounds * (width + 1) + width * width;
-            sheet.words = vec![1; words as usize];
+            params.rounds = near(rng, 128).min(200);
+            let words = params.rounds * (width + 1) + width * width;
+            params.words = vec![1; words as usize];
         }
         2 => {
-            let len = near_len(rng, sheet.words.len());
-            sheet.words.resize(len, 1);
+            let len = near_len(rng, params.words.len());
+            params.words.resize(len, 1);
         }
-        3 if sheet.rounds > 0 => {
-            let round = rng.below(sheet.rounds as usize);
-            sheet.words[round * (width as usize + 1)] = near(rng, 1);
+        3 if params.rounds > 0 => {
+            let round = rng.below(params.rounds as usize);
+            params.words[round * (width as usize + 1)] = near(rng, 1);
         }
-        4 | 5 => word(rng, &mut sheet.words),
+        4 | 5 => word(rng, &mut params.words),
         _ => {}
     }
-    sheet
+    params
 }
 
 /// A label whose bytes may be no text.

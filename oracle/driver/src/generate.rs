@@ -3,7 +3,7 @@
 use std::collections::BTreeSet;
 
 use reading::{MAX_COUNT, P};
-use source::{Parts, Sheet};
+use source::{Params, Parts};
 
 use crate::{
     calls::{Answer, Call, State},
@@ -27,7 +27,7 @@ pub struct Generator {
     pub rng: Rng,
     pub mood: Mood,
     pub width: u32,
-    pub sheet: Sheet,
+    pub params: Params,
     /// The unit of each wire, in an honest list.
     pub table: Vec<u32>,
     /// Wires that a set or a query names, in an honest list.
@@ -48,12 +48,12 @@ impl Generator {
             Mood::Wild,
             Mood::Wild,
         ]);
-        let sheet = sheet(&mut rng, width);
+        let params = params(&mut rng, width);
         Self {
             rng,
             mood,
             width,
-            sheet,
+            params,
             table: vec![0],
             known: BTreeSet::from([0]),
         }
@@ -148,7 +148,7 @@ impl Generator {
                 let first = self.table.len() as u32;
                 self.known.extend(input);
                 self.known.extend(first..first + self.width);
-                self.table.extend(self.sheet.permute(&values));
+                self.table.extend(self.params.permute(&values));
             }
             Call::Equation(..) | Call::Value(_) | Call::IsAllocated(_) => {}
         }
@@ -166,7 +166,7 @@ impl Generator {
         let (_, queries, _) = held.words();
         let step = |query: &[u32]| {
             let input = self.values(&query[..width]);
-            let output = self.sheet.permute(&input);
+            let output = self.params.permute(&input);
             [input, output].concat()
         };
         queries.chunks(2 * width).flat_map(step).collect()
@@ -323,7 +323,7 @@ impl Generator {
 }
 
 /// A sheet of few rounds, or of as many as there may be.
-pub fn sheet(rng: &mut Rng, width: u32) -> Sheet {
+pub fn params(rng: &mut Rng, width: u32) -> Params {
     let rounds = match rng.below(40) {
         0 => 128,
         1..=12 => 0,
@@ -335,7 +335,7 @@ pub fn sheet(rng: &mut Rng, width: u32) -> Sheet {
         words.extend((0..width).map(|_| rng.unit()));
     }
     words.extend((0..width * width).map(|_| rng.unit()));
-    Sheet { rounds, words }
+    Params { rounds, words }
 }
 
 /// A label, most of them short.
@@ -432,19 +432,24 @@ pub fn ungated(rng: &mut Rng, width: u32) -> Parts {
 
 /// A trace for such parts, with one value for each wire, and the sheet to go with it: every
 /// second time one without rounds, under which equal halves are an evaluation.
-pub fn ungated_trace(rng: &mut Rng, width: u32, parts: &Parts, sheet: &Sheet) -> (Vec<u32>, Sheet) {
+pub fn ungated_trace(
+    rng: &mut Rng,
+    width: u32,
+    parts: &Parts,
+    params: &Params,
+) -> (Vec<u32>, Params) {
     let values: [u32; 4] = std::array::from_fn(|_| rng.below(2) as u32);
     let cells = parts.queries.iter();
     let trace = cells.map(|&var| values[var as usize % 4]).collect();
     if rng.once_in(2) {
-        return (trace, sheet.clone());
+        return (trace, params.clone());
     }
     let words = vec![1; (width * width) as usize];
-    (trace, Sheet { rounds: 0, words })
+    (trace, Params { rounds: 0, words })
 }
 
 /// A trace with one fault.
-pub fn damaged_trace(rng: &mut Rng, width: u32, trace: &[u32], sheet: &Sheet) -> Vec<u32> {
+pub fn damaged_trace(rng: &mut Rng, width: u32, trace: &[u32], params: &Params) -> Vec<u32> {
     let width = width as usize;
     let mut trace = trace.to_vec();
     match rng.below(6) {
@@ -459,7 +464,7 @@ pub fn damaged_trace(rng: &mut Rng, width: u32, trace: &[u32], sheet: &Sheet) ->
             let at = rng.below(trace.len() / (2 * width)) * 2 * width;
             let place = at + rng.below(width);
             trace[place] = rng.unit();
-            let output = sheet.permute(&trace[at..at + width]);
+            let output = params.permute(&trace[at..at + width]);
             trace[at + width..at + 2 * width].copy_from_slice(&output);
         }
         _ => {}

@@ -1,15 +1,15 @@
 //! An instance's record and its stores, with the second reading's calls on them.
 
 use reading::{Instance, Trace};
-use source::{Parts, Sheet};
+use source::{Params, Parts};
 
 use crate::calls::{State, DIRT};
 
 /// A sheet as the second reading is lent it.
-pub fn lent(sheet: &Sheet) -> reading::Sheet<'_> {
-    reading::Sheet {
-        rounds: sheet.rounds,
-        words: &sheet.words,
+pub fn lent(params: &Params) -> reading::Params<'_> {
+    reading::Params {
+        rounds: params.rounds,
+        words: &params.words,
     }
 }
 
@@ -151,7 +151,7 @@ impl Held {
     }
 
     /// The check.
-    pub fn check(&self, trace: &[u32], sheet: &Sheet, scratch: usize) -> u32 {
+    pub fn check(&self, trace: &[u32], params: &Params, scratch: usize) -> u32 {
         reading::is_witness_valid(
             self.ins,
             &self.label,
@@ -160,7 +160,7 @@ impl Held {
             &self.equations,
             (trace.len() / (2 * self.ins.width as usize)) as u32,
             trace,
-            lent(sheet),
+            lent(params),
             &mut vec![DIRT; scratch],
         )
     }

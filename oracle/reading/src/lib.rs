@@ -32,7 +32,7 @@ pub use field::{add, mul};
 pub use instance::{compile, heading, public_value, InstanceAnswer};
 pub use relation::{add_equation, add_permutation, allocate_permutation, scale};
 pub use utf8::is_utf8;
-pub use witness::{append_step, evaluate_step, is_witness_valid, permute, Sheet};
+pub use witness::{append_step, evaluate_step, is_witness_valid, permute, Params};
 
 /// The order of the field: a unit is a word below it.
 pub const P: u32 = 2_013_265_921;

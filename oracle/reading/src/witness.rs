@@ -14,12 +14,12 @@ use crate::{
 /// The parameters of a permutation (01: a sheet): `rounds` times a kind and a constant per
 /// element, then the matrix row by row.
 #[derive(Clone, Copy, Debug)]
-pub struct Sheet<'a> {
+pub struct Params<'a> {
     pub rounds: u32,
     pub words: &'a [u32],
 }
 
-impl<'a> Sheet<'a> {
+impl<'a> Params<'a> {
     /// The rounds, each its kind and constants, and the matrix. Question 17 said yes.
     fn parts(&self, width: u32) -> (std::slice::Chunks<'a, u32>, &'a [u32]) {
         let round = width as usize + 1;
@@ -51,11 +51,11 @@ fn apply_round(state: &[u32], kind: u32, constants: &[u32], matrix: &[u32]) -> V
 }
 
 /// 17: at most 128 rounds, exactly the words they and the matrix take, kinds 0 or 1, units.
-fn ask_sheet(width: u32, sheet: &Sheet<'_>) -> Asked {
-    ask(17, sheet.rounds <= 128)?;
-    let words = sheet.rounds * (width + 1) + width * width;
-    ask(17, sheet.words.len() == words as usize)?;
-    let (rounds, matrix) = sheet.parts(width);
+fn ask_params(width: u32, params: &Params<'_>) -> Asked {
+    ask(17, params.rounds <= 128)?;
+    let words = params.rounds * (width + 1) + width * width;
+    ask(17, params.words.len() == words as usize)?;
+    let (rounds, matrix) = params.parts(width);
     for round in rounds {
         ask(17, round[0] <= 1 && are_units(&round[1..]))?;
     }
@@ -63,23 +63,23 @@ fn ask_sheet(width: u32, sheet: &Sheet<'_>) -> Asked {
 }
 
 /// Evaluates a permutation into a list of `width` words. Questions 1, 2, 9, 4, 17.
-pub fn permute(width: u32, sheet: Sheet<'_>, input: &[u32], output: &mut [u32]) -> u32 {
-    let asked = ask_permute(width, &sheet, input, output);
+pub fn permute(width: u32, params: Params<'_>, input: &[u32], output: &mut [u32]) -> u32 {
+    let asked = ask_permute(width, &params, input, output);
     if asked.is_ok() {
-        output.copy_from_slice(&sheet.permute(input));
+        output.copy_from_slice(&params.permute(input));
     }
     number_of(asked)
 }
 
-fn ask_permute(width: u32, sheet: &Sheet<'_>, input: &[u32], output: &[u32]) -> Asked {
+fn ask_permute(width: u32, params: &Params<'_>, input: &[u32], output: &[u32]) -> Asked {
     ask(1, is_width(width))?;
     ask(
         2,
-        is_store(sheet.words) && is_store(input) && is_store(output),
+        is_store(params.words) && is_store(input) && is_store(output),
     )?;
     ask(9, is_list(width, input) && is_list(width, output))?;
     ask(4, are_units(input))?;
-    ask_sheet(width, sheet)
+    ask_params(width, params)
 }
 
 /// Evaluates a step and appends it (the builder's `allocate_permutation`). Questions 1, 2,
@@ -88,20 +88,20 @@ pub fn evaluate_step(
     rec: Trace,
     trace: &mut [u32],
     input: &[u32],
-    sheet: Sheet<'_>,
+    params: Params<'_>,
 ) -> TraceAnswer {
-    match ask_evaluate_step(&rec, trace, input, &sheet) {
+    match ask_evaluate_step(&rec, trace, input, &params) {
         Err(number) => TraceAnswer { number, trace: rec },
-        Ok(()) => push_step(rec, trace, input, &sheet.permute(input)),
+        Ok(()) => push_step(rec, trace, input, &params.permute(input)),
     }
 }
 
-fn ask_evaluate_step(rec: &Trace, trace: &[u32], input: &[u32], sheet: &Sheet<'_>) -> Asked {
+fn ask_evaluate_step(rec: &Trace, trace: &[u32], input: &[u32], params: &Params<'_>) -> Asked {
     ask_trace_fits(rec, trace)?;
-    ask(2, is_store(input) && is_store(sheet.words))?;
+    ask(2, is_store(input) && is_store(params.words))?;
     ask(9, is_list(rec.width, input))?;
     ask(4, are_units(input))?;
-    ask_sheet(rec.width, sheet)?;
+    ask_params(rec.width, params)?;
     ask_room_for_step(rec, trace)
 }
 
@@ -157,7 +157,7 @@ pub fn is_witness_valid(
     equations: &[u32],
     steps: u32,
     trace: &[u32],
-    sheet: Sheet<'_>,
+    params: Params<'_>,
     scratch: &mut [u32],
 ) -> u32 {
     scratch.fill(0);
@@ -167,8 +167,8 @@ pub fn is_witness_valid(
     };
     let asked = ask_trace_fits(&rec, trace)
         .and_then(|()| ask_sizes(&ins, label, publics, queries, equations))
-        .and_then(|()| ask(2, is_store(scratch) && is_store(sheet.words)))
-        .and_then(|()| ask_sheet(ins.width, &sheet))
+        .and_then(|()| ask(2, is_store(scratch) && is_store(params.words)))
+        .and_then(|()| ask_params(ins.width, &params))
         .and_then(|()| {
             let parts = Parts {
                 publics: ask_publics(&ins, publics)?,
@@ -176,13 +176,13 @@ pub fn is_witness_valid(
             };
             let steps = ask_trace(ins.width, steps, trace)?;
             ask(16, fits(ins.vars_count, 1, scratch))?;
-            ask_valid(ins.vars_count, &parts, &steps, &sheet)
+            ask_valid(ins.vars_count, &parts, &steps, &params)
         });
     number_of(asked)
 }
 
 /// 31 to 36. `values` holds what each wire carries so far.
-fn ask_valid(vars_count: u32, parts: &Parts, steps: &[Vec<u32>], sheet: &Sheet<'_>) -> Asked {
+fn ask_valid(vars_count: u32, parts: &Parts, steps: &[Vec<u32>], params: &Params<'_>) -> Asked {
     ask(31, steps.len() == parts.queries.len())?;
     let mut values = BTreeMap::new();
     for &(var, unit) in &parts.publics {
@@ -192,7 +192,7 @@ fn ask_valid(vars_count: u32, parts: &Parts, steps: &[Vec<u32>], sheet: &Sheet<'
     }
     for (query, step) in parts.queries.iter().zip(steps) {
         let (input, output) = step.split_at(step.len() / 2);
-        ask(32, sheet.permute(input) == output)?;
+        ask(32, params.permute(input) == output)?;
         for (&var, &unit) in query.iter().zip(step) {
             ask(36, var < vars_count)?;
             let carried = *values.entry(var).or_insert(unit);

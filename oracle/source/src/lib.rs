@@ -19,9 +19,9 @@ use p3_baby_bear::BabyBear;
 use p3_field::integers::QuotientMap;
 use spongefish::Permutation;
 
-pub use sheet::Sheet;
+pub use params::Params;
 
-mod sheet;
+mod params;
 
 /// Makes something of a width that is only known when the program runs.
 macro_rules! at_width {
@@ -201,10 +201,10 @@ pub trait Instance {
     fn parts(&self) -> Parts;
     fn to_bytes(&self) -> Vec<u8>;
     fn value(&self, var: u32) -> Option<u32>;
-    fn is_witness_valid(&self, sheet: &Sheet, trace: &[u32]) -> bool {
-        self.ready_check(sheet, trace)()
+    fn is_witness_valid(&self, params: &Params, trace: &[u32]) -> bool {
+        self.ready_check(params, trace)()
     }
-    fn ready_check<'a>(&'a self, sheet: &'a Sheet, trace: &[u32]) -> Ready<'a, bool>;
+    fn ready_check<'a>(&'a self, params: &'a Params, trace: &[u32]) -> Ready<'a, bool>;
 }
 
 pub trait Witness {
@@ -245,8 +245,8 @@ pub fn witness_from_bytes(width: u32, bytes: &[u8]) -> Result<Box<dyn Witness>, 
     })
 }
 
-pub fn builder(width: u32, sheet: &Sheet) -> Box<dyn Builder> {
-    at_width!(width, W => Box::new(PermutationWitnessBuilder::<Sheet, W>::new(sheet.clone())))
+pub fn builder(width: u32, params: &Params) -> Box<dyn Builder> {
+    at_width!(width, W => Box::new(PermutationWitnessBuilder::<Params, W>::new(params.clone())))
 }
 
 fn message(error: &InvalidRelation) -> String {
@@ -434,13 +434,13 @@ impl<const W: usize> Instance for PermutationInstance<BabyBearUnit, W> {
         self.value(to_var(var)).map(word)
     }
 
-    fn ready_check<'a>(&'a self, sheet: &'a Sheet, trace: &[u32]) -> Ready<'a, bool> {
-        let builder = PermutationWitnessBuilder::<Sheet, W>::new(sheet.clone());
+    fn ready_check<'a>(&'a self, params: &'a Params, trace: &[u32]) -> Ready<'a, bool> {
+        let builder = PermutationWitnessBuilder::<Params, W>::new(params.clone());
         for step in trace.chunks(2 * W) {
             builder.add_permutation(&to_units(&step[..W]), &to_units(&step[W..]));
         }
         let witness = builder.snapshot();
-        Box::new(move || self.is_witness_valid(sheet, &witness))
+        Box::new(move || self.is_witness_valid(params, &witness))
     }
 }
 
@@ -454,7 +454,7 @@ impl<const W: usize> Witness for PermutationWitness<BabyBearUnit, W> {
     }
 }
 
-impl<const W: usize> Builder for PermutationWitnessBuilder<Sheet, W> {
+impl<const W: usize> Builder for PermutationWitnessBuilder<Params, W> {
     fn allocate_permutation(&self, input: &[u32]) -> Vec<u32> {
         let output = self.allocate_permutation(&to_units(input));
         output.iter().map(word).collect()

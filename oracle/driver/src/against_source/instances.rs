@@ -157,9 +157,9 @@ impl Run<'_> {
         self.log.say(|| format!("Ungated {parts:?}"));
         let held = Held::from_parts(width, &parts);
         let instance = source::ungated(width, &parts);
-        let (trace, sheet) =
-            generate::ungated_trace(&mut generator.rng, width, &parts, &generator.sheet);
-        generator.sheet = sheet;
+        let (trace, params) =
+            generate::ungated_trace(&mut generator.rng, width, &parts, &generator.params);
+        generator.params = params;
         self.instance(generator, &held, &*instance, &trace)
     }
 }

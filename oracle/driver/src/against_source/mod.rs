@@ -93,7 +93,7 @@ impl Run<'_> {
         if let Some((held, instance)) = self.gate(&mut generator.rng, &state, &label, &*relation)? {
             let trace = self.builder(&mut generator, &held)?;
             if generator.mood == Mood::Honest {
-                let number = held.check(&trace, &generator.sheet, Room::AMPLE.scratch);
+                let number = held.check(&trace, &generator.params, Room::AMPLE.scratch);
                 same(
                     "an honest list's check",
                     ("reading", number),

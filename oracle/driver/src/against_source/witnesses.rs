@@ -1,7 +1,7 @@
 //! The builder's calls, a trace's bytes, and the check.
 
 use reading::Trace;
-use source::{Instance, Sheet};
+use source::{Instance, Params};
 
 use super::Run;
 use crate::{
@@ -19,7 +19,7 @@ impl Run<'_> {
     /// A step for each query, evaluated or given; the trace that they make.
     pub fn builder(&mut self, generator: &mut Generator, held: &Held) -> Outcome<Vec<u32>> {
         let width = generator.width as usize;
-        let builder = source::builder(generator.width, &generator.sheet);
+        let builder = source::builder(generator.width, &generator.params);
         let mut rec = Trace {
             width: generator.width,
             steps: 0,
@@ -38,7 +38,7 @@ impl Run<'_> {
             } else {
                 self.log.say(|| format!("EvaluateStep({input:?})"));
                 builder.allocate_permutation(&input);
-                reading::evaluate_step(rec, &mut trace, &input, held::lent(&generator.sheet))
+                reading::evaluate_step(rec, &mut trace, &input, held::lent(&generator.params))
             };
             self.seen.answered("builder's steps", answer.number);
             rec = answer.trace;
@@ -90,15 +90,15 @@ impl Run<'_> {
         if held.ins.vars_count > WIRES {
             return Ok(());
         }
-        let sheet = generator.sheet.clone();
-        self.check(held, instance, trace, &sheet)?;
+        let params = generator.params.clone();
+        self.check(held, instance, trace, &params)?;
         for _ in 0..2 {
             let damaged =
-                generate::damaged_trace(&mut generator.rng, generator.width, trace, &sheet);
-            self.check(held, instance, &damaged, &sheet)?;
+                generate::damaged_trace(&mut generator.rng, generator.width, trace, &params);
+            self.check(held, instance, &damaged, &params)?;
         }
         if generator.rng.once_in(4) {
-            let other = generate::sheet(&mut generator.rng, generator.width);
+            let other = generate::params(&mut generator.rng, generator.width);
             self.check(held, instance, trace, &other)?;
         }
         Ok(())
@@ -109,16 +109,16 @@ impl Run<'_> {
         held: &Held,
         instance: &dyn Instance,
         trace: &[u32],
-        sheet: &Sheet,
+        params: &Params,
     ) -> Compared {
         self.log
-            .say(|| format!("Check({held:?}, {trace:?}, {sheet:?})"));
-        let number = held.check(trace, sheet, WIRES as usize);
+            .say(|| format!("Check({held:?}, {trace:?}, {params:?})"));
+        let number = held.check(trace, params, WIRES as usize);
         self.seen.answered("check", number);
         let known = number == 0 || (31..=36).contains(&number);
         holds("a number of the comparison", known, number)?;
         // The source says no more than yes or no.
-        let expected = instance.is_witness_valid(sheet, trace);
+        let expected = instance.is_witness_valid(params, trace);
         same("check", ("reading", number == 0), ("source", expected))
     }
 }

@@ -2,7 +2,7 @@
 
 use std::hint::black_box;
 
-use source::Sheet;
+use source::Params;
 
 use super::{
     best,
@@ -15,14 +15,14 @@ use crate::rng::Rng;
 const MOST: usize = 10_000;
 
 /// A sheet with four rounds of kind 0 at either end and rounds of kind 1 between them.
-pub fn sheet(rng: &mut Rng, width: u32, rounds: u32) -> Sheet {
+pub fn params(rng: &mut Rng, width: u32, rounds: u32) -> Params {
     let mut words = Vec::new();
     for round in 0..rounds {
         words.push(u32::from(round >= 4 && round + 4 < rounds));
         words.extend((0..width).map(|_| rng.word() % reading::P));
     }
     words.extend((0..width * width).map(|_| rng.word() % reading::P));
-    Sheet { rounds, words }
+    Params { rounds, words }
 }
 
 /// Nanoseconds for one evaluation.
@@ -40,7 +40,7 @@ type Timed = fn(u32, usize) -> Times;
 fn times<const W: usize>(rounds: u32, items: usize) -> Times {
     let mut rng = Rng::new(items as u64);
     let width = W as u32;
-    let sheet = sheet(&mut rng, width, rounds);
+    let params = params(&mut rng, width, rounds);
     let inputs: Vec<u32> = (0..items * W).map(|_| rng.word() % reading::P).collect();
     let mut trace = vec![0; items * 2 * W];
     let library = timed(
@@ -48,14 +48,14 @@ fn times<const W: usize>(rounds: u32, items: usize) -> Times {
         |()| {
             let mut rec = sfr::Trace { width, steps: 0 };
             for input in inputs.chunks(W) {
-                let answer = sfr::evaluate_step(rec, &mut trace, input, rounds, &sheet.words);
+                let answer = sfr::evaluate_step(rec, &mut trace, input, rounds, &params.words);
                 assert_eq!(answer.number, 0);
                 rec = answer.trace;
             }
         },
     );
     let source = timed(
-        || source::builder(width, &sheet).ready_steps(&inputs),
+        || source::builder(width, &params).ready_steps(&inputs),
         |ready| ready(),
     );
 
@@ -64,12 +64,12 @@ fn times<const W: usize>(rounds: u32, items: usize) -> Times {
         .chunks(W)
         .map(|input| std::array::from_fn(|i| input[i]))
         .collect();
-    let form = montgomery::sheet(W, rounds as usize, &sheet.words);
+    let form = montgomery::params(W, rounds as usize, &params.words);
     let turn = |state: &mut [u32; W]| {
-        assert_eq!(sfr::permute(width, rounds, &sheet.words, state), 0);
+        assert_eq!(sfr::permute(width, rounds, &params.words, state), 0);
     };
     let turn_reducing = |state: &mut [u32; W]| {
-        reducing::permute(black_box(rounds as usize), &sheet.words, state);
+        reducing::permute(black_box(rounds as usize), &params.words, state);
     };
     let turn_montgomery = |state: &mut [u32; W]| {
         montgomery::permute(black_box(rounds as usize), &form, state);
@@ -106,12 +106,12 @@ pub fn tables(last: usize) {
     println!("\n### evaluate\n");
     println!(
         "Nanoseconds for one evaluation, up to {MOST} of them. `library` is `sfr_evaluate_step`, which asks question \
-         17 of the whole sheet each time and appends the step; `permute` is `sfr_permute`, which asks it too and turns \
+         17 of the whole params each time and appends the step; `permute` is `sfr_permute`, which asks it too and turns \
          a state in place. `source` is the builder's call with our stand-in for the permutation \
-         (source/src/sheet.rs: words made units as they are met, every sum and product reduced, a list per round); \
+         (source/src/params.rs: words made units as they are met, every sum and product reduced, a list per round); \
          the sources have no permutation of their own. `reducing` and `montgomery` are plain forms of ours \
          (driver/src/bench/forms.rs) that ask nothing, know the width as a type, and turn a state in place; the \
-         Montgomery form is given a sheet in that form.\n"
+         Montgomery form is given a params in that form.\n"
     );
     println!(
         "| w | R | evaluations | library | permute | source | reducing | montgomery | source/library | \

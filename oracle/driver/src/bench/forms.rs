@@ -66,7 +66,7 @@ pub mod montgomery {
     }
 
     /// The sheet with every unit in that form.
-    pub fn sheet(width: usize, rounds: usize, words: &[u32]) -> Vec<u32> {
+    pub fn params(width: usize, rounds: usize, words: &[u32]) -> Vec<u32> {
         let kinds = rounds * (width + 1);
         let words = words.iter().enumerate();
         words
@@ -77,9 +77,9 @@ pub mod montgomery {
             .collect()
     }
 
-    pub fn permute<const W: usize>(rounds: usize, sheet: &[u32], state: &mut [u32; W]) {
+    pub fn permute<const W: usize>(rounds: usize, params: &[u32], state: &mut [u32; W]) {
         let mut x = state.map(form);
-        let (rounds, matrix) = sheet.split_at(rounds * (W + 1));
+        let (rounds, matrix) = params.split_at(rounds * (W + 1));
         for round in rounds.chunks_exact(W + 1) {
             let raised = if round[0] == 0 { W } else { 1 };
             for i in 0..W {

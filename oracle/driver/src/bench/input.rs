@@ -1,6 +1,6 @@
 //! Inputs of so many items, and the tables of all calls but evaluation.
 
-use source::{Parts, Sheet};
+use source::{Params, Parts};
 
 use super::{best, evaluate, table, timed, Line};
 use crate::{held::Held, library::instance::to_library, rng::Rng};
@@ -20,13 +20,13 @@ struct Honest {
     parts: Parts,
     slots: Vec<u32>,
     trace: Vec<u32>,
-    sheet: Sheet,
+    params: Params,
 }
 
 impl Honest {
     fn new(items: usize, rounds: u32) -> Self {
         let mut rng = Rng::new(items as u64);
-        let sheet = evaluate::sheet(&mut rng, WIDTH, rounds);
+        let params = evaluate::params(&mut rng, WIDTH, rounds);
         let vars_count = 1 + items * (1 + W);
         let mut values = vec![0; vars_count];
         let mut slots = vec![u32::MAX; vars_count];
@@ -53,7 +53,7 @@ impl Honest {
                 *value = values[var];
             }
             trace.extend(state);
-            let number = sfr::permute(WIDTH, sheet.rounds, &sheet.words, &mut state);
+            let number = sfr::permute(WIDTH, params.rounds, &params.words, &mut state);
             assert_eq!(number, 0);
             trace.extend(state);
             queries.extend((first..first + W).map(|var| var as u32));
@@ -79,7 +79,7 @@ impl Honest {
             parts,
             slots,
             trace,
-            sheet,
+            params,
         }
     }
 
@@ -398,7 +398,7 @@ fn gate(items: usize) -> Line {
 fn check(items: usize, rounds: u32) -> Line {
     let honest = Honest::new(items, rounds);
     let held = honest.held();
-    let (trace, sheet) = (&honest.trace, &honest.sheet);
+    let (trace, params) = (&honest.trace, &honest.params);
     let mut scratch = vec![OLD; honest.slots.len()];
     let library = timed(
         || (),
@@ -411,15 +411,15 @@ fn check(items: usize, rounds: u32) -> Line {
                 &held.equations,
                 items as u32,
                 trace,
-                sheet.rounds,
-                &sheet.words,
+                params.rounds,
+                &params.words,
                 &mut scratch,
             );
             assert_eq!(answer, 0);
         },
     );
     let instance = source::ungated(WIDTH, &honest.parts);
-    let ready = instance.ready_check(sheet, trace);
+    let ready = instance.ready_check(params, trace);
     let source = timed(|| (), |()| assert!(ready()));
     let [library, source] = best([library, source]);
     let words = held.publics.len() + held.queries.len() + held.equations.len() + trace.len();

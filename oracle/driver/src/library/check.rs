@@ -1,6 +1,6 @@
 //! `check`: whether a trace is a witness, on gated parts and on others.
 
-use source::Sheet;
+use source::Params;
 
 use super::instance::to_library;
 use crate::{
@@ -31,19 +31,19 @@ fn list(seed: u64, seen: &mut Seen, log: &Log) -> Compared {
             &mut generator.rng,
             &gated,
             &trace,
-            &generator.sheet,
+            &generator.params,
             seen,
             log,
         )?;
     }
     let rng = &mut generator.rng;
     let parts = generate::ungated(rng, width);
-    let (trace, sheet) = generate::ungated_trace(rng, width, &parts, &generator.sheet);
+    let (trace, params) = generate::ungated_trace(rng, width, &parts, &generator.params);
     checks(
         rng,
         &Held::from_parts(width, &parts),
         &trace,
-        &sheet,
+        &params,
         seen,
         log,
     )
@@ -54,16 +54,16 @@ fn checks(
     rng: &mut Rng,
     held: &Held,
     trace: &[u32],
-    sheet: &Sheet,
+    params: &Params,
     seen: &mut Seen,
     log: &Log,
 ) -> Compared {
     let width = held.ins.width;
     let steps = |trace: &[u32]| trace.len() as u32 / (2 * width);
-    check(rng, held, steps(trace), trace, sheet, seen, log)?;
+    check(rng, held, steps(trace), trace, params, seen, log)?;
     for _ in 0..4 {
-        let mut damaged = generate::damaged_trace(rng, width, trace, sheet);
-        check(rng, held, steps(&damaged), &damaged, sheet, seen, log)?;
+        let mut damaged = generate::damaged_trace(rng, width, trace, params);
+        check(rng, held, steps(&damaged), &damaged, params, seen, log)?;
 
         let mut other = held.clone();
         if rng.once_in(2) {
@@ -75,11 +75,11 @@ fn checks(
             1 => astray::word(rng, &mut damaged),
             _ => {}
         }
-        let other_sheet = match rng.below(6) {
-            0 => astray::sheet(rng, width),
-            _ => sheet.clone(),
+        let other_params = match rng.below(6) {
+            0 => astray::params(rng, width),
+            _ => params.clone(),
         };
-        check(rng, &other, count, &damaged, &other_sheet, seen, log)?;
+        check(rng, &other, count, &damaged, &other_params, seen, log)?;
     }
     Ok(())
 }
@@ -89,7 +89,7 @@ fn check(
     held: &Held,
     steps: u32,
     trace: &[u32],
-    sheet: &Sheet,
+    params: &Params,
     seen: &mut Seen,
     log: &Log,
 ) -> Compared {
@@ -97,7 +97,7 @@ fn check(
         0 => astray::near_len(rng, held.ins.vars_count.min(999) as usize),
         _ => Room::AMPLE.scratch / 8,
     };
-    log.say(|| format!("Check({held:?}, {steps}, {trace:?}, {sheet:?}), {scratch} scratch"));
+    log.say(|| format!("Check({held:?}, {steps}, {trace:?}, {params:?}), {scratch} scratch"));
     let (mut given, mut expected) = (vec![DIRT; scratch], vec![DIRT; scratch]);
     let library = sfr::is_witness_valid(
         to_library(held.ins),
@@ -107,8 +107,8 @@ fn check(
         &held.equations,
         steps,
         trace,
-        sheet.rounds,
-        &sheet.words,
+        params.rounds,
+        &params.words,
         &mut given,
     );
     let reading = reading::is_witness_valid(
@@ -119,7 +119,7 @@ fn check(
         &held.equations,
         steps,
         trace,
-        held::lent(sheet),
+        held::lent(params),
         &mut expected,
     );
     seen.answered("check", reading);

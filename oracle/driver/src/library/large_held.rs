@@ -32,7 +32,7 @@ const INS: Instance = Instance {
 };
 const REC: Trace = Trace { width: 1, steps: 0 };
 /// A sheet of width 1 without rounds.
-const SHEET: [u32; 1] = [1];
+const PARAMS: [u32; 1] = [1];
 
 pub fn run(_: &Options) -> bool {
     let mut cases = 0;
@@ -55,7 +55,7 @@ struct Lent<'a> {
     queries: &'a [u32],
     equations: &'a [u32],
     trace: &'a [u32],
-    sheet: &'a [u32],
+    params: &'a [u32],
     label: &'a [u8],
 }
 
@@ -65,7 +65,7 @@ fn read_only(cases: &mut usize) -> Compared {
     let text = vec![0u8; 1 << 32];
     let few = Lent {
         slots: &[0],
-        sheet: &SHEET,
+        params: &PARAMS,
         ..Lent::default()
     };
     let mut lent = vec![Lent {
@@ -97,7 +97,7 @@ fn read_only(cases: &mut usize) -> Compared {
         ]);
         // A sheet or list of so many words is never sound: 2 or another number.
         lent.push(Lent {
-            sheet: store,
+            params: store,
             ..few
         });
     }
@@ -135,19 +135,19 @@ fn check(lent: Lent, scratch: &mut [u32]) -> Compared {
         queries,
         equations,
         trace,
-        sheet,
+        params,
         label,
         ..
     } = lent;
     let ins = to_library(INS);
     let library = sfr::is_witness_valid(
-        ins, label, publics, queries, equations, 0, trace, 0, sheet, scratch,
+        ins, label, publics, queries, equations, 0, trace, 0, params, scratch,
     );
     let given = (library, ends(scratch));
     dirty(scratch);
-    let words = reading::Sheet {
+    let words = reading::Params {
         rounds: 0,
-        words: sheet,
+        words: params,
     };
     let reading = reading::is_witness_valid(
         INS, label, publics, queries, equations, 0, trace, words, scratch,
@@ -193,14 +193,14 @@ fn write(lent: Lent) -> Compared {
 
 /// The builder's calls, with the sheet or a list that is too long; their trace is short.
 fn steps(lent: Lent) -> Compared {
-    let words = reading::Sheet {
+    let words = reading::Params {
         rounds: 0,
-        words: lent.sheet,
+        words: lent.params,
     };
     for input in [&[0][..], lent.trace] {
         let (mut given, mut expected) = ([7; 4], [7; 4]);
         let rec = witness::to_library(REC);
-        let library = sfr::evaluate_step(rec, &mut given, input, 0, lent.sheet);
+        let library = sfr::evaluate_step(rec, &mut given, input, 0, lent.params);
         let reading = reading::evaluate_step(REC, &mut expected, input, words);
         let library = (witness::from_library(library), given);
         let reading = ((reading.number, reading.trace), expected);
@@ -223,7 +223,7 @@ fn cleared(cases: &mut usize) -> Compared {
     let mut long = vec![0u32; LIMIT + 1];
     let lent = Lent {
         slots: &[0],
-        sheet: &SHEET,
+        params: &PARAMS,
         ..Lent::default()
     };
     let bytes: Vec<u8> = b"SFRI\x01"

@@ -2,7 +2,7 @@
 //! between: calls, gate, builder, bytes out and in, and the check. Each side goes on with
 //! what it made itself.
 
-use source::{Instance, Sheet};
+use source::{Instance, Params};
 
 use super::{
     instance::{from_library, to_library},
@@ -97,7 +97,7 @@ impl Run<'_> {
         if let Some((held, instance)) = both(number, held, relation.compile())? {
             let trace = self.builder(&generator, &held)?;
             if generator.mood == Mood::Honest {
-                let number = check(&held, &trace, &generator.sheet);
+                let number = check(&held, &trace, &generator.params);
                 same(
                     "an honest list's check",
                     ("library", number),
@@ -113,8 +113,8 @@ impl Run<'_> {
         let held = Held::from_parts(width, &parts);
         let instance = source::ungated(width, &parts);
         let rng = &mut generator.rng;
-        let (trace, sheet) = generate::ungated_trace(rng, width, &parts, &generator.sheet);
-        generator.sheet = sheet;
+        let (trace, params) = generate::ungated_trace(rng, width, &parts, &generator.params);
+        generator.params = params;
         self.instance(&mut generator, &held, &*instance, &trace)
     }
 
@@ -144,8 +144,8 @@ impl Run<'_> {
 
     /// A step for each query, evaluated or given, sent through bytes.
     fn builder(&mut self, generator: &Generator, held: &Held) -> Outcome<Vec<u32>> {
-        let (width, sheet) = (generator.width, &generator.sheet);
-        let builder = source::builder(width, sheet);
+        let (width, params) = (generator.width, &generator.params);
+        let builder = source::builder(width, params);
         let mut rec = sfr::Trace { width, steps: 0 };
         let (_, queries, _) = held.words();
         let mut trace = vec![DIRT; queries.len()];
@@ -160,7 +160,7 @@ impl Run<'_> {
             } else {
                 self.log.say(|| format!("EvaluateStep({input:?})"));
                 builder.allocate_permutation(&input);
-                sfr::evaluate_step(rec, &mut trace, &input, sheet.rounds, &sheet.words)
+                sfr::evaluate_step(rec, &mut trace, &input, params.rounds, &params.words)
             };
             self.seen.answered("builder's steps", answer.number);
             rec = answer.trace;
@@ -266,25 +266,25 @@ impl Run<'_> {
         if held.ins.vars_count as usize > Room::AMPLE.scratch {
             return Ok(());
         }
-        let sheet = generator.sheet.clone();
+        let params = generator.params.clone();
         for i in 0..3 {
             let damaged =
-                generate::damaged_trace(&mut generator.rng, generator.width, trace, &sheet);
+                generate::damaged_trace(&mut generator.rng, generator.width, trace, &params);
             let trace = if i == 0 { trace } else { &damaged };
             self.log
-                .say(|| format!("Check({held:?}, {trace:?}, {sheet:?})"));
-            let number = check(held, trace, &sheet);
+                .say(|| format!("Check({held:?}, {trace:?}, {params:?})"));
+            let number = check(held, trace, &params);
             self.seen.answered("check", number);
             let known = number == 0 || (31..=36).contains(&number);
             holds("a number of the comparison", known, number)?;
-            let expected = instance.is_witness_valid(&sheet, trace);
+            let expected = instance.is_witness_valid(&params, trace);
             same("check", ("library", number == 0), ("source", expected))?;
         }
         Ok(())
     }
 }
 
-fn check(held: &Held, trace: &[u32], sheet: &Sheet) -> u32 {
+fn check(held: &Held, trace: &[u32], params: &Params) -> u32 {
     let steps = trace.len() / (2 * held.ins.width as usize);
     sfr::is_witness_valid(
         to_library(held.ins),
@@ -294,8 +294,8 @@ fn check(held: &Held, trace: &[u32], sheet: &Sheet) -> u32 {
         &held.equations,
         steps as u32,
         trace,
-        sheet.rounds,
-        &sheet.words,
+        params.rounds,
+        &params.words,
         &mut vec![DIRT; Room::AMPLE.scratch],
     )
 }

@@ -1,7 +1,7 @@
 //! `witness`: permutations by their parameters, the builder's steps, and a trace's bytes.
 
 use reading::Trace;
-use source::Sheet;
+use source::Params;
 
 use crate::{
     astray,
@@ -44,19 +44,19 @@ struct Steps {
 fn list(seed: u64, seen: &mut Seen, log: &Log) -> Compared {
     let mut rng = Rng::new(seed);
     let width = rng.width();
-    let sheet = generate::sheet(&mut rng, width);
+    let params = generate::params(&mut rng, width);
     let room = rng.below(12 * width as usize + 2);
     let mut steps = Steps {
         rec: Trace { width, steps: 0 },
         trace: vec![DIRT; room],
     };
     for _ in 0..rng.between(1, 12) {
-        step(&mut rng, &mut steps, &sheet, seen, log)?;
+        step(&mut rng, &mut steps, &params, seen, log)?;
         let mut other = steps.clone();
         lead_astray(&mut rng, &mut other);
-        let other_sheet = astray::sheet(&mut rng, width);
-        step(&mut rng, &mut other, &other_sheet, seen, log)?;
-        permute(&mut rng, width, &other_sheet, seen, log)?;
+        let other_params = astray::params(&mut rng, width);
+        step(&mut rng, &mut other, &other_params, seen, log)?;
+        permute(&mut rng, width, &other_params, seen, log)?;
         let bytes = write(&mut rng, &steps, seen, log)?;
         write(&mut rng, &other, seen, log)?;
         read(&mut rng, width, &bytes, seen, log)?;
@@ -94,7 +94,7 @@ fn units(rng: &mut Rng, width: u32) -> Vec<u32> {
 }
 
 /// One of the builder's two calls.
-fn step(rng: &mut Rng, steps: &mut Steps, sheet: &Sheet, seen: &mut Seen, log: &Log) -> Compared {
+fn step(rng: &mut Rng, steps: &mut Steps, params: &Params, seen: &mut Seen, log: &Log) -> Compared {
     let rec = steps.rec;
     let width = rec.width.clamp(1, 24);
     let (input, output) = (units(rng, width), units(rng, width));
@@ -102,13 +102,13 @@ fn step(rng: &mut Rng, steps: &mut Steps, sheet: &Sheet, seen: &mut Seen, log: &
     let (call, library, reading) = if rng.once_in(2) {
         log.say(|| {
             format!(
-                "EvaluateStep({rec:?}, {:?}, {input:?}, {sheet:?})",
+                "EvaluateStep({rec:?}, {:?}, {input:?}, {params:?})",
                 steps.trace
             )
         });
-        let (rounds, words) = (sheet.rounds, &sheet.words);
+        let (rounds, words) = (params.rounds, &params.words);
         let library = sfr::evaluate_step(to_library(rec), &mut trace, &input, rounds, words);
-        let reading = reading::evaluate_step(rec, &mut steps.trace, &input, held::lent(sheet));
+        let reading = reading::evaluate_step(rec, &mut steps.trace, &input, held::lent(params));
         ("evaluate a step", library, reading)
     } else {
         log.say(|| {
@@ -130,17 +130,17 @@ fn step(rng: &mut Rng, steps: &mut Steps, sheet: &Sheet, seen: &mut Seen, log: &
 }
 
 /// The library turns a state in place: the reading's output list is lent as long as its input.
-fn permute(rng: &mut Rng, width: u32, sheet: &Sheet, seen: &mut Seen, log: &Log) -> Compared {
+fn permute(rng: &mut Rng, width: u32, params: &Params, seen: &mut Seen, log: &Log) -> Compared {
     let input = units(rng, width);
     let width = if rng.once_in(10) {
         astray::width(rng)
     } else {
         width
     };
-    log.say(|| format!("Permute({width}, {sheet:?}, {input:?})"));
+    log.say(|| format!("Permute({width}, {params:?}, {input:?})"));
     let (mut given, mut expected) = (input.clone(), input.clone());
-    let library = sfr::permute(width, sheet.rounds, &sheet.words, &mut given);
-    let reading = reading::permute(width, held::lent(sheet), &input, &mut expected);
+    let library = sfr::permute(width, params.rounds, &params.words, &mut given);
+    let reading = reading::permute(width, held::lent(params), &input, &mut expected);
     seen.answered("permute", reading);
     let (library, reading) = ((library, given), (reading, expected));
     same("permute", ("library", library), ("reading", reading))

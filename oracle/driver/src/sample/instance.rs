@@ -2,7 +2,7 @@
 //! the check, with all that is lent to the call and with what the second reading says of it.
 
 use reading::Instance;
-use source::Sheet;
+use source::Params;
 
 use super::{
     trace::{damaged, output, short_sheet, small_width, DIRTY_BYTE},
@@ -91,14 +91,14 @@ impl Sample {
         }
     }
 
-    fn check(&mut self, held: &Held, steps: u32, trace: &[u32], sheet: &Sheet, scratch: usize) {
+    fn check(&mut self, held: &Held, steps: u32, trace: &[u32], params: &Params, scratch: usize) {
         self.case(41);
         self.held(held);
         let mut scratch = vec![DIRT; scratch];
-        for store in [trace, &sheet.words, &scratch] {
+        for store in [trace, &params.words, &scratch] {
             self.list(store);
         }
-        self.words.extend([steps, sheet.rounds]);
+        self.words.extend([steps, params.rounds]);
         let number = reading::is_witness_valid(
             held.ins,
             &held.label,
@@ -107,7 +107,7 @@ impl Sample {
             &held.equations,
             steps,
             trace,
-            held::lent(sheet),
+            held::lent(params),
             &mut scratch,
         );
         self.number(number);
@@ -119,9 +119,9 @@ impl Sample {
     pub fn random_instance(&mut self, rng: &mut Rng, writes: &mut Rng) {
         let width = small_width(rng);
         let mut generator = Generator::of_width(Rng::new(rng.next()), width);
-        generator.sheet = generate::sheet(rng, width);
-        while generator.sheet.words.len() > 100 {
-            generator.sheet = generate::sheet(rng, width);
+        generator.params = generate::params(rng, width);
+        while generator.params.words.len() > 100 {
+            generator.params = generate::params(rng, width);
         }
         let state = generator.relation(small_stores(rng, width as usize), 16);
         let label = generate::label(rng);
@@ -132,14 +132,14 @@ impl Sample {
             let trace = generator.trace(&gated);
             self.random_write_instance(writes, &gated);
             self.random_read_instance(rng, &gated);
-            return self.random_check(rng, &gated, trace, &generator.sheet);
+            return self.random_check(rng, &gated, trace, &generator.params);
         }
         let parts = generate::ungated(rng, width);
-        let (trace, sheet) = generate::ungated_trace(rng, width, &parts, &generator.sheet);
+        let (trace, params) = generate::ungated_trace(rng, width, &parts, &generator.params);
         let held = Held::from_parts(width, &parts);
         self.random_write_instance(writes, &held);
         self.random_read_instance(rng, &held);
-        self.random_check(rng, &held, trace, &sheet);
+        self.random_check(rng, &held, trace, &params);
     }
 
     fn random_gate(&mut self, rng: &mut Rng, state: &State, label: &[u8]) {
@@ -199,17 +199,17 @@ impl Sample {
         self.read_instance(width, bytes, rooms);
     }
 
-    fn random_check(&mut self, rng: &mut Rng, held: &Held, trace: Vec<u32>, sheet: &Sheet) {
+    fn random_check(&mut self, rng: &mut Rng, held: &Held, trace: Vec<u32>, params: &Params) {
         let width = held.ins.width;
-        let (mut held, mut trace, mut sheet) = (held.clone(), trace, sheet.clone());
+        let (mut held, mut trace, mut params) = (held.clone(), trace, params.clone());
         if rng.once_in(3) {
-            trace = generate::damaged_trace(rng, width, &trace, &sheet);
+            trace = generate::damaged_trace(rng, width, &trace, &params);
         }
         let mut steps = trace.len() as u32 / (2 * width);
         match rng.below(12) {
             0 => steps = astray::near(rng, steps),
             1 => astray::word(rng, &mut trace),
-            2 => sheet = short_sheet(rng, width),
+            2 => params = short_sheet(rng, width),
             3 | 4 => astray::held(rng, &mut held),
             5 if rng.once_in(3) => held.ins.width = *rng.pick(&[0, 25, u32::MAX]),
             _ => {}
@@ -219,7 +219,7 @@ impl Sample {
             0 => astray::near_len(rng, vars),
             _ => vars + rng.below(3),
         };
-        self.check(&held, steps, &trace, &sheet, scratch);
+        self.check(&held, steps, &trace, &params, scratch);
     }
 }
 

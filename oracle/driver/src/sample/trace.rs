@@ -2,13 +2,13 @@
 //! that is lent to the call and with what the second reading says of it.
 
 use reading::{Trace, Written};
-use source::Sheet;
+use source::Params;
 
 use super::Sample;
 use crate::{astray, calls::DIRT, generate, held, rng::Rng};
 
 /// The longest sheet of a case.
-const SHEET: usize = 300;
+const PARAMS: usize = 300;
 
 /// What every byte of an output holds before a write.
 pub const DIRTY_BYTE: u8 = 0xEE;
@@ -22,14 +22,14 @@ pub fn small_width(rng: &mut Rng) -> u32 {
 }
 
 /// A sheet, sound or nearly so, and not long.
-pub fn short_sheet(rng: &mut Rng, width: u32) -> Sheet {
+pub fn short_sheet(rng: &mut Rng, width: u32) -> Params {
     loop {
-        let sheet = match rng.below(3) {
-            0 => astray::sheet(rng, width),
-            _ => generate::sheet(rng, width),
+        let params = match rng.below(3) {
+            0 => astray::params(rng, width),
+            _ => generate::params(rng, width),
         };
-        if sheet.words.len() <= SHEET {
-            return sheet;
+        if params.words.len() <= PARAMS {
+            return params;
         }
     }
 }
@@ -70,14 +70,14 @@ impl Sample {
         self.words.extend([rec.width, rec.steps]);
     }
 
-    fn evaluate_step(&mut self, rec: Trace, mut trace: Vec<u32>, input: &[u32], sheet: &Sheet) {
+    fn evaluate_step(&mut self, rec: Trace, mut trace: Vec<u32>, input: &[u32], params: &Params) {
         self.case(21);
         self.trace_record(rec);
         self.list(&trace);
         self.list(input);
-        self.list(&sheet.words);
-        self.words.push(sheet.rounds);
-        let answer = reading::evaluate_step(rec, &mut trace, input, held::lent(sheet));
+        self.list(&params.words);
+        self.words.push(params.rounds);
+        let answer = reading::evaluate_step(rec, &mut trace, input, held::lent(params));
         self.number(answer.number);
         self.trace_record(answer.trace);
         self.words.extend(trace);
@@ -147,8 +147,8 @@ impl Sample {
                 _ => astray::word(rng, &mut trace),
             }
         }
-        let sheet = short_sheet(rng, width);
-        self.evaluate_step(rec, trace.clone(), &units(rng, width), &sheet);
+        let params = short_sheet(rng, width);
+        self.evaluate_step(rec, trace.clone(), &units(rng, width), &params);
         self.append_step(rec, trace.clone(), &units(rng, width), &units(rng, width));
         self.random_write(writes, rec, trace);
         self.random_read(rng, width, &bytes);

@@ -3,7 +3,7 @@
 use super::*;
 
 /// w = 2, kinds 1 and 0.
-const TWO: Sheet<'static> = Sheet {
+const TWO: Params<'static> = Params {
     rounds: 2,
     words: &[1, 1, 2, 0, 0, 3, 1, 2, 3, 4],
 };
@@ -19,7 +19,7 @@ fn rounds_by_hand() {
     assert_eq!(permute(2, TWO, &[1, 1], &mut out), 0);
     assert_eq!(out, expected);
     // No rounds: the input, whatever the matrix is.
-    let none = Sheet {
+    let none = Params {
         rounds: 0,
         words: &[0; 4],
     };
@@ -28,11 +28,11 @@ fn rounds_by_hand() {
 }
 
 #[test]
-fn sheets_that_are_refused() {
+fn params_that_are_refused() {
     let number = |rounds, words: &[u32]| {
-        let sheet = Sheet { rounds, words };
+        let params = Params { rounds, words };
         let mut out = [DIRT];
-        let number = permute(1, sheet, &[0], &mut out);
+        let number = permute(1, params, &[0], &mut out);
         assert!(number == 0 || out == [DIRT]);
         number
     };
@@ -53,21 +53,21 @@ fn builder() {
     let mut rec = Trace { width: 1, steps: 0 };
     let mut trace = [DIRT; 7];
     for input in [2, 3] {
-        let answer = evaluate_step(rec, &mut trace, &[input], SHEET);
+        let answer = evaluate_step(rec, &mut trace, &[input], PARAMS);
         assert_eq!(answer.number, 0);
         rec = answer.trace;
     }
     rec = append_step(rec, &mut trace, &[8], &[9]).trace;
     assert_eq!(rec.steps, 3);
     assert_eq!(trace, [2, 5, 3, 640, 8, 9, DIRT]);
-    let bad = Sheet {
+    let bad = Params {
         rounds: 129,
         words: &[],
     };
     assert_eq!(evaluate_step(rec, &mut trace, &[P, 0], bad).number, 9);
     assert_eq!(evaluate_step(rec, &mut trace, &[P], bad).number, 4);
     assert_eq!(evaluate_step(rec, &mut trace, &[0], bad).number, 17);
-    assert_eq!(evaluate_step(rec, &mut trace, &[0], SHEET).number, 10);
+    assert_eq!(evaluate_step(rec, &mut trace, &[0], PARAMS).number, 10);
     assert_eq!(append_step(rec, &mut trace, &[0], &[P, 0]).number, 9);
     assert_eq!(append_step(rec, &mut trace, &[0], &[P]).number, 4);
     assert_eq!(append_step(rec, &mut trace, &[0], &[0]).number, 10);
@@ -79,7 +79,7 @@ fn builder() {
 }
 
 /// No rounds, so that a step is an evaluation where its halves are equal.
-const SAME: Sheet<'static> = Sheet {
+const SAME: Params<'static> = Params {
     rounds: 0,
     words: &[0],
 };
@@ -130,7 +130,7 @@ fn every_cell_is_compared() {
     // 0 is a value like any other: it is remembered.
     assert_eq!(twice.check(2, &[0, 0, 1, 1], SAME), 33);
     // Wire 1 on both sides of one query, under a sheet that gives 640 for 3.
-    assert_eq!(held(3, &[], &[1, 1], &[]).check(1, &[3, 640], SHEET), 33);
+    assert_eq!(held(3, &[], &[1, 1], &[]).check(1, &[3, 640], PARAMS), 33);
 }
 
 #[test]
@@ -153,22 +153,22 @@ fn equations_term_by_term() {
 #[test]
 fn numbers_before_the_comparison() {
     let a = instance_a();
-    let bad = Sheet {
+    let bad = Params {
         rounds: 1,
         words: &[],
     };
     // A trace that is too long for its store, a bad sheet, a unit that is none, no steps.
     assert_eq!(a.check(2, &[P, P], bad), 2);
     assert_eq!(a.check(1, &[P, P], bad), 17);
-    assert_eq!(a.check(1, &[P, P], SHEET), 11);
+    assert_eq!(a.check(1, &[P, P], PARAMS), 11);
     let mut held = a.clone();
     held.ins.vars_count = 65;
-    assert_eq!(held.check(0, &[], SHEET), 16);
+    assert_eq!(held.check(0, &[], PARAMS), 16);
     held.label = vec![0xC0, 0x80];
-    assert_eq!(held.check(0, &[], SHEET), 11);
+    assert_eq!(held.check(0, &[], PARAMS), 11);
     held.ins.width = 0;
-    assert_eq!(held.check(0, &[], SHEET), 1);
+    assert_eq!(held.check(0, &[], PARAMS), 1);
     let mut held = a;
     held.publics[1] = P;
-    assert_eq!(held.check(0, &[], SHEET), 11);
+    assert_eq!(held.check(0, &[], PARAMS), 11);
 }

@@ -29,7 +29,7 @@ fn weight_0_on_an_unbound_wire() {
     assert_eq!(stores.equation(&[(1, 0)], 0), 0);
     let (number, held) = stores.gate();
     assert_eq!(number, 0);
-    assert_eq!(held.check(0, &[], SHEET), 34);
+    assert_eq!(held.check(0, &[], PARAMS), 34);
 
     let mut stores = Stores::new(1);
     stores.allocate(1);
@@ -44,7 +44,7 @@ fn no_terms() {
         assert_eq!(stores.equation(&[], image), 0);
         let (gated, held) = stores.gate();
         assert_eq!(gated, 0);
-        assert_eq!(held.check(0, &[], SHEET), number);
+        assert_eq!(held.check(0, &[], PARAMS), number);
     }
 }
 
@@ -64,10 +64,10 @@ fn labels_when_read() {
 }
 
 #[test]
-fn sheet() {
+fn params() {
     for (input, output) in [(2, 5), (3, 640)] {
         let mut out = [DIRT];
-        assert_eq!(permute(1, SHEET, &[input], &mut out), 0);
+        assert_eq!(permute(1, PARAMS, &[input], &mut out), 0);
         assert_eq!(out, [output]);
     }
 }
@@ -75,10 +75,10 @@ fn sheet() {
 #[test]
 fn check_of_a() {
     let a = instance_a();
-    assert_eq!(a.check(1, &[2, 5], SHEET), 0);
-    assert_eq!(a.check(0, &[], SHEET), 31);
-    assert_eq!(a.check(1, &[2, 6], SHEET), 32);
-    assert_eq!(a.check(1, &[3, 640], SHEET), 33);
+    assert_eq!(a.check(1, &[2, 5], PARAMS), 0);
+    assert_eq!(a.check(0, &[], PARAMS), 31);
+    assert_eq!(a.check(1, &[2, 6], PARAMS), 32);
+    assert_eq!(a.check(1, &[3, 640], PARAMS), 33);
 }
 
 #[test]

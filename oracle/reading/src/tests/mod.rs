@@ -137,7 +137,7 @@ impl Held {
         out
     }
 
-    fn check(&self, steps: u32, trace: &[u32], sheet: Sheet<'_>) -> u32 {
+    fn check(&self, steps: u32, trace: &[u32], params: Params<'_>) -> u32 {
         let mut scratch = vec![DIRT; 64];
         let number = is_witness_valid(
             self.ins,
@@ -147,7 +147,7 @@ impl Held {
             &self.equations,
             steps,
             trace,
-            sheet,
+            params,
             &mut scratch,
         );
         assert!(all_zero(&scratch));
@@ -167,7 +167,7 @@ fn all_zero(words: &[u32]) -> bool {
 }
 
 /// w = 1, one round, kind 0, constant 2013265920, matrix 5.
-const SHEET: Sheet<'static> = Sheet {
+const PARAMS: Params<'static> = Params {
     rounds: 1,
     words: &[0, 2_013_265_920, 5],
 };

@@ -11,12 +11,12 @@ use crate::{to_unit, to_units, word};
 /// A permutation by its parameters: `rounds` times a kind and a constant per element, then
 /// the matrix row by row.
 #[derive(Clone, Debug)]
-pub struct Sheet {
+pub struct Params {
     pub rounds: u32,
     pub words: Vec<u32>,
 }
 
-impl Sheet {
+impl Params {
     /// What the sheet turns `input` into.
     pub fn permute(&self, input: &[u32]) -> Vec<u32> {
         let mut state: Vec<BabyBearUnit> = input.iter().copied().map(to_unit).collect();
@@ -44,11 +44,11 @@ impl Sheet {
     }
 }
 
-impl<const W: usize> Permutation<W> for Sheet {
+impl<const W: usize> Permutation<W> for Params {
     type U = BabyBearUnit;
 
     fn permute(&self, state: &[BabyBearUnit; W]) -> [BabyBearUnit; W] {
         let input: Vec<u32> = state.iter().map(word).collect();
-        to_units(&Sheet::permute(self, &input))
+        to_units(&Params::permute(self, &input))
     }
 }
