@@ -19,7 +19,7 @@ use Rattle.permutation.specs.declared.PermutationRelation.{PermutationRelation}
 use Rattle.instance.specs.Parts.{Parts, pairWords}
 use Rattle.instance.specs.Held.{labelAsks, equationsSound, slotsSound}
 use Rattle.instance.specs.Validated.{gateAsks}
-use Rattle.instance.specs.Gate.{noInstance}
+use Rattle.instance.specs.Looks.{noInstance}
 use Rattle.instance.specs.declared.PermutationInstance.{PermutationInstance}
 use Rattle.compile.specs.declared.Compiled.{Compiled}
 

@@ -10,7 +10,7 @@ use Rattle.narg.specs.Reader.{Got, got, stop}
 use Rattle.expr.specs.Equation.{equationsWords}
 use Rattle.permutation.specs.declared.Outcome.the-variants.{Accepted, Refused}
 use Rattle.instance.specs.Parts.{Parts, pairWords}
-use Rattle.instance.specs.Gate.{noInstance}
+use Rattle.instance.specs.Looks.{noInstance}
 use Rattle.instance.specs.declared.PermutationInstance.{PermutationInstance}
 use Rattle.header.specs.Form.{version}
 use Rattle.decoding.specs.Read.{Rooms, File, readInstance, readWitness}

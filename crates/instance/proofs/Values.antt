@@ -13,7 +13,7 @@ use Rattle.allocator.specs.Slots.{Pair, pair}
 use Rattle.permutation.specs.declared.VarValue.{VarValue}
 use Rattle.permutation.specs.declared.VarValue.the-variants as varValue
 use Rattle.instance.specs.Parts.{pairsAt}
-use Rattle.instance.specs.Gate.{lastValue, publicValueAsks, publicValueNo, publicValue}
+use Rattle.instance.specs.Looks.{lastValue, publicValueAsks, publicValueNo, publicValue}
 use Rattle.instance.specs.declared.PermutationInstance.{PermutationInstance}
 use Rattle.instance.proofs.Parts.{pairsAt-take}
 

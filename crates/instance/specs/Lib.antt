@@ -2,4 +2,4 @@ pub mod Parts
 pub mod Held
 pub mod Marks
 pub mod Validated
-pub mod Gate
+pub mod Looks

@@ -10,7 +10,7 @@ ghost use Prim.Native.Nat.{_*_, _≤_};
 ghost use lib.ListN.{length};
 ghost use Rattle.permutation.specs.declared.VarValue.the-variants.{Nothing};
 ghost use Rattle.instance.specs.Parts.{pairsAt};
-ghost use Rattle.instance.specs.Gate.{publicValue, lastValue, heading};
+ghost use Rattle.instance.specs.Looks.{publicValue, lastValue, heading};
 use allocator::FieldVar;
 use limits::MAX_COUNT;
 use permutation::VarValue;

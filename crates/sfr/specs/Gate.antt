@@ -2,7 +2,7 @@
 -- is. Assumes nothing.
 use Prim.Native.Nat.{ℕ}
 use mathlib.Core.Bool.{true, false}
-use Rattle.instance.specs.Gate.{heading}
+use Rattle.instance.specs.Looks.{heading}
 use Rattle.compile.specs.declared.Compiled.{Compiled}
 use Rattle.permutation.specs.Answers.{outcomeNumber}
 use Rattle.sfr.specs.declared.gate.SfrInstanceAnswer.{SfrInstanceAnswer}

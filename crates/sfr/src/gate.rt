@@ -2,7 +2,7 @@
 
 ghost use mathlib.Core.Path.{_≡_};
 ghost use lib.ListN.{length, replicate};
-ghost use Rattle.instance.specs.Gate.{publicValue};
+ghost use Rattle.instance.specs.Looks.{publicValue};
 ghost use Rattle.compile.specs.Gate.{compile, compilePublics};
 ghost use Rattle.sfr.specs.Relation.{valueAnswer};
 ghost use Rattle.sfr.specs.Gate.{compiledAnswer, headingAnswer};

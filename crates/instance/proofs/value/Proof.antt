@@ -5,7 +5,7 @@ use denote.Ref.{now}
 use mathlib.Core.Path.{_≡_, _∙_}
 use lib.ListN.{length}
 use Rattle.limits.proofs.Questions.{▸-assoc, zero-▸, ▸-zero}
-use Rattle.instance.specs.Gate.{publicValueNo}
+use Rattle.instance.specs.Looks.{publicValueNo}
 use Rattle.instance.proofs.Values.{valueOf, value-refused, value-accepted, value-fits}
 use Rattle.instance.proofs.value.Statement.{statement}
 use Rattle.instance.proofs.value.Tie as tie
