@@ -81,6 +81,7 @@ preparedAsks rel label slots queries equations publics scratch =
     ++ (storesAsks rel (length label) (length queries) (length equations) publics scratch
     ++ soundAsks rel label slots queries equations)
 
+-- their first no, or 0
 unfoldable pub preparedNo : PermutationRelation → (label slots queries equations : List ℕ) → (publics scratch : ℕ) → ℕ
 preparedNo rel label slots queries equations publics scratch =
     firstNo (preparedAsks rel label slots queries equations publics scratch)
@@ -91,6 +92,7 @@ compileAsks rel label slots queries equations publics scratch =
     preparedAsks rel label slots queries equations publics scratch
     ++ (question 10 (leb (2 * length (publicsOf rel slots)) publics) ∷ gateAsks (compiledParts rel slots queries equations) scratch)
 
+-- the number of the gate: its first no, or 0
 unfoldable pub compileNo : PermutationRelation → (label slots queries equations : List ℕ) → (publics scratch : ℕ) → ℕ
 compileNo rel label slots queries equations publics scratch =
     firstNo (compileAsks rel label slots queries equations publics scratch)

@@ -25,9 +25,11 @@ readAsks width rooms =
     widthAsks width
     ++ (storeAsks (rooms .publics) ++ (storeAsks (rooms .queries) ++ (storeAsks (rooms .equations) ++ storeAsks (rooms .scratch))))
 
+-- what a read of SFRI gets, or the number of its first no
 unfoldable pub instanceFromBytes : (width : ℕ) (bytes : List ℕ) → Rooms → Got File
 instanceFromBytes width bytes rooms = gotAfter (firstNo (readAsks width rooms)) (readInstance version width rooms bytes)
 
+-- what a read of SFRW gets, after 1 and 2 of its one store, or the number of its first no
 unfoldable pub witnessFromBytes : (width : ℕ) (bytes : List ℕ) → ℕ → Got (List (List ℕ))
 witnessFromBytes width bytes room =
     gotAfter (firstNo (widthAsks width ++ storeAsks room)) (readWitness version width room bytes)
@@ -58,30 +60,37 @@ instanceAnswer width (got file rest) =
     record { outcome = Accepted; instance = instanceRead width (file .parts); label = length (file .label) }
 instanceAnswer width (stop k) = refusedInstance k
 
+-- the store of publics after a read: the pairs that were read, then 0
 abbrev pub publicsAfter : ℕ → Got File → List ℕ
 publicsAfter len (got file rest) = padded len (pairWords (file .parts .publics))
 publicsAfter len (stop k) = replicate len 0
 
+-- the store of queries: those that were read, then 0
 abbrev pub queriesAfter : ℕ → Got File → List ℕ
 queriesAfter len (got file rest) = padded len (flat (file .parts .queries))
 queriesAfter len (stop k) = replicate len 0
 
+-- the store of equations: those that were read, then 0
 abbrev pub equationsAfter : ℕ → Got File → List ℕ
 equationsAfter len (got file rest) = padded len (equationsWords (file .parts .equations))
 equationsAfter len (stop k) = replicate len 0
 
+-- the number of steps that were read, 0 where the read refuses
 abbrev pub witnessAnswer : Got (List (List ℕ)) → WitnessRead
 witnessAnswer (got steps rest) = record { outcome = Accepted; steps = length steps }
 witnessAnswer (stop k) = record { outcome = Refused k; steps = 0 }
 
+-- the trace after a read: the steps that were read, then 0
 abbrev pub traceAfter : ℕ → Got (List (List ℕ)) → List ℕ
 traceAfter len (got steps rest) = padded len (flat steps)
 traceAfter len (stop k) = replicate len 0
 
 -- ---- the label of a read: the part of the input that holds it, from byte 17 on; none where it runs past the end
+-- header and label length are 13 and 4 bytes
 abbrev pub labelStart : ℕ
 labelStart = 17
 
+-- the bytes of the label
 unfoldable pub labelPart : List ℕ → ℕ → List ℕ
 labelPart bytes len = pick (leb (labelStart + len) (length bytes)) (take len (drop labelStart bytes)) []
 

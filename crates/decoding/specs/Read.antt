@@ -22,12 +22,15 @@ unfoldable pub readLabel : Reader (List ℕ)
 readLabel = word >>= λ n. part n >>= λ label. need 25 (isUtf8 label) >> give label
 
 -- ---- items
+-- a public: its wire (3), its unit (4)
 abbrev pub readPair : Reader Pair
 readPair = wire >>= λ x. unit >>= λ v. give (pair x v)
 
+-- a term: its wire (3), its weight (4)
 abbrev pub readTerm : Reader Term
 readTerm = wire >>= λ x. unit >>= λ v. give (record { var = x; weight = v })
 
+-- an equation: how many terms, these, the image (4)
 abbrev pub readEquation : Reader Equation
 readEquation = word >>= λ n. times readTerm n >>= λ ts. unit >>= λ v. give (equation ts v)
 
@@ -35,9 +38,11 @@ readEquation = word >>= λ n. times readTerm n >>= λ ts. unit >>= λ v. give (e
 abbrev pub pairSize : Pair → ℕ
 pairSize p = 2
 
+-- a query or a step has 2w words
 abbrev pub pieceSize : ℕ → List ℕ → ℕ
 pieceSize width piece = width + width
 
+-- an equation has its term count, two words a term, and its image
 abbrev pub sizeOf : Equation → ℕ
 sizeOf e = equationSize (length (e .terms))
 
@@ -49,15 +54,19 @@ pub record Rooms : Type 0 where
   pub equations : ℕ
   pub scratch : ℕ
 
+-- how many publics, and these
 unfoldable pub readPublics : ℕ → Reader (List Pair)
 readPublics room = word >>= λ n. items readPair pairSize room 0 n
 
+-- how many queries, and these, 2w wires (3) each
 unfoldable pub readQueries : ℕ → ℕ → Reader (List (List ℕ))
 readQueries width room = word >>= λ n. items (times wire (width + width)) (pieceSize width) room 0 n
 
+-- how many equations, and these
 unfoldable pub readEquations : ℕ → Reader (List Equation)
 readEquations room = word >>= λ n. items readEquation sizeOf room 0 n
 
+-- wire count, publics, queries, equations, one after the other
 unfoldable pub readParts : ℕ → Rooms → Reader Parts
 readParts width rooms =
     word >>= λ vars. readPublics (rooms .publics) >>= λ ps. readQueries width (rooms .queries)
@@ -79,6 +88,7 @@ ordered parts = need 27 (increasing (parts .publics))
 abbrev pub gated : ℕ → Parts → Reader (Unit {0})
 gated scratch parts = number (gateNo parts scratch)
 
+-- has the list no element?
 abbrev pub isEmpty : List ℕ → Bool
 isEmpty [] = true
 isEmpty (a ∷ l) = false
@@ -88,10 +98,12 @@ abbrev pub ended : Reader (Unit {0})
 ended bytes = need 28 (isEmpty bytes) bytes
 
 -- ---- SFRI
+-- what SFRI holds beside its header
 pub record File : Type 0 where
   pub label : List ℕ
   pub parts : Parts
 
+-- a label and parts, put together
 abbrev pub file : List ℕ → Parts → File
 file label parts = record { label = label; parts = parts }
 
@@ -107,9 +119,11 @@ readInstance version width rooms =
     readFile version width rooms >>= λ f. gated (rooms .scratch) (f .parts) >> ended >> give f
 
 -- ---- SFRW
+-- how many steps, and these, 2w units (4) each
 unfoldable pub readSteps : ℕ → ℕ → Reader (List (List ℕ))
 readSteps width room = word >>= λ n. items (times unit (width + width)) (pieceSize width) room 0 n
 
+-- header, steps and the end
 unfoldable pub readWitness : (version width : ℕ) → ℕ → Reader (List (List ℕ))
 readWitness version width room =
     readHeader letterW version width >> readSteps width room >>= λ steps. ended >> give steps

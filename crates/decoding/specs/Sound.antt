@@ -19,10 +19,12 @@ use Rattle.instance.specs.Validated.{gateAsks}
 use Rattle.decoding.specs.Read.{Rooms, increasing}
 
 -- ---- sound items: wires are below 2^30, units below p
+-- of a public
 pub record SoundPair (p : Pair) : Type 0 where
   pub var : p .var < maxCount
   pub value : p .value < prime
 
+-- of a term
 pub record SoundTerm (t : Term) : Type 0 where
   pub var : t .var < maxCount
   pub weight : t .weight < prime
@@ -39,6 +41,7 @@ pub record SoundPiece (bound width : ℕ) (piece : List ℕ) : Type 0 where
   pub words : All (λ x. x < bound) piece
 
 -- ---- sound files: items are sound, counts are words, the label is UTF-8
+-- of SFRI
 pub record SoundFile (width : ℕ) (label : List ℕ) (parts : Parts) : Type 0 where
   pub widthFits : width < wordEnd
   pub labelLength : length label < wordEnd
@@ -51,6 +54,7 @@ pub record SoundFile (width : ℕ) (label : List ℕ) (parts : Parts) : Type 0 w
   pub equationsCount : length (parts .equations) < wordEnd
   pub equations : All SoundEquation (parts .equations)
 
+-- of SFRW
 pub record SoundSteps (width : ℕ) (steps : List (List ℕ)) : Type 0 where
   pub widthFits : width < wordEnd
   pub count : length steps < wordEnd

@@ -20,6 +20,7 @@ use Rattle.encoding.specs.declared.Written.{Written}
 abbrev pub writtenOf : ℕ → List ℕ → Written
 writtenOf k bytes = record { outcome = outcomeOf k; len = onYes k (length bytes) 0 }
 
+-- the output afterwards: a refusal leaves it as it was
 abbrev pub writtenOut : ℕ → List ℕ → List ℕ → List ℕ
 writtenOut k bytes out = onYes k (putWords 0 bytes out) out
 
@@ -35,11 +36,13 @@ instanceAsks ins label publics queries equations =
     ++ (partsAsks ins (length publics) (length queries) (length equations)
     ++ (labelAsks (length label) ++ heldAsks ins label publics queries equations))
 
+-- and 10: does the output hold the bytes?
 abbrev pub instanceToBytesAsks : PermutationInstance → (label publics queries equations : List ℕ) → ℕ → List Question
 instanceToBytesAsks ins label publics queries equations out =
     instanceAsks ins label publics queries equations
     ++ (question 10 (leb (length (instanceToBytes ins label publics queries equations)) out) ∷ [])
 
+-- the number of a write of SFRI, or 0
 unfoldable pub instanceToBytesNo : PermutationInstance → (label publics queries equations : List ℕ) → ℕ → ℕ
 instanceToBytesNo ins label publics queries equations out =
     firstNo (instanceToBytesAsks ins label publics queries equations out)
@@ -58,9 +61,11 @@ stepsAsks width steps trace =
     ∷ question 11 (allBelow prime (take (wordsOf width steps) trace))
     ∷ []))
 
+-- and 10: does the output hold the bytes?
 abbrev pub witnessToBytesAsks : (width steps : ℕ) → List ℕ → ℕ → List Question
 witnessToBytesAsks width steps trace out =
     stepsAsks width steps trace ++ (question 10 (leb (length (witnessToBytes width steps trace)) out) ∷ [])
 
+-- the number of a write of SFRW, or 0
 unfoldable pub witnessToBytesNo : (width steps : ℕ) → List ℕ → ℕ → ℕ
 witnessToBytesNo width steps trace out = firstNo (witnessToBytesAsks width steps trace out)

@@ -17,6 +17,7 @@ use Rattle.instance.specs.Parts.{Parts}
 use Rattle.instance.specs.declared.PermutationInstance.{PermutationInstance}
 use Rattle.header.specs.Form.{letterI, letterW, headerBytes}
 
+-- a public: wire, unit
 abbrev pub pairBytes : Pair → List ℕ
 pairBytes p = u32Bytes (p .var) ++ u32Bytes (p .value)
 
@@ -24,12 +25,15 @@ pairBytes p = u32Bytes (p .var) ++ u32Bytes (p .value)
 abbrev pub pieceBytes : List ℕ → List ℕ
 pieceBytes words = each u32Bytes words
 
+-- a term: wire, weight
 abbrev pub termBytes : Term → List ℕ
 termBytes t = u32Bytes (t .var) ++ u32Bytes (t .weight)
 
+-- an equation: how many terms, these, the image
 abbrev pub equationBytes : Equation → List ℕ
 equationBytes e = u32Bytes (length (e .terms)) ++ (each termBytes (e .terms) ++ u32Bytes (e .image))
 
+-- a label: its length, its bytes
 abbrev pub labelBytes : List ℕ → List ℕ
 labelBytes label = u32Bytes (length label) ++ label
 

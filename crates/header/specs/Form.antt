@@ -8,9 +8,11 @@ use Rattle.narg.specs.Bytes.{u32Bytes}
 abbrev pub magic : ℕ → List ℕ
 magic last = 83 ∷ 70 ∷ 82 ∷ last ∷ []
 
+-- of an instance
 abbrev pub letterI : ℕ
 letterI = 73
 
+-- of a witness
 abbrev pub letterW : ℕ
 letterW = 87
 

@@ -18,6 +18,7 @@ abbrev pub noInstance : PermutationInstance
 noInstance = record { width = 0; vars = 0; queries = 0; equations = 0; words = 0; publics = 0 }
 
 -- ---- the value of a wire in held publics: the unit of the last pair that lists it
+-- looked for from the front, with what was found so far
 abbrev pub lastValue : List Pair → ℕ → VarValue → VarValue
 lastValue [] var found = found
 lastValue (p ∷ ps) var found = lastValue ps var (pick (eqb (p .var) var) (varValue.Value (p .value)) found)
@@ -28,9 +29,11 @@ publicValueAsks ins publics var =
     widthAsks (ins .width)
     ++ (storeAsks publics ++ (question 2 (leb (2 * ins .publics) publics) ∷ question 3 (ltb var maxCount) ∷ []))
 
+-- their first no, or 0
 unfoldable pub publicValueNo : PermutationInstance → ℕ → ℕ → ℕ
 publicValueNo ins publics var = firstNo (publicValueAsks ins publics var)
 
+-- the unit, nothing where no pair lists the wire, or the number of the refusal
 unfoldable pub publicValue : PermutationInstance → List ℕ → ℕ → VarValue
 publicValue ins publics var =
     onYes (publicValueNo ins (length publics) var)
@@ -38,5 +41,6 @@ publicValue ins publics var =
     (varValue.Refused (publicValueNo ins (length publics) var))
 
 -- ---- the heading (document 01): the label, or where that has no bytes the name lent with the parameters
+-- of whatever the two are, by the length of the label
 abbrev pub heading : {A : Type 0} → (len : ℕ) → (label name : A) → A
 heading len label name = pick (eqb len 0) name label

@@ -21,6 +21,7 @@ abbrev pub pairVars : List Pair → List ℕ
 pairVars [] = []
 pairVars (p ∷ ps) = p .var ∷ pairVars ps
 
+-- the units of pairs
 abbrev pub pairValues : List Pair → List ℕ
 pairValues [] = []
 pairValues (p ∷ ps) = p .value ∷ pairValues ps
@@ -31,6 +32,7 @@ has [] x = false
 has (y ∷ l) x = eqb x y || has l x
 
 -- ---- in stores: publics are wire and unit pairs
+-- the words of pairs
 abbrev pub pairWords : List Pair → List ℕ
 pairWords [] = []
 pairWords (p ∷ ps) = p .var ∷ p .value ∷ pairWords ps
@@ -44,12 +46,15 @@ pairsAt (suc n) s = pair (getD s 0 0) (getD s 1 0) ∷ pairsAt n (drop 2 s)
 abbrev pub heldPublics : PermutationInstance → List ℕ → List ℕ
 heldPublics ins publics = take (2 * ins .publics) publics
 
+-- of the queries
 abbrev pub heldQueries : PermutationInstance → List ℕ → List ℕ
 heldQueries ins queries = take (wordsOf (ins .width) (ins .queries)) queries
 
+-- of the equations
 abbrev pub heldEquations : PermutationInstance → List ℕ → List ℕ
 heldEquations ins equations = take (ins .words) equations
 
+-- the parts that a record and its stores hold
 unfoldable pub partsOf : PermutationInstance → List ℕ → List ℕ → List ℕ → Parts
 partsOf ins publics queries equations =
     record {

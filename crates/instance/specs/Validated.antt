@@ -20,6 +20,7 @@ termsAsks vars binds [] = []
 termsAsks vars binds (t ∷ ts) =
     question 14 (ltb (t .var) vars) ∷ question 15 (binds (t .var) || eqb (t .weight) 0) ∷ termsAsks vars binds ts
 
+-- of every equation, in order
 abbrev pub termwiseAsks : ℕ → (ℕ → Bool) → List Equation → List Question
 termwiseAsks vars binds [] = []
 termwiseAsks vars binds (e ∷ es) = termsAsks vars binds (e .terms) ++ termwiseAsks vars binds es
@@ -31,6 +32,7 @@ validatedAsks parts =
     ∷ question 13 (allBelow (parts .vars) (flat (parts .queries)))
     ∷ termwiseAsks (parts .vars) (bound parts) (parts .equations)
 
+-- their first no, or 0
 unfoldable pub validatedNo : Parts → ℕ
 validatedNo parts = firstNo (validatedAsks parts)
 
@@ -38,5 +40,6 @@ validatedNo parts = firstNo (validatedAsks parts)
 abbrev pub gateAsks : Parts → ℕ → List Question
 gateAsks parts scratch = question 16 (leb (parts .vars) scratch) ∷ validatedAsks parts
 
+-- their first no, or 0
 unfoldable pub gateNo : Parts → ℕ → ℕ
 gateNo parts scratch = firstNo (gateAsks parts scratch)

@@ -147,6 +147,7 @@ pub fn slots_sound(held: &[u32]) -> bool
 
 // ---- the same as question 11; not looked at where an earlier question said no
 
+// Of the equations: do they end where the words end, and is what they hold sound?
 pub fn asked_equations_sound(no: u32, held: &[u32], n: u32) -> u32
     ensures { λ r. ⌜ r ≡ no ▸ ask 11 (equationsSound n (now (held .entry))) ⌝ }
 {
@@ -156,6 +157,7 @@ pub fn asked_equations_sound(no: u32, held: &[u32], n: u32) -> u32
     limits::asked(0, equations_sound(held, n), 11)
 }
 
+// Of the publics: is every wire below 2^30 and every unit below p?
 pub fn asked_publics_sound(no: u32, held: &[u32], n: u32) -> u32
     ensures { λ r. ⌜ r ≡ no ▸ ask 11 (publicsSound n (now (held .entry))) ⌝ }
 {
@@ -165,6 +167,7 @@ pub fn asked_publics_sound(no: u32, held: &[u32], n: u32) -> u32
     limits::asked(0, publics_sound(held, n), 11)
 }
 
+// Of the slots: is each a unit, or unassigned?
 pub fn asked_slots_sound(no: u32, held: &[u32]) -> u32
     ensures { λ r. ⌜ r ≡ no ▸ ask 11 (slotsSound (now (held .entry))) ⌝ }
 {
@@ -174,6 +177,7 @@ pub fn asked_slots_sound(no: u32, held: &[u32]) -> u32
     limits::asked(0, slots_sound(held), 11)
 }
 
+// Of the label: is it UTF-8?
 pub fn asked_utf8(no: u32, label: &[u8]) -> u32
     ensures { λ r. ⌜ r ≡ no ▸ ask 11 (isUtf8 (now (label .entry))) ⌝ }
 {

@@ -37,6 +37,7 @@ fn sound_kinds(width: u32, rounds: u32, params: &[u32]) -> bool
     true
 }
 
+// 17: R at most 128, as many words as R and the width say, kinds 0 or 1, units below p?
 pub(crate) fn sound_parameters(width: u32, rounds: u32, params: &[u32]) -> bool
     ensures { λ r. ⌜ r ≡ soundParameters width rounds (now (params .entry)) ⌝ }
 {

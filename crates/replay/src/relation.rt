@@ -40,6 +40,7 @@ struct Begun {
     next: Cursor,
 }
 
+// The record that a case begins with.
 fn take_relation(sample: &[u8], c: Cursor) -> Begun {
     let width = take_word(sample, c);
     let vars = take_word(sample, width.next);
@@ -177,6 +178,7 @@ fn allocate_permutation(sample: &[u8], c: Cursor) -> Seen {
 // The most terms that an equation of the sample may have.
 const TERMS: usize = 8;
 
+// The smaller of two lengths.
 fn shorter(n: usize, m: usize) -> usize {
     if n < m { n } else { m }
 }
@@ -186,6 +188,7 @@ fn word_at(list: &[u32], i: usize) -> u32 {
     if i < list.len() { list[i] } else { 0 }
 }
 
+// Term i of two lists; 0 where a list has no such word.
 fn term_at(vars: &[u32], weights: &[u32], i: usize) -> Weighted {
     Weighted {
         var: FieldVar(word_at(vars, i)),

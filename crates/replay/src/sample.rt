@@ -84,6 +84,7 @@ pub(crate) fn take_words(sample: &[u8], c: Cursor, out: &mut [u32]) -> Cursor {
     next
 }
 
+// A word as a length.
 pub(crate) fn wide(x: u32) -> usize {
     x as usize
 }
@@ -237,6 +238,7 @@ pub(crate) fn same_words(sample: &[u8], seen: Seen, here: &[u32]) -> Seen {
     now
 }
 
+// The same of a byte.
 fn first_byte(found: Found, word: u64, here: u8, expected: u8) -> Found {
     first(found, word, here as u32, expected as u32)
 }

@@ -17,6 +17,7 @@ pub(crate) struct Tally {
     pub agree: [u64; KINDS],
 }
 
+// Before the first case.
 pub(crate) fn nothing() -> Tally {
     Tally {
         replayed: 0,
@@ -25,6 +26,7 @@ pub(crate) fn nothing() -> Tally {
     }
 }
 
+// A count goes on from 0 where it can grow no more.
 fn one_more(n: u64) -> u64 {
     std::num::wrapping_add_u64(n, 1)
 }

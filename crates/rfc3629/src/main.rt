@@ -124,6 +124,7 @@ fn example_at(i: u64) -> [u8; 11] {
     fault_at((i - 31) as usize)
 }
 
+// A byte as a length.
 fn wide(x: u8) -> usize {
     x as usize
 }
@@ -226,6 +227,7 @@ fn print_counts(examples: u64, accepted: u64, refused: u64, different: u64) {
     io::write_all(STDOUT_FILENO, b" different from RFC 3629\n");
 }
 
+// 1 for yes, 0 for no.
 fn one_if(says: bool) -> u64
     ensures { λ r. ⌜ r ≤ 1 ⌝ }
 {

@@ -44,6 +44,7 @@ fn width_of(file: &[u8]) -> u32 {
     width
 }
 
+// A line for each count of the record.
 fn print_counts(ins: PermutationInstance) {
     line(ins.width, b"width");
     line(ins.vars, b"wires");
