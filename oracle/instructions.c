@@ -1,0 +1,60 @@
+/* Each call on files of a batch once, for oracle/instructions to count what it takes: items as the argument says. An item is
+ * a query of width 8, a public and an equation of two terms. */
+#include <stdio.h>
+#include <stdlib.h>
+
+#include "sfr.h"
+
+enum { WIDTH = 8, LABEL = 1 };
+static const uint32_t PRIME = 2013265921;
+static const uint8_t label[LABEL] = {'b'};
+
+static void *lent(size_t len, size_t size) {
+    void *store = calloc(len, size);
+    if (!store) exit(2);
+    return store;
+}
+
+static void accepted(const char *call, uint32_t number) {
+    if (number) {
+        printf("%s: %u\n", call, number);
+        exit(1);
+    }
+}
+
+int main(int argc, char **argv) {
+    const size_t items = argc == 2 ? strtoul(argv[1], NULL, 10) : 1000;
+    const size_t vars = 1 + WIDTH + WIDTH * items, cells = 2 * WIDTH * items, words = 6 * items, pairs = 2 * (items + 1);
+    const size_t sfri_len = 33 + LABEL + 4 * (pairs + cells + words), sfrw_len = 17 + 4 * cells;
+    uint32_t *slots = lent(vars, 4), *scratch = lent(vars, 4), *trace = lent(cells, 4);
+    uint32_t *publics = lent(pairs, 4), *queries = lent(cells, 4), *equations = lent(words, 4);
+    uint8_t *sfri = lent(sfri_len, 1), *sfrw = lent(sfrw_len, 1);
+
+    /* Every wire that is used carries 5, and no round changes it. */
+    sfr_relation_answer at = sfr_allocate_vars(sfr_new(WIDTH, slots, vars).relation, slots, vars, WIDTH);
+    accepted("allocate", at.number);
+    uint32_t inputs[WIDTH], params[WIDTH * WIDTH] = {0};
+    for (uint32_t i = 0; i < WIDTH; i++) inputs[i] = at.first + i;
+    for (size_t i = 0; i < cells; i++) trace[i] = 5;
+    for (size_t i = 0; i < items; i++) {
+        at = sfr_allocate_permutation(at.relation, slots, vars, queries, cells, inputs, WIDTH);
+        accepted("mint", at.number);
+        const sfr_weighted terms[] = {{at.first, 1}, {at.first + 1, PRIME - 1}};
+        accepted("set", sfr_set_var(at.relation, slots, vars, at.first, 5));
+        at = sfr_add_equation(at.relation, equations, words, terms, 2, 0);
+        accepted("equation", at.number);
+    }
+
+    const sfr_instance ins = sfr_compile(at.relation, label, LABEL, slots, vars, queries, cells, equations, words, publics, pairs,
+                                         scratch, vars).instance;
+    accepted("write SFRI", sfr_instance_to_bytes(ins, label, LABEL, publics, pairs, queries, cells, equations, words, sfri,
+                                                 sfri_len).number);
+    accepted("read SFRI", sfr_instance_from_bytes(WIDTH, sfri, sfri_len, publics, pairs, queries, cells, equations, words,
+                                                  scratch, vars).number);
+    const sfr_trace steps = {WIDTH, (uint32_t)items};
+    accepted("write SFRW", sfr_witness_to_bytes(steps, trace, cells, sfrw, sfrw_len).number);
+    accepted("read SFRW", sfr_witness_from_bytes(WIDTH, sfrw, sfrw_len, trace, cells).number);
+    accepted("check", sfr_is_witness_valid(ins, label, LABEL, publics, pairs, queries, cells, equations, words, steps.steps, trace,
+                                           cells, 0, params, WIDTH * WIDTH, scratch, vars));
+    return 0;
+}
