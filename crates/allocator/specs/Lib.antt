@@ -1,3 +1,4 @@
 pub mod Slots
 pub mod Assign
 pub mod Values
+pub mod VarValue

@@ -17,6 +17,13 @@ use limits::UNASSIGNED;
 #[repr(C)]
 pub struct FieldVar(pub u32);
 
+// The value of a wire, as the word that its slot holds.
+pub enum VarValue {
+    Value(u32),
+    Nothing,
+    Refused(u32),
+}
+
 // What setting one wire answers.
 pub enum Assigned {
     Fresh,

@@ -13,7 +13,7 @@ use Rattle.words.specs.Store.{putWords}
 use Rattle.words.specs.Pieces.{wordsOf, pieces}
 use Rattle.expr.specs.Equation.{equationsAt}
 use Rattle.permutation.specs.Relation.{relationAsks}
-use Rattle.permutation.specs.declared.Outcome.the-variants as outcome
+use Rattle.limits.specs.declared.Outcome.the-variants as outcome
 use Rattle.permutation.specs.declared.PermutationRelation.{PermutationRelation}
 use Rattle.instance.specs.Parts.{Parts, pairWords, partsOf}
 use Rattle.instance.specs.Validated.{gateAsks, gateNo}

@@ -13,8 +13,8 @@ use Rattle.utf8.specs.Utf8.{isUtf8}
 use Rattle.allocator.specs.Slots.{Pair, pair}
 use Rattle.expr.specs.Equation.{equationsAt}
 use Rattle.permutation.specs.Relation.{relationAsks, queriesAsks, equationsAsks}
-use Rattle.permutation.specs.Answers.{outcomeOf}
-use Rattle.permutation.specs.declared.Outcome.the-variants as outcome
+use Rattle.limits.specs.Outcome.{outcomeOf}
+use Rattle.limits.specs.declared.Outcome.the-variants as outcome
 use Rattle.permutation.specs.declared.PermutationRelation.{PermutationRelation}
 use Rattle.instance.specs.Parts.{Parts, pairWords}
 use Rattle.instance.specs.Held.{labelAsks, equationsSound, slotsSound}

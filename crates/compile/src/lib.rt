@@ -12,8 +12,8 @@ ghost use Rattle.instance.specs.Parts.{pairWords};
 ghost use Rattle.compile.specs.Gate.{publicsFrom, storesAsks, soundAsks, preparedNo, refusedBy, compile, compilePublics};
 use instance::PermutationInstance;
 use limits::MAX_COUNT;
+use limits::Outcome;
 use limits::UNASSIGNED;
-use permutation::Outcome;
 use permutation::PermutationRelation;
 
 // The gate's answer; a refused one has an instance of zeros.

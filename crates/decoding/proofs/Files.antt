@@ -32,7 +32,7 @@ use Rattle.instance.specs.Validated.{gateNo}
 use Rattle.instance.specs.declared.PermutationInstance.{PermutationInstance}
 use Rattle.instance.proofs.Pairs.{pairs-at}
 use Rattle.instance.proofs.Parts.{pairsAt-take, pairsAt-pairWords, pairWords-length}
-use Rattle.permutation.specs.declared.Outcome.the-variants.{Accepted, Refused}
+use Rattle.limits.specs.declared.Outcome.the-variants.{Accepted, Refused}
 use Rattle.header.specs.Form.{letterI, version}
 use Rattle.header.specs.Read.{readHeader}
 use Rattle.decoding.specs.Read.{Rooms, File, file, readLabel, readPublics, readQueries, readEquations, readParts, increasing, pieceSize, readFile, readInstance}

@@ -19,7 +19,7 @@ use Rattle.narg.specs.Cursor.{wordAt}
 use Rattle.narg.specs.declared.Cursor.{Cursor}
 use Rattle.narg.specs.declared.Word.the-variants.{Read, Short}
 use Rattle.narg.proofs.At.{wordAt-stop, word-next}
-use Rattle.permutation.specs.declared.Outcome.the-variants.{Accepted, Refused}
+use Rattle.limits.specs.declared.Outcome.the-variants.{Accepted, Refused}
 use Rattle.header.specs.Form.{letterW, version}
 use Rattle.header.specs.Read.{readHeader}
 use Rattle.decoding.specs.Read.{readSteps, isEmpty, ended, readWitness}

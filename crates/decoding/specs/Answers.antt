@@ -8,7 +8,7 @@ use Rattle.limits.specs.Asks.{widthAsks, storeAsks}
 use Rattle.words.specs.Pieces.{flat}
 use Rattle.narg.specs.Reader.{Got, got, stop}
 use Rattle.expr.specs.Equation.{equationsWords}
-use Rattle.permutation.specs.declared.Outcome.the-variants.{Accepted, Refused}
+use Rattle.limits.specs.declared.Outcome.the-variants.{Accepted, Refused}
 use Rattle.instance.specs.Parts.{Parts, pairWords}
 use Rattle.instance.specs.Looks.{noInstance}
 use Rattle.instance.specs.declared.PermutationInstance.{PermutationInstance}

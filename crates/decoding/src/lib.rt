@@ -7,8 +7,8 @@
 ghost use mathlib.Core.Path.{_≡_};
 ghost use Rattle.decoding.specs.Given.{fileNumberOf};
 use instance::PermutationInstance;
+use limits::Outcome;
 use narg::Cursor;
-use permutation::Outcome;
 
 mod items;
 mod parts;

@@ -20,7 +20,7 @@ use header::VERSION;
 use header::number;
 use header::read_header;
 use instance::PermutationInstance;
-use permutation::Outcome;
+use limits::Outcome;
 
 // Header, label, parts, and 27.
 fn read_file(

@@ -15,9 +15,9 @@ use header::Field;
 use header::VERSION;
 use header::number;
 use header::read_header;
+use limits::Outcome;
 use narg::Cursor;
 use narg::Word;
-use permutation::Outcome;
 
 // The step count and the steps. Questions 20; 20 and 4 per unit, then 10 per step.
 fn read_steps(bytes: &[u8], c: Cursor, width: u32, trace: &mut [u32]) -> Field

@@ -13,7 +13,7 @@ use Rattle.narg.specs.Bytes.{u32Bytes}
 use Rattle.narg.proofs.At.{put-fits}
 use Rattle.narg.proofs.Fields.{length-u32Bytes}
 use Rattle.narg.proofs.Stores.{putWords-append, length-putWords}
-use Rattle.permutation.specs.declared.Outcome.the-variants.{Accepted, Refused}
+use Rattle.limits.specs.declared.Outcome.the-variants.{Accepted, Refused}
 use Rattle.header.specs.Form.{magic, headerBytes}
 use Rattle.encoding.specs.Answers.{writtenOf, writtenOut}
 

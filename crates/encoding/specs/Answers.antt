@@ -8,7 +8,7 @@ use Rattle.limits.specs.Questions.{Question, question, firstNo, onYes}
 use Rattle.limits.specs.Asks.{widthAsks, storeAsks}
 use Rattle.words.specs.Store.{allBelow, putWords}
 use Rattle.words.specs.Pieces.{wordsOf, pieces}
-use Rattle.permutation.specs.Answers.{outcomeOf}
+use Rattle.limits.specs.Outcome.{outcomeOf}
 use Rattle.instance.specs.Parts.{partsOf}
 use Rattle.instance.specs.Held.{labelAsks, partsAsks, heldAsks}
 use Rattle.instance.specs.declared.PermutationInstance.{PermutationInstance}

@@ -10,7 +10,7 @@
 // Numbers are little-endian. A write leaves what lies past its bytes as it was, and a refused one changes
 // nothing. Every open function answers on every input.
 
-use permutation::Outcome;
+use limits::Outcome;
 
 mod put;
 mod sfri;

@@ -15,8 +15,8 @@ use header::VERSION;
 use instance::PermutationInstance;
 use instance::held_pieces;
 use instance::held_words;
+use limits::Outcome;
 use narg::Cursor;
-use permutation::Outcome;
 
 // The label's length and its bytes.
 fn put_label(out: &mut [u8], label: &[u8])

@@ -6,8 +6,8 @@ ghost use Rattle.encoding.specs.Answers.{writtenOf, writtenOut, witnessT
 use crate::Written;
 use crate::put::put_header;
 use header::VERSION;
+use limits::Outcome;
 use narg::Cursor;
-use permutation::Outcome;
 
 // The number of a write: 1, 2, 11, 10.
 fn witness_to_bytes_no(width: u32, steps: u32, trace: &[u32], room: usize) -> u32

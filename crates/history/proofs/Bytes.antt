@@ -9,7 +9,7 @@ use lib.Seq.{take-append-seam, take-at}
 use Rattle.limits.specs.Questions.{_▸_}
 use Rattle.limits.proofs.Questions.{onYes-yes, ▸-zero}
 use Rattle.narg.specs.Reader.{Got, got, stop}
-use Rattle.permutation.specs.Answers.{outcomeNumber}
+use Rattle.limits.specs.Outcome.{outcomeNumber}
 use Rattle.decoding.specs.Read.{File}
 use Rattle.decoding.specs.Sound.{gotAfter}
 use Rattle.encoding.specs.Answers.{writtenOf, writtenOut}

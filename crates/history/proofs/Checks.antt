@@ -15,13 +15,13 @@ use Rattle.words.specs.Store.{All, allBelow}
 use Rattle.words.specs.Pieces.{pieces, wordsOf}
 use Rattle.utf8.specs.Utf8.{isUtf8}
 use Rattle.permutation.specs.declared.PermutationRelation.{PermutationRelation}
-use Rattle.permutation.specs.Answers.{outcomeNumber}
+use Rattle.limits.specs.Outcome.{outcomeNumber}
 use Rattle.permute.specs.Parameters.{parametersOf, soundParameters, isEvaluation}
 use Rattle.instance.specs.Parts.{Parts, partsOf}
 use Rattle.instance.proofs.Facts.{allBelow-facts, Valid}
 use Rattle.validity.specs.Check.{checkNo}
 use Rattle.validity.specs.Valid.{stepsOf, isWitnessValidAsks, isWitnessValidNo, isWitnessValid}
-use Rattle.permutation.proofs.Answered.{outcome-number}
+use Rattle.limits.proofs.Answered.{outcome-number}
 use Rattle.history.specs.Ledger.{Ledger}
 use Rattle.history.specs.Sat.{Evaluates}
 use Rattle.history.specs.Calls.{State}

@@ -13,7 +13,7 @@ use Rattle.baby_bear.specs.Field.{addUnit, mulUnit, seventh, dotUnits}
 use Rattle.allocator.specs.Slots.{pair, pairNo, setRun}
 use Rattle.expr.specs.Equation.{Term, equation, equationAt, sizeAt}
 use Rattle.expr.specs.declared.Weighted.{Weighted}
-use Rattle.permutation.specs.declared.Outcome.the-variants as outcome
+use Rattle.limits.specs.declared.Outcome.the-variants as outcome
 use Rattle.permutation.specs.Numbers.{newNo, allocateVarsNo, setVarNo, setVarsNo, addPermutationNo, allocatePermutationNo, addEquationNo}
 use Rattle.permutation.specs.Answers.{newRelation, setVarsRun}
 use Rattle.permute.specs.Permute.{addConstants, raise, timesMatrix, runRound, runRounds, permute}

@@ -25,7 +25,7 @@ use Rattle.instance.specs.declared.PermutationInstance.{PermutationInstance}
 use Rattle.instance.specs.Parts.{Parts, pairWords, heldPublics, heldQueries, heldEquations, partsOf}
 use Rattle.instance.specs.Validated.{validatedNo}
 use Rattle.compile.specs.Gate.{publicsOf, publicsStore, compileNo}
-use Rattle.permutation.specs.Answers.{outcomeNumber}
+use Rattle.limits.specs.Outcome.{outcomeNumber}
 use Rattle.instance.proofs.Facts.{allBelow-facts, facts-validated}
 use Rattle.instance.proofs.Parts.{pairWords-length}
 use Rattle.permute.specs.Parameters.{parametersOf, soundParameters}
@@ -40,7 +40,7 @@ use Rattle.encoding.specs.declared.Written.{Written}
 use Rattle.decoding.specs.declared.InstanceRead.{InstanceRead}
 use Rattle.encoding.proofs.Length.{length-instanceBytes}
 use Rattle.roundtrip.proofs.Reading.{after-after, read-written}
-use Rattle.permutation.proofs.Answered.{outcome-number}
+use Rattle.limits.proofs.Answered.{outcome-number}
 use Rattle.history.specs.Ledger.{Ledger}
 use Rattle.history.specs.Sat.{Evaluates}
 use Rattle.history.specs.Calls.{State}

@@ -4,7 +4,8 @@ use Prim.Native.Nat.{ℕ}
 use mathlib.Core.Path.{_≡_}
 use mathlib.Core.List.{List, [], _∷_}
 use Rattle.expr.specs.Weighted.{termsOf}
-use Rattle.permutation.specs.Answers.{outcomeNumber, newRelation}
+use Rattle.limits.specs.Outcome.{outcomeNumber}
+use Rattle.permutation.specs.Answers.{newRelation}
 use Rattle.permutation.specs.State.{Holds}
 use Rattle.permutation.proofs.Keeps.{new-holds, allocateVars-keeps, setVar-keeps, setVars-keeps, addPermutation-keeps, allocatePermutation-keeps, addEquation-keeps}
 use Rattle.history.specs.Ledger.{Ledger}

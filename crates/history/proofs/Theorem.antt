@@ -5,10 +5,11 @@ use mathlib.Core.Path.{_≡_, sym, ap, _∙_, subst}
 use mathlib.Core.List.{List}
 use lib.ListN.{length}
 use Rattle.limits.specs.Questions.{firstNo}
-use Rattle.permutation.specs.Answers.{outcomeNumber, newRelation}
+use Rattle.limits.specs.Outcome.{outcomeNumber}
+use Rattle.permutation.specs.Answers.{newRelation}
 use Rattle.instance.specs.declared.PermutationInstance.{PermutationInstance}
 use Rattle.compile.specs.Gate.{compileNo, compile}
-use Rattle.permutation.proofs.Answered.{outcome-number}
+use Rattle.limits.proofs.Answered.{outcome-number}
 use Rattle.history.specs.Ledger.{Ledger}
 use Rattle.history.specs.Calls.{Call, State, firstLedger}
 use Rattle.history.specs.Left.{Lengths, compileLeft}

@@ -10,11 +10,13 @@ use Rattle.limits.specs.Questions.{ask, _▸_, question, firstNo, onYes}
 use Rattle.limits.proofs.Questions.{goes-on, ▸-zero, firstNo-append}
 use Rattle.allocator.specs.Slots.{Pair, pairs, pairAsks, pairNo, ran, SetRun, setRun}
 use Rattle.expr.specs.Weighted.{termsOf}
-use Rattle.permutation.specs.declared.Outcome.the-variants as outcome
+use Rattle.limits.specs.declared.Outcome.the-variants as outcome
 use Rattle.permutation.specs.Relation.{setVarsAsks}
 use Rattle.permutation.specs.Numbers.{allocateVarsNo, setVarNo, setVarsNo, addPermutationNo, allocatePermutationNo, addEquationNo}
-use Rattle.permutation.specs.Answers.{outcomeOf, setVarsRun}
-use Rattle.permutation.proofs.Answered.{outcome-number, first-number}
+use Rattle.limits.specs.Outcome.{outcomeOf}
+use Rattle.permutation.specs.Answers.{setVarsRun}
+use Rattle.limits.proofs.Answered.{outcome-number}
+use Rattle.permutation.proofs.Answered.{first-number}
 use Rattle.permutation.proofs.Keeps.{allocateVars-first, allocatePermutation-first}
 use Rattle.permutation.proofs.Left.{allocateVars-left, setVar-left, setVars-left, addPermutation-left, allocatePermutation-left, addEquation-left}
 use Rattle.history.specs.Ledger.{Ledger}

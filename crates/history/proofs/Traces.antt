@@ -16,7 +16,7 @@ use Rattle.words.specs.Store.{All, allBelow}
 use Rattle.words.specs.Pieces.{flat, pieces, wordsOf}
 use Rattle.narg.specs.Bytes.{wordEnd}
 use Rattle.narg.specs.Reader.{Got, got}
-use Rattle.permutation.specs.Answers.{outcomeNumber}
+use Rattle.limits.specs.Outcome.{outcomeNumber}
 use Rattle.instance.proofs.Parts.{flat-held}
 use Rattle.validity.specs.Valid.{stepsOf}
 use Rattle.header.specs.Form.{version}
@@ -26,7 +26,7 @@ use Rattle.encoding.specs.Answers.{witnessToBytes, witnessToBytesAsks, witnessT
 use Rattle.decoding.specs.Answers.{witnessFromBytes, witnessAnswer, traceAfter}
 use Rattle.encoding.proofs.Length.{length-witnessBytes}
 use Rattle.roundtrip.proofs.Reading.{after-after, read-witness-written}
-use Rattle.permutation.proofs.Answered.{outcome-number}
+use Rattle.limits.proofs.Answered.{outcome-number}
 use Rattle.history.specs.Left.{witnessWriteLeft, witnessReadLeft}
 use Rattle.history.specs.Whole.{Accepted, TraceLent, witnessWritten, witnessBytesMade, witnessReadBack, traceReadBack, Traced}
 use Rattle.history.proofs.Told.{past, then, after-says, accepted-no}

@@ -11,9 +11,10 @@ use Rattle.expr.specs.Equation.{Equation, equation}
 use Rattle.expr.specs.Weighted.{termsOf}
 use Rattle.expr.specs.declared.Weighted.{Weighted}
 use Rattle.permutation.specs.Relation.{allocateVarsAsks, setVarAsks, setVarsAsks, addPermutationAsks, allocatePermutationAsks, addEquationAsks}
-use Rattle.permutation.specs.Answers.{outcomeNumber, firstNumber, newRelation, newSlots, allocateVars, allocateVarsSlots, setVar, setVarSlots, setVars, setVarsSlots, addPermutation, addPermutationQueries, allocatePermutation, allocatePermutationSlots, allocatePermutationQueries, addEquation, addEquationEquations, upFrom}
+use Rattle.limits.specs.Outcome.{outcomeNumber}
+use Rattle.permutation.specs.Answers.{firstNumber, newRelation, newSlots, allocateVars, allocateVarsSlots, setVar, setVarSlots, setVars, setVarsSlots, addPermutation, addPermutationQueries, allocatePermutation, allocatePermutationSlots, allocatePermutationQueries, addEquation, addEquationEquations, upFrom}
 use Rattle.permutation.specs.declared.PermutationRelation.{PermutationRelation}
-use Rattle.permutation.specs.declared.Outcome.{Outcome}
+use Rattle.limits.specs.declared.Outcome.{Outcome}
 use Rattle.permutation.specs.declared.First.{First}
 use Rattle.permutation.specs.declared.First.the-variants as first
 use Rattle.permutation.specs.declared.SetVars.{SetVars}

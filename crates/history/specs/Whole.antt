@@ -23,9 +23,9 @@ use Rattle.limits.specs.Numbers.{maxCount}
 use Rattle.limits.specs.Questions.{firstNo}
 use Rattle.words.specs.Pieces.{wordsOf}
 use Rattle.narg.specs.Reader.{Got}
-use Rattle.permutation.specs.declared.Outcome.{Outcome}
-use Rattle.permutation.specs.declared.Outcome.the-variants as outcome
-use Rattle.permutation.specs.Answers.{outcomeNumber}
+use Rattle.limits.specs.declared.Outcome.{Outcome}
+use Rattle.limits.specs.declared.Outcome.the-variants as outcome
+use Rattle.limits.specs.Outcome.{outcomeNumber}
 use Rattle.permute.specs.Parameters.{parametersOf, soundParameters}
 use Rattle.instance.specs.Parts.{heldPublics, heldQueries, heldEquations, partsOf}
 use Rattle.instance.specs.declared.PermutationInstance.{PermutationInstance}

@@ -10,8 +10,8 @@ use lib.Seq.{getD-drop}
 use Rattle.limits.specs.Questions.{pick}
 use Rattle.limits.proofs.Questions.{onYes-no, accepted-says}
 use Rattle.allocator.specs.Slots.{Pair, pair}
-use Rattle.permutation.specs.declared.VarValue.{VarValue}
-use Rattle.permutation.specs.declared.VarValue.the-variants as varValue
+use Rattle.allocator.specs.declared.VarValue.{VarValue}
+use Rattle.allocator.specs.declared.VarValue.the-variants as varValue
 use Rattle.instance.specs.Parts.{pairsAt}
 use Rattle.instance.specs.Looks.{lastValue, publicValueAsks, publicValueNo, publicValue}
 use Rattle.instance.specs.declared.PermutationInstance.{PermutationInstance}

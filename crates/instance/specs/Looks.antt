@@ -8,8 +8,8 @@ use Rattle.limits.specs.Numbers.{maxCount}
 use Rattle.limits.specs.Questions.{Question, question, firstNo, pick, onYes}
 use Rattle.limits.specs.Asks.{widthAsks, storeAsks}
 use Rattle.allocator.specs.Slots.{Pair}
-use Rattle.permutation.specs.declared.VarValue.{VarValue}
-use Rattle.permutation.specs.declared.VarValue.the-variants as varValue
+use Rattle.allocator.specs.declared.VarValue.{VarValue}
+use Rattle.allocator.specs.declared.VarValue.the-variants as varValue
 use Rattle.instance.specs.Parts.{pairsAt, heldPublics}
 use Rattle.instance.specs.declared.PermutationInstance.{PermutationInstance}
 

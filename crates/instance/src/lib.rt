@@ -8,12 +8,12 @@
 ghost use mathlib.Core.Path.{_≡_};
 ghost use Prim.Native.Nat.{_*_, _≤_};
 ghost use lib.ListN.{length};
-ghost use Rattle.permutation.specs.declared.VarValue.the-variants.{Nothing};
+ghost use Rattle.allocator.specs.declared.VarValue.the-variants.{Nothing};
 ghost use Rattle.instance.specs.Parts.{pairsAt};
 ghost use Rattle.instance.specs.Looks.{publicValue, lastValue, heading};
 use allocator::FieldVar;
+use allocator::VarValue;
 use limits::MAX_COUNT;
-use permutation::VarValue;
 
 mod held;
 mod validated;

@@ -2,3 +2,4 @@ pub mod Numbers
 pub mod Questions
 pub mod Asks
 pub mod Below
+pub mod Outcome

@@ -20,6 +20,12 @@ pub const MAX_COUNT: u32 = 1073741824;
 // The greatest width of a permutation; the least is 1.
 pub const MAX_WIDTH: u32 = 24;
 
+// What a call answers that has no value to give.
+pub enum Outcome {
+    Accepted,
+    Refused(u32),
+}
+
 // One question more, number k: an earlier no stays, else k where the answer is not yes.
 pub fn asked(no: u32, says: bool, k: u32) -> u32
     ensures { λ r. ⌜ r ≡ no ▸ ask k says ⌝ }

@@ -2,36 +2,21 @@
 -- it is not 0, accepted where it is. Assumes nothing.
 use Prim.Native.Nat.{ℕ, zero, suc}
 use mathlib.Core.Path.{_≡_, refl, sym, _∙_}
-use mathlib.Core.List.{List}
 use Rattle.limits.specs.Questions.{onYes}
-use Rattle.permutation.specs.Answers.{outcomeOf, outcomeNumber, firstOf, firstNumber, recordedOf, allocatedOf}
+use Rattle.limits.proofs.Answered.{outcome-refused, stays-by}
+use Rattle.permutation.specs.Answers.{firstOf, firstNumber, recordedOf, allocatedOf}
 use Rattle.permutation.specs.declared.PermutationRelation.{PermutationRelation}
-use Rattle.permutation.specs.declared.Outcome.the-variants as outcome
+use Rattle.limits.specs.declared.Outcome.the-variants as outcome
 use Rattle.permutation.specs.declared.First.the-variants as first
 
 -- an answer's number is the one that it was made from
-pub outcome-number : (k : ℕ) → outcomeNumber (outcomeOf k) ≡ k
-outcome-number zero = refl
-outcome-number (suc k) = refl
-
 pub first-number : (k v : ℕ) → firstNumber (firstOf k v) ≡ k
 first-number zero v = refl
 first-number (suc k) v = refl
 
-pub outcome-refused : (k : ℕ) → (k ≡ 0 → ⊥) → outcome.Refused k ≡ outcomeOf k
-outcome-refused zero h = absurd (h refl)
-outcome-refused (suc k) h = refl
-
-pub outcome-accepted : (k : ℕ) → k ≡ 0 → outcome.Accepted ≡ outcomeOf k
-outcome-accepted k z = rw z
-
 first-refused : (k v : ℕ) → (k ≡ 0 → ⊥) → first.Refused k ≡ firstOf k v
 first-refused zero v h = absurd (h refl)
 first-refused (suc k) v h = refl
-
-pub stays-by : {A : Type 0} (k : ℕ) (new old : A) → (k ≡ 0 → ⊥) → old ≡ onYes k new old
-stays-by zero new old h = absurd (h refl)
-stays-by (suc k) new old h = refl
 
 -- a call that answers an outcome and the record
 module _ (no k : ℕ) (e : k ≡ no) (new given : PermutationRelation) where
@@ -49,11 +34,3 @@ module _ (no k : ℕ) (e : k ≡ no) (new given : PermutationRelation) where
 
   pub allocated-accepted : (v : ℕ) → k ≡ 0 → record { first = first.Var v; relation = new } ≡ allocatedOf no v new given
   allocated-accepted v z = let q : no ≡ 0 = sym e ∙ z in rw q
-
--- a store
-module _ (no k : ℕ) (e : k ≡ no) (new old : List ℕ) where
-  pub store-refused : (k ≡ 0 → ⊥) → old ≡ onYes no new old
-  store-refused h = rw (sym e) (stays-by k new old h)
-
-  pub store-accepted : k ≡ 0 → new ≡ onYes no new old
-  store-accepted z = let q : no ≡ 0 = sym e ∙ z in rw q

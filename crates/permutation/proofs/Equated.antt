@@ -20,10 +20,11 @@ use Rattle.expr.proofs.Terms.{length-termsOf}
 use Rattle.expr.proofs.Write.{fit-equation}
 use Rattle.permutation.specs.Relation.{equationsAsks}
 use Rattle.permutation.specs.Numbers.{addEquationNo, equationNo}
-use Rattle.permutation.specs.Answers.{outcomeOf, isAccepted, recordedOf, oneEquation, addEquation, addEquationEquations}
+use Rattle.limits.specs.Outcome.{outcomeOf, isAccepted}
+use Rattle.permutation.specs.Answers.{recordedOf, oneEquation, addEquation, addEquationEquations}
 use Rattle.permutation.specs.declared.PermutationRelation.{PermutationRelation}
 use Rattle.permutation.specs.declared.Recorded.{Recorded}
-use Rattle.permutation.proofs.Answered.{stays-by}
+use Rattle.limits.proofs.Answered.{stays-by}
 use Rattle.permutation.proofs.Accepted.{addEquation-yes}
 
 -- a number is its own question's answer

@@ -9,7 +9,7 @@ use Rattle.allocator.specs.Slots.{pair}
 use Rattle.permutation.specs.Numbers.{newNo, allocateVarsNo, setVarNo}
 use Rattle.permutation.specs.Answers.{newRelation, newSlots, setVar, allocateVars}
 use Rattle.permutation.specs.declared.PermutationRelation.{PermutationRelation}
-use Rattle.permutation.specs.declared.Outcome.the-variants as outcome
+use Rattle.limits.specs.declared.Outcome.the-variants as outcome
 use Rattle.permutation.specs.declared.First.the-variants as first
 
 abbrev before : List ℕ

@@ -19,7 +19,8 @@ use Rattle.allocator.specs.Slots.{Pair, pair, pairs, grownSlots}
 use Rattle.allocator.specs.Values.{joins}
 use Rattle.expr.specs.Equation.{Term, Equation, equation, equationWords}
 use Rattle.permutation.specs.Numbers.{newNo, allocateVarsNo, setVarNo, setVarsNo, addPermutationNo, allocatePermutationNo, addEquationNo}
-use Rattle.permutation.specs.Answers.{relation, outcomeNumber, outcomeOf, firstNumber, firstOf, newRelation, newSlots, moreVars, oneQuery, oneEquation, allocateVars, allocateVarsSlots, setVar, setVarSlots, setVars, setVarsRun, setVarsSlots, queriesWith, addPermutation, addPermutationQueries, upFrom, allocatePermutation, allocatePermutationSlots, allocatePermutationQueries, addEquation, addEquationEquations}
+use Rattle.limits.specs.Outcome.{outcomeNumber, outcomeOf}
+use Rattle.permutation.specs.Answers.{relation, firstNumber, firstOf, newRelation, newSlots, moreVars, oneQuery, oneEquation, allocateVars, allocateVarsSlots, setVar, setVarSlots, setVars, setVarsRun, setVarsSlots, queriesWith, addPermutation, addPermutationQueries, upFrom, allocatePermutation, allocatePermutationSlots, allocatePermutationQueries, addEquation, addEquationEquations}
 use Rattle.permutation.specs.State.{HoldsQueries, Holds}
 use Rattle.permutation.specs.declared.PermutationRelation.{PermutationRelation}
 use Rattle.permutation.specs.declared.First.the-variants.{Var}

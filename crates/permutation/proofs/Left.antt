@@ -28,8 +28,8 @@ use Rattle.permutation.specs.Answers.{slotValue, valueOf, isAllocated, s
 use Rattle.permutation.specs.State.{HoldsSlots, Holds}
 use Rattle.permutation.specs.Left.{allocateVarsLeft, setVarLeft, pairsLeft, setVarsLeft, addPermutationLeft, allocatePermutationLeft, addEquationLeft, given, valueLeft, isAllocatedLeft}
 use Rattle.permutation.specs.declared.PermutationRelation.{PermutationRelation}
-use Rattle.permutation.specs.declared.VarValue.{VarValue}
-use Rattle.permutation.specs.declared.VarValue.the-variants as varValue
+use Rattle.allocator.specs.declared.VarValue.{VarValue}
+use Rattle.allocator.specs.declared.VarValue.the-variants as varValue
 use Rattle.permutation.specs.declared.IsAllocated.the-variants as allocated
 use Rattle.permutation.proofs.Slots.{set-holds}
 

@@ -11,10 +11,11 @@ use Rattle.limits.specs.Numbers.{unassigned}
 use Rattle.limits.specs.Questions.{pick, onYes}
 use Rattle.words.proofs.Lists.{getD-any}
 use Rattle.permutation.specs.Numbers.{valueNo, isAllocatedNo}
-use Rattle.permutation.specs.Answers.{valueNumber, isAllocatedNumber, valueOf, isAllocated}
-use Rattle.permutation.proofs.Answered.{stays-by}
+use Rattle.allocator.specs.VarValue.{valueNumber}
+use Rattle.permutation.specs.Answers.{isAllocatedNumber, valueOf, isAllocated}
+use Rattle.limits.proofs.Answered.{stays-by}
 use Rattle.permutation.specs.declared.PermutationRelation.{PermutationRelation}
-use Rattle.permutation.specs.declared.VarValue.the-variants as varValue
+use Rattle.allocator.specs.declared.VarValue.the-variants as varValue
 use Rattle.permutation.specs.declared.IsAllocated.the-variants as allocated
 
 -- k: what the questions answer

@@ -12,11 +12,12 @@ use Rattle.allocator.specs.Assign.{assignVarSlots, setPairs}
 use Rattle.allocator.specs.declared.SetPairs.{SetPairs}
 use Rattle.permutation.specs.Relation.{relationAsks}
 use Rattle.permutation.specs.Numbers.{setVarNo, setVarsNo}
-use Rattle.permutation.specs.Answers.{outcomeOf, setVar, setVarSlots, setVarsRun, setVars, setVarsSlots}
+use Rattle.limits.specs.Outcome.{outcomeOf}
+use Rattle.permutation.specs.Answers.{setVar, setVarSlots, setVarsRun, setVars, setVarsSlots}
 use Rattle.permutation.specs.declared.PermutationRelation.{PermutationRelation}
-use Rattle.permutation.specs.declared.Outcome.{Outcome}
-use Rattle.permutation.specs.declared.Outcome.the-variants.{Accepted, Refused}
-use Rattle.permutation.proofs.Answered.{outcome-refused, outcome-accepted, stays-by}
+use Rattle.limits.specs.declared.Outcome.{Outcome}
+use Rattle.limits.specs.declared.Outcome.the-variants.{Accepted, Refused}
+use Rattle.limits.proofs.Answered.{outcome-refused, outcome-accepted, stays-by}
 
 -- ---- a set; k: what 1 and 2 answer
 module _ (rel : PermutationRelation) (slots : List ℕ) (p : Pair) (k : ℕ) (e : k ≡ firstNo (relationAsks rel (length slots))) where

@@ -7,61 +7,41 @@ use lib.Dec.{eqb, ltb, leb}
 use lib.ListN.{length, getD, set}
 use Rattle.limits.specs.Numbers.{unassigned, maxCount}
 use Rattle.limits.specs.Questions.{pick, ask, _▸_, onYes}
+use Rattle.limits.specs.Outcome.{outcomeOf}
 use Rattle.words.specs.Store.{putWords, fitWords}
 use Rattle.words.specs.Pieces.{wordsOf}
 use Rattle.allocator.specs.Slots.{Pair, pairs, grownSlots, SetRun, ran, setRun}
 use Rattle.expr.specs.Equation.{Term, equation, equationWords, equationSize}
 use Rattle.permutation.specs.Numbers.{newNo, allocateVarsNo, setVarNo, setVarsNo, valueNo, isAllocatedNo, addPermutationNo, allocatePermutationNo, addEquationNo}
 use Rattle.permutation.specs.declared.PermutationRelation.{PermutationRelation}
-use Rattle.permutation.specs.declared.Outcome.{Outcome}
-use Rattle.permutation.specs.declared.Outcome.the-variants as outcome
+use Rattle.limits.specs.declared.Outcome.{Outcome}
+use Rattle.limits.specs.declared.Outcome.the-variants as outcome
 use Rattle.permutation.specs.declared.First.{First}
 use Rattle.permutation.specs.declared.First.the-variants as first
 use Rattle.permutation.specs.declared.Recorded.{Recorded}
 use Rattle.permutation.specs.declared.Allocated.{Allocated}
 use Rattle.permutation.specs.declared.SetVars.{SetVars}
-use Rattle.permutation.specs.declared.VarValue.{VarValue}
-use Rattle.permutation.specs.declared.VarValue.the-variants as varValue
+use Rattle.allocator.specs.declared.VarValue.{VarValue}
+use Rattle.allocator.specs.declared.VarValue.the-variants as varValue
 use Rattle.permutation.specs.declared.IsAllocated.{IsAllocated}
 use Rattle.permutation.specs.declared.IsAllocated.the-variants as isAllocated-is
 
 -- ---- answers by number
--- accepted at 0, else refused with the number
-abbrev pub outcomeOf : ℕ → Outcome
-outcomeOf zero = outcome.Accepted
-outcomeOf (suc k) = outcome.Refused (suc k)
-
 -- the first new wire at 0, else refused with the number
 abbrev pub firstOf : ℕ → ℕ → First
 firstOf zero var = first.Var var
 firstOf (suc k) var = first.Refused (suc k)
 
--- document 01's number of each answer: 0 is yes
-abbrev pub outcomeNumber : Outcome → ℕ
-outcomeNumber outcome.Accepted = 0
-outcomeNumber (outcome.Refused k) = k
-
--- of an allocation's answer
+-- document 01's number of an allocation's answer: 0 is yes
 abbrev pub firstNumber : First → ℕ
 firstNumber (first.Var v) = 0
 firstNumber (first.Refused k) = k
-
--- of a look at a wire's value
-abbrev pub valueNumber : VarValue → ℕ
-valueNumber (varValue.Value v) = 0
-valueNumber varValue.Nothing = 0
-valueNumber (varValue.Refused k) = k
 
 -- of a look whether a wire is allocated
 abbrev pub isAllocatedNumber : IsAllocated → ℕ
 isAllocatedNumber isAllocated-is.Yes = 0
 isAllocatedNumber isAllocated-is.No = 0
 isAllocatedNumber (isAllocated-is.Refused k) = k
-
--- is it accepted?
-abbrev pub isAccepted : Outcome → Bool
-isAccepted outcome.Accepted = true
-isAccepted (outcome.Refused k) = false
 
 -- the outcome with the record: the new one at 0, else the one that was given
 abbrev pub recordedOf : ℕ → PermutationRelation → PermutationRelation → Recorded

@@ -14,8 +14,8 @@ use Rattle.words.specs.Pieces.{wordsOf}
 use Rattle.allocator.specs.Slots.{Pair, growAsks, pairs}
 use Rattle.allocator.specs.Values.{look, fits}
 use Rattle.expr.specs.Equation.{Term, Equation, termVars, termWeights, equationSize, equationsWords}
-use Rattle.permutation.specs.declared.VarValue.{VarValue}
-use Rattle.permutation.specs.declared.VarValue.the-variants as varValue
+use Rattle.allocator.specs.declared.VarValue.{VarValue}
+use Rattle.allocator.specs.declared.VarValue.the-variants as varValue
 use Rattle.permutation.specs.declared.IsAllocated.{IsAllocated}
 use Rattle.permutation.specs.declared.IsAllocated.the-variants as allocated
 

@@ -12,12 +12,15 @@ ghost use Rattle.limits.specs.Asks.{widthAsks};
 ghost use Rattle.allocator.specs.Slots.{pair, slotsAsks};
 ghost use Rattle.expr.specs.Weighted.{termsOf};
 ghost use Rattle.permutation.specs.Numbers.{newNo, allocateVarsNo, setVarsNo, valueNo, isAllocatedNo, addPermutationNo, allocatePermutationNo, equationNo};
-ghost use Rattle.permutation.specs.Answers.{newRelation, newSlots, allocateVars, allocateVarsSlots, setVar, setVarSlots, setVars, setVarsSlots, valueOf, isAllocated, recordedOf, oneEquation, isAccepted};
+ghost use Rattle.limits.specs.Outcome.{isAccepted};
+ghost use Rattle.permutation.specs.Answers.{newRelation, newSlots, allocateVars, allocateVarsSlots, setVar, setVarSlots, setVars, setVarsSlots, valueOf, isAllocated, recordedOf, oneEquation};
 ghost use Rattle.permutation.specs.Answers.{addPermutation, addPermutationQueries, allocatePermutation, allocatePermutationSlots, allocatePermutationQueries, fitVars, addEquation, addEquationEquations};
 use allocator::FieldVar;
+use allocator::VarValue;
 use baby_bear::BabyBearUnit;
 use expr::Weighted;
 use limits::MAX_COUNT;
+use limits::Outcome;
 use limits::P;
 use limits::UNASSIGNED;
 
@@ -29,12 +32,6 @@ pub struct PermutationRelation {
     pub queries: u32,
     pub equations: u32,
     pub words: u32,
-}
-
-// What a call answers that has no value to give.
-pub enum Outcome {
-    Accepted,
-    Refused(u32),
 }
 
 // What a call answers that allocates: the number of the first new wire. It is 2^30, which is no wire, where
@@ -60,13 +57,6 @@ pub struct Allocated {
 pub struct SetVars {
     pub outcome: Outcome,
     pub accepted: u32,
-}
-
-// The value of a wire, as the word that its slot holds.
-pub enum VarValue {
-    Value(u32),
-    Nothing,
-    Refused(u32),
 }
 
 // Whether a wire is allocated.

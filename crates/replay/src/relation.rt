@@ -23,16 +23,16 @@ use crate::sample::take_list;
 use crate::sample::take_lists;
 use crate::sample::take_word;
 use allocator::FieldVar;
+use allocator::VarValue;
 use baby_bear::BabyBearUnit;
 use expr::Weighted;
+use limits::Outcome;
 use narg::Cursor;
 use permutation::Allocated;
 use permutation::First;
 use permutation::IsAllocated;
-use permutation::Outcome;
 use permutation::PermutationRelation;
 use permutation::Recorded;
-use permutation::VarValue;
 
 // The record of a case, and the cursor past it.
 struct Begun {

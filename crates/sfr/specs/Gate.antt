@@ -4,7 +4,7 @@ use Prim.Native.Nat.{ℕ}
 use mathlib.Core.Bool.{true, false}
 use Rattle.instance.specs.Looks.{heading}
 use Rattle.compile.specs.declared.Compiled.{Compiled}
-use Rattle.permutation.specs.Answers.{outcomeNumber}
+use Rattle.limits.specs.Outcome.{outcomeNumber}
 use Rattle.sfr.specs.declared.gate.SfrInstanceAnswer.{SfrInstanceAnswer}
 use Rattle.sfr.specs.declared.gate.SfrHeading.{SfrHeading}
 

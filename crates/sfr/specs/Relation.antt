@@ -4,14 +4,15 @@ use Prim.Native.Nat.{ℕ}
 use mathlib.Core.Bool.{true, false}
 use Rattle.expr.specs.declared.Scaled.{Scaled}
 use Rattle.expr.specs.declared.Scaled.the-variants as scaling
-use Rattle.permutation.specs.Answers.{outcomeNumber, firstNumber}
+use Rattle.limits.specs.Outcome.{outcomeNumber}
+use Rattle.permutation.specs.Answers.{firstNumber}
 use Rattle.permutation.specs.declared.First.{First}
 use Rattle.permutation.specs.declared.First.the-variants as first
 use Rattle.permutation.specs.declared.Recorded.{Recorded}
 use Rattle.permutation.specs.declared.Allocated.{Allocated}
 use Rattle.permutation.specs.declared.SetVars.{SetVars}
-use Rattle.permutation.specs.declared.VarValue.{VarValue}
-use Rattle.permutation.specs.declared.VarValue.the-variants as varValue
+use Rattle.allocator.specs.declared.VarValue.{VarValue}
+use Rattle.allocator.specs.declared.VarValue.the-variants as varValue
 use Rattle.permutation.specs.declared.IsAllocated.{IsAllocated}
 use Rattle.permutation.specs.declared.IsAllocated.the-variants as allocated
 use Rattle.sfr.specs.declared.relation.SfrRelationAnswer.{SfrRelationAnswer}

@@ -1,7 +1,7 @@
 -- The answer of a read as a struct for C: document 01's number, the instance's record and the label's length.
 -- Assumes nothing.
 use Rattle.decoding.specs.declared.InstanceRead.{InstanceRead}
-use Rattle.permutation.specs.Answers.{outcomeNumber}
+use Rattle.limits.specs.Outcome.{outcomeNumber}
 use Rattle.sfr.specs.declared.sfri.SfrInstanceRead.{SfrInstanceRead}
 
 -- the three, taken from what the read answers

@@ -1,13 +1,13 @@
 -- The answers of calls on a trace as structs for C: document 01's number, and the values of each case.
 -- Assumes nothing.
 use Prim.Native.Nat.{ℕ}
-use Rattle.permutation.specs.declared.Outcome.{Outcome}
-use Rattle.permutation.specs.declared.Outcome.the-variants as outcome
+use Rattle.limits.specs.declared.Outcome.{Outcome}
+use Rattle.limits.specs.declared.Outcome.the-variants as outcome
 use Rattle.witness.specs.declared.PermutationWitness.{PermutationWitness}
 use Rattle.witness.specs.declared.Traced.{Traced}
 use Rattle.encoding.specs.declared.Written.{Written}
 use Rattle.decoding.specs.declared.WitnessRead.{WitnessRead}
-use Rattle.permutation.specs.Answers.{outcomeNumber}
+use Rattle.limits.specs.Outcome.{outcomeNumber}
 use Rattle.sfr.specs.declared.trace.SfrTraceAnswer.{SfrTraceAnswer}
 use Rattle.sfr.specs.declared.trace.SfrWritten.{SfrWritten}
 

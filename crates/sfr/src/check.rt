@@ -3,7 +3,7 @@
 ghost use mathlib.Core.Path.{_≡_};
 ghost use lib.ListN.{length, replicate};
 ghost use Rattle.validity.specs.Valid.{isWitnessValid};
-ghost use Rattle.permutation.specs.Answers.{outcomeNumber};
+ghost use Rattle.limits.specs.Outcome.{outcomeNumber};
 use crate::relation::outcome_no;
 use instance::PermutationInstance;
 

@@ -3,20 +3,21 @@
 ghost use mathlib.Core.Path.{_≡_};
 ghost use Rattle.allocator.specs.Slots.{pair};
 ghost use Rattle.expr.specs.Weighted.{termsOf, scaled, scaledTerms};
-ghost use Rattle.permutation.specs.Answers.{outcomeNumber, newRelation, newSlots, allocateVars, allocateVarsSlots, setVar, setVarSlots, setVars, setVarsSlots, valueOf, isAllocated};
+ghost use Rattle.limits.specs.Outcome.{outcomeNumber};
+ghost use Rattle.permutation.specs.Answers.{newRelation, newSlots, allocateVars, allocateVarsSlots, setVar, setVarSlots, setVars, setVarsSlots, valueOf, isAllocated};
 ghost use Rattle.permutation.specs.Answers.{addPermutation, addPermutationQueries, allocatePermutation, allocatePermutationSlots, allocatePermutationQueries, addEquation, addEquationEquations};
 ghost use Rattle.sfr.specs.Relation.{recordedAnswer, allocatedAnswer, tallyOf, scaledNumber, valueAnswer, flagOf};
 use allocator::FieldVar;
+use allocator::VarValue;
 use baby_bear::BabyBearUnit;
 use expr::Scaled;
 use expr::Weighted;
+use limits::Outcome;
 use permutation::Allocated;
 use permutation::First;
 use permutation::IsAllocated;
-use permutation::Outcome;
 use permutation::PermutationRelation;
 use permutation::Recorded;
-use permutation::VarValue;
 
 // A call's number with the record beside it; `first` is the first wire that an allocation answers, else 0.
 #[repr(C)]

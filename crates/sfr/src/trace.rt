@@ -9,7 +9,7 @@ ghost use Rattle.decoding.specs.Answers.{witnessFromBytes, witnessAnswer, trace
 ghost use Rattle.sfr.specs.Trace.{tracedAnswer, writtenAnswer, traceRead};
 use crate::relation::outcome_no;
 use encoding::Written;
-use permutation::Outcome;
+use limits::Outcome;
 use witness::PermutationWitness;
 use witness::Traced;
 

@@ -8,8 +8,8 @@ use borrow.Author.Tests.{leb-true}
 use Rattle.limits.specs.Questions.{Question, ask, firstNo, _▸_}
 use Rattle.limits.proofs.Questions.{stays, goes-on, ▸-assoc, zero-▸, ▸-zero, firstNo-append, saysAt, accepted-says}
 use Rattle.permute.specs.Parameters.{isEvaluation}
-use Rattle.permutation.specs.Answers.{outcomeOf}
-use Rattle.permutation.specs.declared.Outcome.the-variants.{Accepted, Refused}
+use Rattle.limits.specs.Outcome.{outcomeOf}
+use Rattle.limits.specs.declared.Outcome.the-variants.{Accepted, Refused}
 use Rattle.instance.specs.Parts.{partsOf}
 use Rattle.instance.specs.declared.PermutationInstance.{PermutationInstance}
 use Rattle.validity.specs.Check.{checkNo}

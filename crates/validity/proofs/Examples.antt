@@ -10,8 +10,8 @@ use Rattle.utf8.specs.Utf8.{isUtf8, follow}
 use Rattle.expr.specs.Equation.{equationAt, sizeAt}
 use Rattle.permute.specs.Permute.{addConstants, raise, timesMatrix, runRound, runRounds}
 use Rattle.permute.specs.Parameters.{roundsOf, rowsOf, soundKinds, unitConstants, unitRows, soundParameters, permuteNo, sameWords, isEvaluation}
-use Rattle.permutation.specs.declared.Outcome.{Outcome}
-use Rattle.permutation.specs.declared.Outcome.the-variants.{Accepted, Refused}
+use Rattle.limits.specs.declared.Outcome.{Outcome}
+use Rattle.limits.specs.declared.Outcome.the-variants.{Accepted, Refused}
 use Rattle.instance.specs.Parts.{partsOf}
 use Rattle.instance.specs.Held.{equationsSound, publicsSound}
 use Rattle.instance.specs.declared.PermutationInstance.{PermutationInstance}

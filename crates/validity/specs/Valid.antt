@@ -10,8 +10,8 @@ use Rattle.limits.specs.Questions.{Question, question, firstNo, _▸_}
 use Rattle.limits.specs.Asks.{widthAsks, storeAsks}
 use Rattle.words.specs.Store.{allBelow}
 use Rattle.words.specs.Pieces.{wordsOf, pieces}
-use Rattle.permutation.specs.Answers.{outcomeOf}
-use Rattle.permutation.specs.declared.Outcome.{Outcome}
+use Rattle.limits.specs.Outcome.{outcomeOf}
+use Rattle.limits.specs.declared.Outcome.{Outcome}
 use Rattle.permute.specs.Parameters.{soundParameters, isEvaluation}
 use Rattle.instance.specs.Parts.{heldPublics, heldEquations, partsOf}
 use Rattle.instance.specs.Held.{labelAsks, partsAsks, heldAsks, publicsSound, equationsSound}

@@ -26,8 +26,8 @@ ghost use Rattle.validity.specs.Valid.{stepsOf, isWitnessValidAsks, isWi
 use instance::PermutationInstance;
 use instance::held_pieces;
 use instance::held_words;
+use limits::Outcome;
 use limits::P;
-use permutation::Outcome;
 
 // What goes in by value beside the lent words: the instance's record, the steps of the trace, and the rounds
 // of the permutation.

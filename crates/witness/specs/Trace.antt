@@ -9,7 +9,7 @@ use Rattle.limits.specs.Questions.{Question, question, firstNo, onYes}
 use Rattle.limits.specs.Asks.{widthAsks, storeAsks}
 use Rattle.words.specs.Store.{allBelow, putWords}
 use Rattle.words.specs.Pieces.{wordsOf, pieces}
-use Rattle.permutation.specs.Answers.{outcomeOf}
+use Rattle.limits.specs.Outcome.{outcomeOf}
 use Rattle.permute.specs.Permute.{permute}
 use Rattle.permute.specs.Parameters.{parametersOf, soundParameters}
 use Rattle.witness.specs.declared.PermutationWitness.{PermutationWitness}

@@ -12,8 +12,8 @@ ghost use Rattle.words.specs.Pieces.{wordsOf};
 ghost use Rattle.permute.specs.Parameters.{permuteNo};
 ghost use Rattle.witness.specs.Trace.{traceAsks, inputNo, addPermutationNo, tracedOf, traceWith, evaluatedStep};
 ghost use Rattle.witness.specs.Trace.{addPermutation, addPermutationTrace, allocatePermutation, allocatePermutationTrace};
+use limits::Outcome;
 use limits::P;
-use permutation::Outcome;
 
 // The record of a trace: 2 · width units per step.
 #[repr(C)]

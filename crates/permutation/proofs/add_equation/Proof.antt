@@ -44,7 +44,8 @@ use Rattle.limits.specs.Questions.{firstNo}
 use Rattle.expr.specs.Equation.{equation, termsAsks, fitEquation}
 use Rattle.expr.specs.Weighted.{termsOf}
 use Rattle.permutation.specs.Numbers.{equationNo}
-use Rattle.permutation.specs.Answers.{recordedOf, oneEquation, isAccepted, addEquation, addEquationEquations}
+use Rattle.limits.specs.Outcome.{isAccepted}
+use Rattle.permutation.specs.Answers.{recordedOf, oneEquation, addEquation, addEquationEquations}
 use Rattle.baby_bear.specs.declared.BabyBearUnit.{BabyBearUnit}
 use Rattle.expr.specs.declared.Weighted.{Weighted}
 use Rattle.permutation.specs.declared.PermutationRelation.{PermutationRelation}

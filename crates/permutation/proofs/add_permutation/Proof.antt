@@ -10,7 +10,8 @@ use Rattle.words.specs.Store.{fitWords}
 use Rattle.words.specs.Pieces.{wordsOf}
 use Rattle.permutation.specs.Numbers.{addPermutationNo}
 use Rattle.permutation.specs.Answers.{oneQuery, queriesWith}
-use Rattle.permutation.proofs.Answered.{recorded-refused, recorded-accepted, store-refused, store-accepted}
+use Rattle.limits.proofs.Answered.{store-refused, store-accepted}
+use Rattle.permutation.proofs.Answered.{recorded-refused, recorded-accepted}
 use Rattle.permutation.proofs.Accepted.{addPermutation-yes}
 use Rattle.permutation.proofs.Queried.{query-put, queries-few}
 use borrow.Author.Needs.{needs}

@@ -14,7 +14,8 @@ use Rattle.words.specs.Pieces.{wordsOf}
 use Rattle.allocator.specs.Slots.{grownSlots}
 use Rattle.permutation.specs.Numbers.{allocatePermutationNo}
 use Rattle.permutation.specs.Answers.{moreVars, oneQuery, queriesWith, upFrom, fitVars}
-use Rattle.permutation.proofs.Answered.{allocated-refused, allocated-accepted, store-refused, store-accepted}
+use Rattle.limits.proofs.Answered.{store-refused, store-accepted}
+use Rattle.permutation.proofs.Answered.{allocated-refused, allocated-accepted}
 use Rattle.permutation.proofs.Accepted.{allocatePermutation-yes}
 use Rattle.permutation.proofs.Minted.{upFrom-length}
 use Rattle.permutation.proofs.Queried.{query-put, queries-few}

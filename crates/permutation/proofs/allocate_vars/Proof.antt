@@ -5,7 +5,8 @@ use lib.ListN.{length}
 use borrow.Author.Tests.{le-leb}
 use native.Mathlib.Omega.{arith}
 use Rattle.allocator.specs.Slots.{grownSlots}
-use Rattle.permutation.proofs.Answered.{allocated-refused, allocated-accepted, store-refused, store-accepted}
+use Rattle.limits.proofs.Answered.{store-refused, store-accepted}
+use Rattle.permutation.proofs.Answered.{allocated-refused, allocated-accepted}
 use Rattle.permutation.proofs.Accepted.{allocateVars-yes}
 use Rattle.permutation.specs.Answers.{moreVars}
 use Rattle.permutation.specs.Numbers.{allocateVarsNo}

@@ -2,7 +2,8 @@
 -- Assumes nothing.
 use denote.Ref.{now}
 use lib.ListN.{length, set}
-use Rattle.permutation.proofs.Answered.{recorded-refused, recorded-accepted, store-refused, store-accepted}
+use Rattle.limits.proofs.Answered.{store-refused, store-accepted}
+use Rattle.permutation.proofs.Answered.{recorded-refused, recorded-accepted}
 use Rattle.permutation.proofs.Accepted.{new-yes}
 use Rattle.permutation.specs.Answers.{relation}
 use Rattle.permutation.specs.Numbers.{newNo}

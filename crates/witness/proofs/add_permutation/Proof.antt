@@ -4,7 +4,7 @@ use mathlib.Core.Path.{sym, ap, _∙_}
 use mathlib.Core.List.{_++_}
 use denote.Ref.{now}
 use lib.ListN.{length}
-use Rattle.permutation.proofs.Answered.{store-refused, store-accepted}
+use Rattle.limits.proofs.Answered.{store-refused, store-accepted}
 use Rattle.witness.specs.Trace.{addPermutationNo, tracedOf, traceWith}
 use Rattle.witness.proofs.Accepted.{addPermutation-yes}
 use borrow.Author.Needs.{needs}

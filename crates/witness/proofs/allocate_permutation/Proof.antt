@@ -4,7 +4,7 @@ use mathlib.Core.Path.{sym, ap, _∙_}
 use denote.Ref.{now}
 use lib.ListN.{length}
 use Rattle.limits.specs.Questions.{onYes}
-use Rattle.permutation.proofs.Answered.{store-refused}
+use Rattle.limits.proofs.Answered.{store-refused}
 use Rattle.witness.specs.Trace.{allocatePermutationNo, tracedOf, traceWith, evaluatedStep}
 use Rattle.witness.proofs.Accepted.{input-yes, allocatePermutation-yes}
 use Rattle.witness.proofs.Evaluated.{input-refused, room-asked, full-number, full-refused, room-number}

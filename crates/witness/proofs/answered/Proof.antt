@@ -3,7 +3,7 @@
 use mathlib.Core.Path.{sym}
 use native.Mathlib.Omega.{arith}
 use Rattle.limits.proofs.Questions.{onYes-yes}
-use Rattle.permutation.proofs.Answered.{outcome-refused, outcome-accepted, stays-by}
+use Rattle.limits.proofs.Answered.{outcome-refused, outcome-accepted, stays-by}
 use Rattle.witness.specs.Trace.{oneStep}
 use Rattle.witness.proofs.answered.Statement.{statement}
 use Rattle.witness.proofs.answered.Tie as tie

@@ -6,7 +6,7 @@ use denote.Ref.{now}
 use Rattle.limits.proofs.Questions.{onYes-yes}
 use Rattle.permute.specs.Parameters.{permuteNo, permuted}
 use Rattle.permute.proofs.Laws.{permuted-yes}
-use Rattle.permutation.proofs.Answered.{stays-by}
+use Rattle.limits.proofs.Answered.{stays-by}
 use Rattle.witness.specs.Trace.{traceWith, evaluatedStep}
 use Rattle.witness.proofs.Written.{copied}
 use borrow.Author.Needs.{needs}

@@ -10,7 +10,7 @@ use denote.Ref.{now}
 use lib.ListN.{length, replicate}
 use Rattle.words.specs.Store.{putWords}
 use Rattle.words.specs.Pieces.{flat}
-use Rattle.permutation.specs.declared.Outcome.the-variants.{Refused}
+use Rattle.limits.specs.declared.Outcome.the-variants.{Refused}
 use Rattle.header.specs.Form.{version}
 use Rattle.decoding.specs.Read.{readWitness}
 use Rattle.decoding.specs.Answers.{witnessFromBytes}

@@ -1,7 +1,7 @@
 -- `sfr::check::sfr_is_witness_valid` meets its contract: what the call answers, as a struct.
 -- Assumes nothing.
 use mathlib.Core.Path.{ap, _∙_}
-use Rattle.permutation.specs.Answers.{outcomeNumber}
+use Rattle.limits.specs.Outcome.{outcomeNumber}
 use borrow.Author.Needs.{needs}
 use Rattle.sfr.proofs.check.sfr_is_witness_valid.Statement.{statement}
 use Rattle.sfr.proofs.check.sfr_is_witness_valid.Tie as tie

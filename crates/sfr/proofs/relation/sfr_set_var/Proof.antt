@@ -1,7 +1,7 @@
 -- `sfr::relation::sfr_set_var` meets its contract: what the call answers, as a struct.
 -- Assumes nothing.
 use mathlib.Core.Path.{ap, _∙_}
-use Rattle.permutation.specs.Answers.{outcomeNumber}
+use Rattle.limits.specs.Outcome.{outcomeNumber}
 use borrow.Author.Needs.{needs}
 use Rattle.sfr.proofs.relation.sfr_set_var.Statement.{statement}
 use Rattle.sfr.proofs.relation.sfr_set_var.Tie as tie

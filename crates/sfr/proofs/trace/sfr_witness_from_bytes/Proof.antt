@@ -6,7 +6,7 @@ use Rattle.sfr.proofs.trace.sfr_witness_from_bytes.Tie as tie
 use Prim.Native.Nat.{ℕ}
 use mathlib.Core.Path.{_≡_, ap, _∙_}
 use Rattle.sfr.specs.Trace.{traceRead}
-use Rattle.permutation.specs.declared.Outcome.the-variants as outcome
+use Rattle.limits.specs.declared.Outcome.the-variants as outcome
 use Rattle.decoding.specs.declared.WitnessRead.{WitnessRead}
 
 read-yes : (width : ℕ) (r : WitnessRead) → r .outcome ≡ outcome.Accepted
