@@ -32,7 +32,7 @@ static uint32_t batch(const uint32_t weights[2])
     uint32_t slots[6], queries[4], equations[8], publics[4], trace[4], scratch[6];
     uint8_t sfri[128], sfrw[64];
 
-    sfr_relation rel = go_on(sfr_new(1, LENT(slots)));
+    sfr_relation rel = go_on(sfr_new_relation(1, LENT(slots)));
     rel = go_on(sfr_allocate_vars(rel, LENT(slots), 3));
     accepted(sfr_set_var(rel, LENT(slots), SACK, 1));
     rel = go_on(sfr_allocate_permutation(rel, LENT(slots), LENT(queries), &(uint32_t){HOPPER}, 1));

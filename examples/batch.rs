@@ -17,7 +17,7 @@ fn batch(by_hopper: u32, by_hand: u32) -> Result<u32, Refused> {
     let (publics, trace, scratch) = (&mut [0; 4], &mut [0; 4], &mut [0; 6]);
     let (sfri, sfrw) = (&mut [0; 128], &mut [0; 64]);
 
-    let rel = sfr::new(1, slots).accepted()?;
+    let rel = sfr::new_relation(1, slots).accepted()?;
     let (hopper, rel) = sfr::allocate_vars(rel, slots, 3).allocated()?;
     let (hand, sack) = (hopper + 1, hopper + 2);
     sfr::accepted(sfr::set_var(rel, slots, sack, 1))?;

@@ -80,8 +80,8 @@ typedef struct {
 } sfr_place;
 
 /* Sum and product modulo p. No questions, nothing lent: a word of p or more counts as what it leaves modulo p. */
-uint32_t sfr_add(uint32_t a, uint32_t b);
-uint32_t sfr_mul(uint32_t a, uint32_t b);
+uint32_t sfr_add_unit(uint32_t a, uint32_t b);
+uint32_t sfr_mul_unit(uint32_t a, uint32_t b);
 
 /* Are the bytes UTF-8 by RFC 3629? No questions; no bytes are. Lent: bytes, only read. */
 bool sfr_is_utf8(const uint8_t *bytes, size_t len);
@@ -116,7 +116,7 @@ typedef struct {
 } sfr_relation;
 
 /* `first` is the first wire that an allocation or a mint answers, 0 elsewhere and after a refusal. A refused call gives
- * back the record it was given, a refused sfr_new a record of zeros. */
+ * back the record it was given, a refused sfr_new_relation a record of zeros. */
 typedef struct {
     uint32_t number;
     uint32_t first;
@@ -150,7 +150,7 @@ typedef struct {
 
 /* Fresh: a relation of that width with wire 0 alone, whose slot becomes 0.
  * Questions 1, 2, 6. Lent: slots, at least one word. A refusal leaves them as they were. */
-sfr_relation_answer sfr_new(uint32_t width, uint32_t *slots, size_t slots_len);
+sfr_relation_answer sfr_new_relation(uint32_t width, uint32_t *slots, size_t slots_len);
 
 /* Allocate: the next n wires, whose slots become F; answers the first, the wire count before the call. n may be 0.
  * Questions 1, 2, 5, 6. Lent: slots, a word per wire with the new ones. A refusal leaves slots and record as they

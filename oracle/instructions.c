@@ -31,7 +31,7 @@ int main(int argc, char **argv) {
     uint8_t *sfri = lent(sfri_len, 1), *sfrw = lent(sfrw_len, 1);
 
     /* Every wire that is used carries 5, and no round changes it. */
-    sfr_relation_answer at = sfr_allocate_vars(sfr_new(WIDTH, slots, vars).relation, slots, vars, WIDTH);
+    sfr_relation_answer at = sfr_allocate_vars(sfr_new_relation(WIDTH, slots, vars).relation, slots, vars, WIDTH);
     accepted("allocate", at.number);
     uint32_t inputs[WIDTH], params[WIDTH * WIDTH] = {0};
     for (uint32_t i = 0; i < WIDTH; i++) inputs[i] = at.first + i;

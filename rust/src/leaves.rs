@@ -6,14 +6,14 @@ use crate::{sys, Place, Word};
 /// The sum of two units modulo p. No questions: a word of p or more counts as what it leaves
 /// modulo p.
 #[must_use]
-pub fn add(a: u32, b: u32) -> u32 {
-    sys::sfr_add(a, b)
+pub fn add_unit(a: u32, b: u32) -> u32 {
+    sys::sfr_add_unit(a, b)
 }
 
 /// The product of two units modulo p. No questions, as for [`add`].
 #[must_use]
-pub fn mul(a: u32, b: u32) -> u32 {
-    sys::sfr_mul(a, b)
+pub fn mul_unit(a: u32, b: u32) -> u32 {
+    sys::sfr_mul_unit(a, b)
 }
 
 /// Are the bytes UTF-8 by RFC 3629? No questions; no bytes are.

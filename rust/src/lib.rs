@@ -22,7 +22,7 @@
 //!
 //! ```
 //! let mut slots = [0; 8];
-//! let rel = sfr::new(1, &mut slots).accepted()?; // one wire, wire 0, that carries 0
+//! let rel = sfr::new_relation(1, &mut slots).accepted()?; // one wire, wire 0, that carries 0
 //! assert_eq!(sfr::set_var(rel, &mut slots, 0, 0), 0);
 //! let refused = sfr::accepted(sfr::set_var(rel, &mut slots, 0, 5)).unwrap_err();
 //! assert_eq!(refused.to_string(), "8: is its slot F or that value?");

@@ -5,9 +5,9 @@ use crate::{sys, Flag, Relation, RelationAnswer, Tally, Value, Weighted};
 /// Fresh: a relation of that width with wire 0 alone, whose slot becomes 0.
 ///
 /// Questions 1, 2, 6. Lent: slots, at least one word. A refusal leaves them as they were.
-pub fn new(width: u32, slots: &mut [u32]) -> RelationAnswer {
+pub fn new_relation(width: u32, slots: &mut [u32]) -> RelationAnswer {
     // SAFETY: see the head of this file.
-    unsafe { sys::sfr_new(width, slots.as_mut_ptr(), slots.len()) }
+    unsafe { sys::sfr_new_relation(width, slots.as_mut_ptr(), slots.len()) }
 }
 
 /// Allocates the next n wires, whose slots become F, and answers the first: the wire count

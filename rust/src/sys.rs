@@ -3,8 +3,8 @@
 use crate::records::*;
 
 unsafe extern "C" {
-    pub safe fn sfr_add(a: u32, b: u32) -> u32;
-    pub safe fn sfr_mul(a: u32, b: u32) -> u32;
+    pub safe fn sfr_add_unit(a: u32, b: u32) -> u32;
+    pub safe fn sfr_mul_unit(a: u32, b: u32) -> u32;
     pub fn sfr_is_utf8(bytes: *const u8, len: usize) -> bool;
     pub fn sfr_read_u32(bytes: *const u8, len: usize, at: usize) -> Word;
     pub fn sfr_put_u32(out: *mut u8, len: usize, at: usize, value: u32) -> Place;
@@ -30,7 +30,7 @@ unsafe extern "C" {
 
 // Relations.
 unsafe extern "C" {
-    pub fn sfr_new(width: u32, slots: *mut u32, slots_len: usize) -> RelationAnswer;
+    pub fn sfr_new_relation(width: u32, slots: *mut u32, slots_len: usize) -> RelationAnswer;
     pub fn sfr_allocate_vars(
         rel: Relation,
         slots: *mut u32,

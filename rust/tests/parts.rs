@@ -80,7 +80,7 @@ fn every_number_has_its_question() {
 #[test]
 fn answers_are_results() -> Result<(), Refused> {
     let mut slots = [0; 4];
-    let rel = sfr::new(1, &mut slots).accepted()?;
+    let rel = sfr::new_relation(1, &mut slots).accepted()?;
     let (first, rel) = sfr::allocate_vars(rel, &mut slots, 2).allocated()?;
     assert_eq!(first, 1);
     let tally = sfr::set_vars(rel, &mut slots, &[1, 9, 2], &[5, 5, 5]);

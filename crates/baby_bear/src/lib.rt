@@ -13,14 +13,14 @@ use limits::P;
 pub struct BabyBearUnit(pub u32);
 
 // The sum modulo p (the source's `Ring::add`).
-pub fn add(a: BabyBearUnit, b: BabyBearUnit) -> BabyBearUnit
+pub fn add_unit(a: BabyBearUnit, b: BabyBearUnit) -> BabyBearUnit
     ensures { λ r. ⌜ r .0 ≡ addUnit (a .0) (b .0) ⌝ }
 {
     BabyBearUnit(((a.0 as u64 + b.0 as u64) % P as u64) as u32)
 }
 
 // The product modulo p (the source's `Ring::mul`).
-pub fn mul(a: BabyBearUnit, b: BabyBearUnit) -> BabyBearUnit
+pub fn mul_unit(a: BabyBearUnit, b: BabyBearUnit) -> BabyBearUnit
     ensures { λ r. ⌜ r .0 ≡ mulUnit (a .0) (b .0) ⌝ }
 {
     BabyBearUnit(((a.0 as u64 * b.0 as u64) % P as u64) as u32)
@@ -30,10 +30,10 @@ pub fn mul(a: BabyBearUnit, b: BabyBearUnit) -> BabyBearUnit
 pub fn seventh(a: BabyBearUnit) -> BabyBearUnit
     ensures { λ r. ⌜ r .0 ≡ seventh (a .0) ⌝ }
 {
-    let square = mul(a, a);
-    let fourth = mul(square, square);
-    let sixth = mul(fourth, square);
-    mul(sixth, a)
+    let square = mul_unit(a, a);
+    let fourth = mul_unit(square, square);
+    let sixth = mul_unit(fourth, square);
+    mul_unit(sixth, a)
 }
 
 // Is every word a unit? (The largest decides, so that the loop has no exit of its own.)

@@ -136,7 +136,7 @@ fn scaled_term(t: Weighted, factor: BabyBearUnit) -> Weighted
     ensures { λ r. ⌜ r ≡ scaledBy (factor .0) t ⌝ }
 {
     let var = t.var;
-    let weight = baby_bear::mul(t.weight, factor);
+    let weight = baby_bear::mul_unit(t.weight, factor);
     Weighted {
         var: var,
         weight: weight,

@@ -14,7 +14,7 @@ use Rattle.allocator.specs.Slots.{pair, pairNo, setRun}
 use Rattle.expr.specs.Equation.{Term, equation, equationAt, sizeAt}
 use Rattle.expr.specs.declared.Weighted.{Weighted}
 use Rattle.limits.specs.declared.Outcome.the-variants as outcome
-use Rattle.permutation.specs.Numbers.{newNo, allocateVarsNo, setVarNo, setVarsNo, addPermutationNo, allocatePermutationNo, addEquationNo}
+use Rattle.permutation.specs.Numbers.{newRelationNo, allocateVarsNo, setVarNo, setVarsNo, addPermutationNo, allocatePermutationNo, addEquationNo}
 use Rattle.permutation.specs.Answers.{newRelation, setVarsRun}
 use Rattle.permute.specs.Permute.{addConstants, raise, timesMatrix, runRound, runRounds, permute}
 use Rattle.permute.specs.Parameters.{roundsOf, rowsOf, parametersOf, soundKinds, unitConstants, unitRows, soundParameters, permuteNo, sameWords, isEvaluation}
@@ -78,18 +78,18 @@ calls =
     ∷ []
 
 fresh-accepted : newRelation 1 slots .outcome ≡ outcome.Accepted
-unfolding ask _▸_ newNo
+unfolding ask _▸_ newRelationNo
 fresh-accepted = refl
 
 -- 0 to 5 is refused with 8, the list stops at wire 7 with 7, unequal lengths give 9, the mint lacks room (10)
 numbers : map (λ (e : Entry). e .answered .number) (log (begin 1 slots queries equations calls) calls) ≡ 0 ∷ 8 ∷ 7 ∷ 9 ∷ 0 ∷ 0 ∷ 10 ∷ 5 ∷ 6 ∷ []
-unfolding ask _▸_ newNo allocateVarsNo setVarNo setVarsNo addPermutationNo allocatePermutationNo addEquationNo pairNo setRun setVarsRun allBelow answer after
+unfolding ask _▸_ newRelationNo allocateVarsNo setVarNo setVarsNo addPermutationNo allocatePermutationNo addEquationNo pairNo setRun setVarsRun allBelow answer after
 numbers = refl
 
 -- the ledger: three wires, wire 2 set to 5, the query 1 to 2, the equation 3 · wire 1 = 6
 ledger-is : lastLedger 1 slots queries equations calls
     ≡ ledger 3 (pair 2 5 ∷ pair 0 0 ∷ []) ((1 ∷ 2 ∷ []) ∷ []) (equation (term 1 3 ∷ []) 6 ∷ [])
-unfolding ask _▸_ newNo allocateVarsNo setVarNo setVarsNo addPermutationNo allocatePermutationNo addEquationNo pairNo setRun setVarsRun allBelow answer after noted
+unfolding ask _▸_ newRelationNo allocateVarsNo setVarNo setVarsNo addPermutationNo allocatePermutationNo addEquationNo pairNo setRun setVarsRun allBelow answer after noted
 ledger-is = refl
 
 abbrev instanceA : Parts
@@ -102,13 +102,13 @@ instanceA = record {
 
 gate-parts : compiledParts (last 1 slots queries equations calls .relation) (last 1 slots queries equations calls .slots)
     (last 1 slots queries equations calls .queries) (last 1 slots queries equations calls .equations) ≡ instanceA
-unfolding ask _▸_ newNo allocateVarsNo setVarNo setVarsNo addPermutationNo allocatePermutationNo addEquationNo pairNo setRun setVarsRun allBelow answer after compiledParts publicsOf equationAt sizeAt
+unfolding ask _▸_ newRelationNo allocateVarsNo setVarNo setVarsNo addPermutationNo allocatePermutationNo addEquationNo pairNo setRun setVarsRun allBelow answer after compiledParts publicsOf equationAt sizeAt
 gate-parts = refl
 
 gate-accepted : compile (last 1 slots queries equations calls .relation) [] (last 1 slots queries equations calls .slots)
     (last 1 slots queries equations calls .queries) (last 1 slots queries equations calls .equations) publics scratch .outcome
     ≡ outcome.Accepted
-unfolding ask _▸_ newNo allocateVarsNo setVarNo setVarsNo addPermutationNo allocatePermutationNo addEquationNo pairNo setRun setVarsRun allBelow answer after compiledParts publicsOf equationAt sizeAt equationsSound slotsSound follow isUtf8 compileNo compile
+unfolding ask _▸_ newRelationNo allocateVarsNo setVarNo setVarsNo addPermutationNo allocatePermutationNo addEquationNo pairNo setRun setVarsRun allBelow answer after compiledParts publicsOf equationAt sizeAt equationsSound slotsSound follow isUtf8 compileNo compile
 gate-accepted = refl
 
 -- ---- the check of A, and of parts that give 34, 35 and 36
@@ -173,7 +173,7 @@ abbrev lentTrace : TraceLent
 lentTrace = record { steps = 1; trace = 2 ∷ 5 ∷ 9 ∷ []; out = replicate 25 7; room = 2 }
 
 pub satisfied : Sat (Evaluates 1 (parametersOf 1 1 params)) (lastLedger 1 slots queries equations calls) ((2 ∷ 5 ∷ []) ∷ [])
-unfolding ask _▸_ newNo allocateVarsNo setVarNo setVarsNo addPermutationNo allocatePermutationNo addEquationNo pairNo setRun setVarsRun allBelow answer after compiledParts publicsOf equationAt sizeAt equationsSound publicsSound slotsSound follow isUtf8 compileNo compile compilePublics partsOf checkNo isWitnessValidNo isEvaluation permuteNo soundParameters roundsOf rowsOf soundKinds unitConstants unitRows sameWords runRounds runRound addConstants raise timesMatrix addUnit mulUnit seventh dotUnits validatedNo gateNo instanceToBytesNo instanceBytes headerBytes u32Bytes instanceFromBytes readInstance readFile readHeader readMagic readLabel readParts readPublics readQueries readEquations word part below witnessToBytesNo witnessBytes witnessFromBytes readWitness readSteps labelPart
+unfolding ask _▸_ newRelationNo allocateVarsNo setVarNo setVarsNo addPermutationNo allocatePermutationNo addEquationNo pairNo setRun setVarsRun allBelow answer after compiledParts publicsOf equationAt sizeAt equationsSound publicsSound slotsSound follow isUtf8 compileNo compile compilePublics partsOf checkNo isWitnessValidNo isEvaluation permuteNo soundParameters roundsOf rowsOf soundKinds unitConstants unitRows sameWords runRounds runRound addConstants raise timesMatrix addUnit mulUnit seventh dotUnits validatedNo gateNo instanceToBytesNo instanceBytes headerBytes u32Bytes instanceFromBytes readInstance readFile readHeader readMagic readLabel readParts readPublics readQueries readEquations word part below witnessToBytesNo witnessBytes witnessFromBytes readWitness readSteps labelPart
 satisfied =
     whole 1 slots queries equations fresh-accepted calls .gated [] publics scratch gate-accepted lentFile
     .checks refl refl lentTrace refl refl 1 params refl 3 (omega arith) (omega arith)

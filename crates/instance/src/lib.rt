@@ -59,7 +59,7 @@ fn last_value(publics: &[u32], n: u32, x: u32) -> VarValue
 }
 
 // The value of a wire in held publics, or nothing where no pair lists it. Questions 1, 2, 3.
-pub fn value(ins: PermutationInstance, publics: &[u32], var: FieldVar) -> VarValue
+pub fn public_value(ins: PermutationInstance, publics: &[u32], var: FieldVar) -> VarValue
     ensures { λ r. ⌜ r ≡ publicValue ins (now (publics .entry)) (var .0) ⌝ }
 {
     let x = var.0;

@@ -11,8 +11,8 @@ use Rattle.words.specs.Store.{allBelow}
 use Rattle.words.specs.Pieces.{wordsOf}
 use Rattle.allocator.specs.Slots.{Pair, pairAsks, pairNo}
 use Rattle.expr.specs.Equation.{Term, termVars, termWeights, equationSize}
-use Rattle.permutation.specs.Relation.{newAsks, relationAsks, allocateVarsAsks, setVarsAsks, valueAsks, addPermutationAsks, allocatePermutationAsks, addEquationAsks}
-use Rattle.permutation.specs.Numbers.{newNo, allocateVarsNo, setVarNo, setVarsNo, valueNo, addPermutationNo, allocatePermutationNo, addEquationNo}
+use Rattle.permutation.specs.Relation.{newRelationAsks, relationAsks, allocateVarsAsks, setVarsAsks, valueOfAsks, addPermutationAsks, allocatePermutationAsks, addEquationAsks}
+use Rattle.permutation.specs.Numbers.{newRelationNo, allocateVarsNo, setVarNo, setVarsNo, valueOfNo, addPermutationNo, allocatePermutationNo, addEquationNo}
 use Rattle.permutation.specs.declared.PermutationRelation.{PermutationRelation}
 
 -- ---- fresh
@@ -22,10 +22,10 @@ pub record New (width len : ℕ) : Type 0 where
   pub store : len ≤ maxCount
   pub room : 1 ≤ len
 
-pub new-yes : (width len : ℕ) → newNo width len ≡ 0 → New width len
-unfolding newNo
+pub new-yes : (width len : ℕ) → newRelationNo width len ≡ 0 → New width len
+unfolding newRelationNo
 new-yes width len e =
-    let says = accepted-says (newAsks width len) tt e in
+    let says = accepted-says (newRelationAsks width len) tt e in
     record {
       least = leb-true _ _ (says 0);
       most = leb-true _ _ (says 1);
@@ -57,9 +57,9 @@ unfolding setVarsNo
 setVars-yes rel len vars values e = leb-true _ _ (accepted-says (setVarsAsks rel len vars values) tt e 6)
 
 -- ---- value: the slots hold the wires
-pub value-yes : (rel : PermutationRelation) (len var : ℕ) → valueNo rel len var ≡ 0 → rel .vars ≤ len
-unfolding valueNo
-value-yes rel len var e = leb-true _ _ (accepted-says (valueAsks rel len var) tt e 5)
+pub value-yes : (rel : PermutationRelation) (len var : ℕ) → valueOfNo rel len var ≡ 0 → rel .vars ≤ len
+unfolding valueOfNo
+value-yes rel len var e = leb-true _ _ (accepted-says (valueOfAsks rel len var) tt e 5)
 
 -- ---- record
 pub record AddPermutation (rel : PermutationRelation) (len : ℕ) (input output : List ℕ) : Type 0 where

@@ -6,7 +6,7 @@ use mathlib.Core.List.{List, [], _∷_}
 use Rattle.limits.specs.Questions.{ask, _▸_}
 use Rattle.baby_bear.specs.Field.{addUnit, mulUnit}
 use Rattle.allocator.specs.Slots.{pair}
-use Rattle.permutation.specs.Numbers.{newNo, allocateVarsNo, setVarNo}
+use Rattle.permutation.specs.Numbers.{newRelationNo, allocateVarsNo, setVarNo}
 use Rattle.permutation.specs.Answers.{newRelation, newSlots, setVar, allocateVars}
 use Rattle.permutation.specs.declared.PermutationRelation.{PermutationRelation}
 use Rattle.limits.specs.declared.Outcome.the-variants as outcome
@@ -31,5 +31,5 @@ pub record Examples : Type 0 where
   pub allocate-rest : allocateVars one slots 1073741823 .first ≡ first.Refused 6
 
 pub examples : Examples
-unfolding ask _▸_ addUnit mulUnit newNo setVarNo allocateVarsNo
+unfolding ask _▸_ addUnit mulUnit newRelationNo setVarNo allocateVarsNo
 examples = record { sum = refl; product = refl; set-zero = refl; set-five = refl; allocate-all = refl; allocate-rest = refl }

@@ -18,7 +18,7 @@ use Rattle.words.specs.Store.{allBelow, putWords}
 use Rattle.allocator.specs.Slots.{Pair, pair, pairs, grownSlots}
 use Rattle.allocator.specs.Values.{joins}
 use Rattle.expr.specs.Equation.{Term, Equation, equation, equationWords}
-use Rattle.permutation.specs.Numbers.{newNo, allocateVarsNo, setVarNo, setVarsNo, addPermutationNo, allocatePermutationNo, addEquationNo}
+use Rattle.permutation.specs.Numbers.{newRelationNo, allocateVarsNo, setVarNo, setVarsNo, addPermutationNo, allocatePermutationNo, addEquationNo}
 use Rattle.limits.specs.Outcome.{outcomeNumber, outcomeOf}
 use Rattle.permutation.specs.Answers.{relation, firstNumber, firstOf, newRelation, newSlots, moreVars, oneQuery, oneEquation, allocateVars, allocateVarsSlots, setVar, setVarSlots, setVars, setVarsRun, setVarsSlots, queriesWith, addPermutation, addPermutationQueries, upFrom, allocatePermutation, allocatePermutationSlots, allocatePermutationQueries, addEquation, addEquationEquations}
 use Rattle.permutation.specs.State.{HoldsQueries, Holds}
@@ -36,7 +36,7 @@ none-below = refl
 -- ---- fresh, whatever lies in the stores
 pub new-holds : (width : ℕ) (slots queries equations : List ℕ) → outcomeNumber (newRelation width slots .outcome) ≡ 0
     → Holds width (newRelation width slots .relation) (newSlots width slots) queries equations 1 (pair 0 0 ∷ []) [] []
-new-holds width slots queries equations z = go (newNo width (length slots)) (new-yes width (length slots)) z
+new-holds width slots queries equations z = go (newRelationNo width (length slots)) (new-yes width (length slots)) z
   where
     go : (k : ℕ) → (k ≡ 0 → New width (length slots)) → outcomeNumber (outcomeOf k) ≡ 0
         → Holds width (onYes k (relation width 1 0 0 0) (relation 0 0 0 0 0)) (onYes k (set slots 0 0) slots) queries equations 1 (pair 0 0 ∷ []) [] []

@@ -23,7 +23,7 @@ use Rattle.allocator.proofs.Values.{slot-fits}
 use Rattle.expr.specs.Equation.{Term, Equation, termVars, termWeights, equationSize, equationsWords}
 use Rattle.expr.proofs.Held.{two-each}
 use Rattle.permutation.specs.Relation.{relationAsks, queriesAsks, queryRoom}
-use Rattle.permutation.specs.Numbers.{allocateVarsNo, setVarNo, setVarsNo, valueNo, isAllocatedNo, addPermutationNo, allocatePermutationNo, addEquationNo}
+use Rattle.permutation.specs.Numbers.{allocateVarsNo, setVarNo, setVarsNo, valueOfNo, isAllocatedNo, addPermutationNo, allocatePermutationNo, addEquationNo}
 use Rattle.permutation.specs.Answers.{slotValue, valueOf, isAllocated, setVarsRun}
 use Rattle.permutation.specs.State.{HoldsSlots, Holds}
 use Rattle.permutation.specs.Left.{allocateVarsLeft, setVarLeft, pairsLeft, setVarsLeft, addPermutationLeft, allocatePermutationLeft, addEquationLeft, given, valueLeft, isAllocatedLeft}
@@ -198,8 +198,8 @@ module _ (width : ℕ) (rel : PermutationRelation) (slots queries equations : Li
       (e .uses)
 
   -- ---- questions that write nothing
-  value-asks : (x : ℕ) → valueNo rel (length slots) x ≡ ask 3 (ltb x maxCount)
-  unfolding valueNo
+  value-asks : (x : ℕ) → valueOfNo rel (length slots) x ≡ ask 3 (ltb x maxCount)
+  unfolding valueOfNo
   value-asks x = after-relation (question 3 (ltb x maxCount) ∷ []) ∙ ▸-zero _
 
   pub value-left : (x : ℕ) → valueOf rel slots x ≡ valueLeft sets x

@@ -10,7 +10,7 @@ use lib.ListN.{length, getD}
 use Rattle.limits.specs.Numbers.{unassigned}
 use Rattle.limits.specs.Questions.{pick, onYes}
 use Rattle.words.proofs.Lists.{getD-any}
-use Rattle.permutation.specs.Numbers.{valueNo, isAllocatedNo}
+use Rattle.permutation.specs.Numbers.{valueOfNo, isAllocatedNo}
 use Rattle.allocator.specs.VarValue.{valueNumber}
 use Rattle.permutation.specs.Answers.{isAllocatedNumber, valueOf, isAllocated}
 use Rattle.limits.proofs.Answered.{stays-by}
@@ -19,12 +19,12 @@ use Rattle.allocator.specs.declared.VarValue.the-variants as varValue
 use Rattle.permutation.specs.declared.IsAllocated.the-variants as allocated
 
 -- k: what the questions answer
-module _ (rel : PermutationRelation) (slots : List ℕ) (x k : ℕ) (e : k ≡ valueNo rel (length slots) x) where
+module _ (rel : PermutationRelation) (slots : List ℕ) (x k : ℕ) (e : k ≡ valueOfNo rel (length slots) x) where
   pub value-refused : (k ≡ 0 → ⊥) → varValue.Refused k ≡ valueOf rel slots x
   value-refused h = rw (sym e) (stays-by k _ (varValue.Refused k) h)
 
   module _ (z : k ≡ 0) where
-    asked : valueNo rel (length slots) x ≡ 0
+    asked : valueOfNo rel (length slots) x ≡ 0
     asked = sym e ∙ z
 
     pub value-beyond : rel .vars ≤ x → varValue.Nothing ≡ valueOf rel slots x
@@ -50,9 +50,9 @@ module _ (rel : PermutationRelation) (x k : ℕ) (e : k ≡ isAllocatedNo rel x)
   allocated-no z h = let q : isAllocatedNo rel x ≡ 0 = sym e ∙ z in rw (q, le-ltb x (rel .vars) h)
 
 -- ---- an answer's number is the first no of the questions
-pub value-number : (rel : PermutationRelation) (slots : List ℕ) (x : ℕ) → valueNumber (valueOf rel slots x) ≡ valueNo rel (length slots) x
+pub value-number : (rel : PermutationRelation) (slots : List ℕ) (x : ℕ) → valueNumber (valueOf rel slots x) ≡ valueOfNo rel (length slots) x
 value-number rel slots x =
-    go (valueNo rel (length slots) x) (ltb x (rel .vars)) (eqb (getD slots x unassigned) unassigned) (getD slots x unassigned)
+    go (valueOfNo rel (length slots) x) (ltb x (rel .vars)) (eqb (getD slots x unassigned) unassigned) (getD slots x unassigned)
   where
     go : (k : ℕ) (b c : Bool) (h : ℕ)
         → valueNumber (onYes k (pick b (pick c varValue.Nothing (varValue.Value h)) varValue.Nothing) (varValue.Refused k)) ≡ k

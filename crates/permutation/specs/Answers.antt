@@ -12,7 +12,7 @@ use Rattle.words.specs.Store.{putWords, fitWords}
 use Rattle.words.specs.Pieces.{wordsOf}
 use Rattle.allocator.specs.Slots.{Pair, pairs, grownSlots, SetRun, ran, setRun}
 use Rattle.expr.specs.Equation.{Term, equation, equationWords, equationSize}
-use Rattle.permutation.specs.Numbers.{newNo, allocateVarsNo, setVarNo, setVarsNo, valueNo, isAllocatedNo, addPermutationNo, allocatePermutationNo, addEquationNo}
+use Rattle.permutation.specs.Numbers.{newRelationNo, allocateVarsNo, setVarNo, setVarsNo, valueOfNo, isAllocatedNo, addPermutationNo, allocatePermutationNo, addEquationNo}
 use Rattle.permutation.specs.declared.PermutationRelation.{PermutationRelation}
 use Rattle.limits.specs.declared.Outcome.{Outcome}
 use Rattle.limits.specs.declared.Outcome.the-variants as outcome
@@ -72,11 +72,11 @@ oneEquation rel t = relation (rel .width) (rel .vars) (rel .queries) (rel .equat
 -- ---- fresh: one wire, slot 0 becomes 0; refused, a record of zeros
 -- the answer: a record with one wire
 abbrev pub newRelation : ℕ → List ℕ → Recorded
-newRelation width slots = recordedOf (newNo width (length slots)) (relation width 1 0 0 0) (relation 0 0 0 0 0)
+newRelation width slots = recordedOf (newRelationNo width (length slots)) (relation width 1 0 0 0) (relation 0 0 0 0 0)
 
 -- the slots afterwards
 abbrev pub newSlots : ℕ → List ℕ → List ℕ
-newSlots width slots = onYes (newNo width (length slots)) (set slots 0 0) slots
+newSlots width slots = onYes (newRelationNo width (length slots)) (set slots 0 0) slots
 
 -- ---- allocate: the next n wires, all slots unassigned, answered by the wire count before the call
 -- the answer, with n wires more in the record
@@ -180,9 +180,9 @@ slotValue held = pick (eqb held unassigned) varValue.Nothing (varValue.Value hel
 -- the answer
 abbrev pub valueOf : PermutationRelation → List ℕ → ℕ → VarValue
 valueOf rel slots var =
-    onYes (valueNo rel (length slots) var)
+    onYes (valueOfNo rel (length slots) var)
     (pick (ltb var (rel .vars)) (slotValue (getD slots var unassigned)) varValue.Nothing)
-    (varValue.Refused (valueNo rel (length slots) var))
+    (varValue.Refused (valueOfNo rel (length slots) var))
 
 -- ---- is it allocated: is it below the count?
 -- the answer

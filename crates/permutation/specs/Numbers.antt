@@ -7,12 +7,12 @@ use Rattle.limits.specs.Questions.{_▸_, question, firstNo}
 use Rattle.limits.specs.Asks.{widthAsks, countAsks}
 use Rattle.allocator.specs.Slots.{Pair}
 use Rattle.expr.specs.Equation.{Term, equationSize}
-use Rattle.permutation.specs.Relation.{newAsks, allocateVarsAsks, setVarAsks, setVarsAsks, valueAsks, isAllocatedAsks, addPermutationAsks, allocatePermutationAsks, equationsAsks, addEquationAsks}
+use Rattle.permutation.specs.Relation.{newRelationAsks, allocateVarsAsks, setVarAsks, setVarsAsks, valueOfAsks, isAllocatedAsks, addPermutationAsks, allocatePermutationAsks, equationsAsks, addEquationAsks}
 use Rattle.permutation.specs.declared.PermutationRelation.{PermutationRelation}
 
 -- of fresh
-unfoldable pub newNo : ℕ → ℕ → ℕ
-newNo width len = firstNo (newAsks width len)
+unfoldable pub newRelationNo : ℕ → ℕ → ℕ
+newRelationNo width len = firstNo (newRelationAsks width len)
 
 -- of allocate
 unfoldable pub allocateVarsNo : PermutationRelation → ℕ → ℕ → ℕ
@@ -27,8 +27,8 @@ unfoldable pub setVarsNo : PermutationRelation → ℕ → List ℕ → List ℕ
 setVarsNo rel len vars values = firstNo (setVarsAsks rel len vars values)
 
 -- of the value of a wire
-unfoldable pub valueNo : PermutationRelation → ℕ → ℕ → ℕ
-valueNo rel len var = firstNo (valueAsks rel len var)
+unfoldable pub valueOfNo : PermutationRelation → ℕ → ℕ → ℕ
+valueOfNo rel len var = firstNo (valueOfAsks rel len var)
 
 -- of the question whether a wire is allocated
 unfoldable pub isAllocatedNo : PermutationRelation → ℕ → ℕ

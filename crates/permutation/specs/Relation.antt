@@ -34,8 +34,8 @@ equationRoom rel len terms = question 10 (leb (rel .words + equationSize (length
 
 -- ---- each call's questions
 -- fresh: 1, 2, 6
-abbrev pub newAsks : ℕ → ℕ → List Question
-newAsks width len = widthAsks width ++ (storeAsks len ++ (question 6 (leb 1 len) ∷ []))
+abbrev pub newRelationAsks : ℕ → ℕ → List Question
+newRelationAsks width len = widthAsks width ++ (storeAsks len ++ (question 6 (leb 1 len) ∷ []))
 
 -- every call that looks at the slots begins with 1 and 2
 abbrev pub relationAsks : PermutationRelation → ℕ → List Question
@@ -85,8 +85,8 @@ addEquationAsks rel len terms image =
     ∷ equationRoom rel len terms)))
 
 -- value of a wire on slots: 1, 2, 3
-abbrev pub valueAsks : PermutationRelation → ℕ → ℕ → List Question
-valueAsks rel len var = relationAsks rel len ++ (question 3 (ltb var maxCount) ∷ [])
+abbrev pub valueOfAsks : PermutationRelation → ℕ → ℕ → List Question
+valueOfAsks rel len var = relationAsks rel len ++ (question 3 (ltb var maxCount) ∷ [])
 
 -- is it allocated: 1, 2, 3
 abbrev pub isAllocatedAsks : PermutationRelation → ℕ → List Question

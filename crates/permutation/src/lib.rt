@@ -11,7 +11,7 @@ ghost use Rattle.limits.specs.Questions.{firstNo};
 ghost use Rattle.limits.specs.Asks.{widthAsks};
 ghost use Rattle.allocator.specs.Slots.{pair, slotsAsks};
 ghost use Rattle.expr.specs.Weighted.{termsOf};
-ghost use Rattle.permutation.specs.Numbers.{newNo, allocateVarsNo, setVarsNo, valueNo, isAllocatedNo, addPermutationNo, allocatePermutationNo, equationNo};
+ghost use Rattle.permutation.specs.Numbers.{newRelationNo, allocateVarsNo, setVarsNo, valueOfNo, isAllocatedNo, addPermutationNo, allocatePermutationNo, equationNo};
 ghost use Rattle.limits.specs.Outcome.{isAccepted};
 ghost use Rattle.permutation.specs.Answers.{newRelation, newSlots, allocateVars, allocateVarsSlots, setVar, setVarSlots, setVars, setVarsSlots, valueOf, isAllocated, recordedOf, oneEquation};
 ghost use Rattle.permutation.specs.Answers.{addPermutation, addPermutationQueries, allocatePermutation, allocatePermutationSlots, allocatePermutationQueries, fitVars, addEquation, addEquationEquations};
@@ -67,8 +67,8 @@ pub enum IsAllocated {
 }
 
 // The number of a fresh call.
-fn new_no(width: u32, len: usize) -> u32
-    ensures { λ r. ⌜ r ≡ newNo width len ⌝ }
+fn new_relation_no(width: u32, len: usize) -> u32
+    ensures { λ r. ⌜ r ≡ newRelationNo width len ⌝ }
 {
     let no = limits::asked_width(0, width);
     let no = limits::asked_store(no, len);
@@ -76,10 +76,10 @@ fn new_no(width: u32, len: usize) -> u32
 }
 
 // A relation with wire 0 alone, which has the value 0 (document 01: fresh). Questions 1, 2, 6.
-pub fn new(width: u32, slots: &mut [u32]) -> Recorded
+pub fn new_relation(width: u32, slots: &mut [u32]) -> Recorded
     ensures { λ r. ⌜ (r ≡ newRelation width (now (slots .entry))) × (now (slots .exit) ≡ newSlots width (now (slots .entry))) ⌝ }
 {
-    let no = new_no(width, slots.len());
+    let no = new_relation_no(width, slots.len());
     if no != 0 {
         return Recorded {
             outcome: Outcome::Refused(no),
@@ -214,8 +214,8 @@ pub fn set_vars(
 }
 
 // The number of a question for a wire's value.
-fn value_no(rel: PermutationRelation, len: usize, var: u32) -> u32
-    ensures { λ r. ⌜ r ≡ valueNo rel len var ⌝ }
+fn value_of_no(rel: PermutationRelation, len: usize, var: u32) -> u32
+    ensures { λ r. ⌜ r ≡ valueOfNo rel len var ⌝ }
 {
     let width = rel.width;
     let count = rel.vars;
@@ -224,11 +224,11 @@ fn value_no(rel: PermutationRelation, len: usize, var: u32) -> u32
 }
 
 // The value of a wire, or nothing where it is unassigned or beyond the count. Questions 1, 2, 3.
-pub fn value(rel: PermutationRelation, slots: &[u32], var: FieldVar) -> VarValue
+pub fn value_of(rel: PermutationRelation, slots: &[u32], var: FieldVar) -> VarValue
     ensures { λ r. ⌜ r ≡ valueOf rel (now (slots .entry)) (var .0) ⌝ }
 {
     let x = var.0;
-    let no = value_no(rel, slots.len(), x);
+    let no = value_of_no(rel, slots.len(), x);
     if no != 0 {
         return VarValue::Refused(no);
     }

@@ -28,7 +28,7 @@ const DIRT: u32 = 0xabababab;
 fn add(sample: &[u8], c: Cursor) -> Seen {
     let a = take_word(sample, c);
     let b = take_word(sample, a.next);
-    let sum = baby_bear::add(BabyBearUnit(a.word), BabyBearUnit(b.word));
+    let sum = baby_bear::add_unit(BabyBearUnit(a.word), BabyBearUnit(b.word));
     same(sample, begun(b.next), sum.0)
 }
 
@@ -36,7 +36,7 @@ fn add(sample: &[u8], c: Cursor) -> Seen {
 fn multiply(sample: &[u8], c: Cursor) -> Seen {
     let a = take_word(sample, c);
     let b = take_word(sample, a.next);
-    let product = baby_bear::mul(BabyBearUnit(a.word), BabyBearUnit(b.word));
+    let product = baby_bear::mul_unit(BabyBearUnit(a.word), BabyBearUnit(b.word));
     same(sample, begun(b.next), product.0)
 }
 

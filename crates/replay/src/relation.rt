@@ -100,7 +100,7 @@ fn new(sample: &[u8], c: Cursor) -> Seen {
     let width = take_word(sample, c);
     let list = take_list(sample, width.next, &mut store);
     let slots = lent(&mut store, list.len);
-    let answer = permutation::new(width.word, slots);
+    let answer = permutation::new_relation(width.word, slots);
     same_words(sample, same_recorded(sample, list.next, answer), slots)
 }
 
@@ -250,7 +250,7 @@ fn value(sample: &[u8], c: Cursor) -> Seen {
     let begun = take_relation(sample, c);
     let list = take_list(sample, begun.next, &mut store);
     let var = take_word(sample, list.next);
-    match permutation::value(begun.relation, shown(&store, list.len), FieldVar(var.word)) {
+    match permutation::value_of(begun.relation, shown(&store, list.len), FieldVar(var.word)) {
         VarValue::Value(held) => same(sample, same_two(sample, var.next, 0, 1), held),
         VarValue::Nothing => same(sample, same_two(sample, var.next, 0, 0), 0),
         VarValue::Refused(k) => same(sample, same_two(sample, var.next, k, 0), 0),

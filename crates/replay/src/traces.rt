@@ -47,7 +47,7 @@ fn allocate_permutation(
     params: &[u32],
 ) -> Seen {
     let rounds = take_word(sample, c);
-    let answer = witness::allocate_permutation(given, trace, input, rounds.word, params);
+    let answer = witness::evaluate_step(given, trace, input, rounds.word, params);
     same_traced(sample, rounds.next, answer, trace)
 }
 
@@ -60,7 +60,7 @@ fn add_permutation(
     input: &[u32],
     output: &[u32],
 ) -> Seen {
-    let answer = witness::add_permutation(given, trace, input, output);
+    let answer = witness::append_step(given, trace, input, output);
     same_traced(sample, c, answer, trace)
 }
 

@@ -49,7 +49,7 @@ pub extern "C" fn sfr_compile(
 pub extern "C" fn sfr_public_value(ins: PermutationInstance, publics: &[u32], var: u32) -> SfrValue
     ensures { λ r. ⌜ r ≡ valueAnswer (publicValue ins (now (publics .entry)) var) ⌝ }
 {
-    value_answer(instance::value(ins, publics, FieldVar(var)))
+    value_answer(instance::public_value(ins, publics, FieldVar(var)))
 }
 
 // The heading: the name where `named`, else the label, and its length.

@@ -43,18 +43,18 @@ pub struct SfrPlace {
 
 // The sum modulo p.
 #[no_mangle]
-pub extern "C" fn sfr_add(a: u32, b: u32) -> u32
+pub extern "C" fn sfr_add_unit(a: u32, b: u32) -> u32
     ensures { λ r. ⌜ r ≡ addUnit a b ⌝ }
 {
-    baby_bear::add(BabyBearUnit(a), BabyBearUnit(b)).0
+    baby_bear::add_unit(BabyBearUnit(a), BabyBearUnit(b)).0
 }
 
 // The product modulo p.
 #[no_mangle]
-pub extern "C" fn sfr_mul(a: u32, b: u32) -> u32
+pub extern "C" fn sfr_mul_unit(a: u32, b: u32) -> u32
     ensures { λ r. ⌜ r ≡ mulUnit a b ⌝ }
 {
-    baby_bear::mul(BabyBearUnit(a), BabyBearUnit(b)).0
+    baby_bear::mul_unit(BabyBearUnit(a), BabyBearUnit(b)).0
 }
 
 // Are the bytes UTF-8?

@@ -94,10 +94,10 @@ fn allocated_answer(r: Allocated) -> SfrRelationAnswer
 
 // A relation with wire 0 alone, which has the value 0.
 #[no_mangle]
-pub extern "C" fn sfr_new(width: u32, slots: &mut [u32]) -> SfrRelationAnswer
+pub extern "C" fn sfr_new_relation(width: u32, slots: &mut [u32]) -> SfrRelationAnswer
     ensures { λ r. ⌜ (r ≡ recordedAnswer (newRelation width (now (slots .entry)))) × (now (slots .exit) ≡ newSlots width (now (slots .entry))) ⌝ }
 {
-    recorded_answer(permutation::new(width, slots))
+    recorded_answer(permutation::new_relation(width, slots))
 }
 
 // The next n wires, unassigned.
@@ -229,7 +229,7 @@ pub(crate) fn value_answer(v: VarValue) -> SfrValue
 pub extern "C" fn sfr_value_of(rel: PermutationRelation, slots: &[u32], var: u32) -> SfrValue
     ensures { λ r. ⌜ r ≡ valueAnswer (valueOf rel (now (slots .entry)) var) ⌝ }
 {
-    value_answer(permutation::value(rel, slots, FieldVar(var)))
+    value_answer(permutation::value_of(rel, slots, FieldVar(var)))
 }
 
 // Is the wire one of the relation's?

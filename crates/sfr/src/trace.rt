@@ -3,7 +3,7 @@
 ghost use mathlib.Core.Path.{_≡_};
 ghost use lib.ListN.{length};
 ghost use Rattle.permute.specs.Parameters.{permuteNo, permuted};
-ghost use Rattle.witness.specs.Trace.{addPermutation, addPermutationTrace, allocatePermutation, allocatePermutationTrace};
+ghost use Rattle.witness.specs.Trace.{appendStep, appendStepTrace, evaluateStep, evaluateStepTrace};
 ghost use Rattle.encoding.specs.Answers.{writtenOf, writtenOut, witnessToBytesNo, witnessToBytes};
 ghost use Rattle.decoding.specs.Answers.{witnessFromBytes, witnessAnswer, traceAfter};
 ghost use Rattle.sfr.specs.Trace.{tracedAnswer, writtenAnswer, traceRead};
@@ -55,9 +55,9 @@ pub extern "C" fn sfr_append_step(
     input: &[u32],
     output: &[u32],
 ) -> SfrTraceAnswer
-    ensures { λ r. ⌜ (r ≡ tracedAnswer (addPermutation rec (now (trace .entry)) (now (input .entry)) (now (output .entry)))) × (now (trace .exit) ≡ addPermutationTrace rec (now (trace .entry)) (now (input .entry)) (now (output .entry))) ⌝ }
+    ensures { λ r. ⌜ (r ≡ tracedAnswer (appendStep rec (now (trace .entry)) (now (input .entry)) (now (output .entry)))) × (now (trace .exit) ≡ appendStepTrace rec (now (trace .entry)) (now (input .entry)) (now (output .entry))) ⌝ }
 {
-    traced_answer(witness::add_permutation(rec, trace, input, output))
+    traced_answer(witness::append_step(rec, trace, input, output))
 }
 
 // A step from these inputs, evaluated and appended.
@@ -69,9 +69,9 @@ pub extern "C" fn sfr_evaluate_step(
     rounds: u32,
     params: &[u32],
 ) -> SfrTraceAnswer
-    ensures { λ r. ⌜ (r ≡ tracedAnswer (allocatePermutation rec (now (trace .entry)) (now (input .entry)) rounds (now (params .entry)))) × (now (trace .exit) ≡ allocatePermutationTrace rec (now (trace .entry)) (now (input .entry)) rounds (now (params .entry))) ⌝ }
+    ensures { λ r. ⌜ (r ≡ tracedAnswer (evaluateStep rec (now (trace .entry)) (now (input .entry)) rounds (now (params .entry)))) × (now (trace .exit) ≡ evaluateStepTrace rec (now (trace .entry)) (now (input .entry)) rounds (now (params .entry))) ⌝ }
 {
-    traced_answer(witness::allocate_permutation(rec, trace, input, rounds, params))
+    traced_answer(witness::evaluate_step(rec, trace, input, rounds, params))
 }
 
 // What writing answers, for C.

@@ -13,7 +13,7 @@ use Rattle.words.specs.Store.{allBelow}
 use Rattle.words.specs.Pieces.{wordsOf}
 use Rattle.words.proofs.Pieces.{pieces-few}
 use Rattle.permute.specs.Parameters.{soundParameters}
-use Rattle.witness.specs.Trace.{addPermutationAsks, inputAsks, stepRoom, allocatePermutationAsks, addPermutationNo, inputNo, allocatePermutationNo}
+use Rattle.witness.specs.Trace.{appendStepAsks, inputAsks, stepRoom, evaluateStepAsks, appendStepNo, inputNo, evaluateStepNo}
 use Rattle.witness.specs.declared.PermutationWitness.{PermutationWitness}
 
 -- the step count stays a small number
@@ -31,11 +31,11 @@ pub record AddPermutation (wit : PermutationWitness) (len : ℕ) (input output :
   pub room : wordsOf (wit .width) (wit .steps + 1) ≤ len
   pub few : wit .steps + 1 < 4294967296
 
-pub addPermutation-yes : (wit : PermutationWitness) (len : ℕ) (input output : List ℕ) → addPermutationNo wit len input output ≡ 0
+pub appendStep-yes : (wit : PermutationWitness) (len : ℕ) (input output : List ℕ) → appendStepNo wit len input output ≡ 0
     → AddPermutation wit len input output
-unfolding addPermutationNo
-addPermutation-yes wit len input output e =
-    let says = accepted-says (addPermutationAsks wit len input output) tt e in
+unfolding appendStepNo
+appendStep-yes wit len input output e =
+    let says = accepted-says (appendStepAsks wit len input output) tt e in
     record {
       held = leb-true _ _ (says 3);
       inputs = eqb-true _ _ (says 6);
@@ -80,11 +80,11 @@ pub record AllocatePermutation (wit : PermutationWitness) (len : ℕ) (input : L
   pub room : wordsOf (wit .width) (wit .steps + 1) ≤ len
   pub few : wit .steps + 1 < 4294967296
 
-pub allocatePermutation-yes : (wit : PermutationWitness) (len : ℕ) (input : List ℕ) (rounds : ℕ) (params : List ℕ)
-    → allocatePermutationNo wit len input rounds params ≡ 0 → AllocatePermutation wit len input rounds params
-unfolding allocatePermutationNo inputNo
-allocatePermutation-yes wit len input rounds params e =
-    let says = accepted-says (allocatePermutationAsks wit len input rounds params) tt e in
+pub evaluateStep-yes : (wit : PermutationWitness) (len : ℕ) (input : List ℕ) (rounds : ℕ) (params : List ℕ)
+    → evaluateStepNo wit len input rounds params ≡ 0 → AllocatePermutation wit len input rounds params
+unfolding evaluateStepNo inputNo
+evaluateStep-yes wit len input rounds params e =
+    let says = accepted-says (evaluateStepAsks wit len input rounds params) tt e in
     record {
       asked = both _ _ (sym (firstNo-append (inputAsks wit len input params) (question 17 (soundParameters (wit .width) rounds params) ∷ stepRoom wit len)) ∙ e) .0;
       sound = says 8;

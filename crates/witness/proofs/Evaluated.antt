@@ -11,7 +11,7 @@ use Rattle.limits.specs.Questions.{ask, _▸_, question}
 use Rattle.limits.proofs.Questions.{ask-yes, says-yes, stays, goes-on, both, zero-▸, ▸-zero, firstNo-append}
 use Rattle.words.specs.Pieces.{wordsOf}
 use Rattle.permute.specs.Parameters.{soundParameters, permuteNo}
-use Rattle.witness.specs.Trace.{inputAsks, stepRoom, inputNo, allocatePermutationNo}
+use Rattle.witness.specs.Trace.{inputAsks, stepRoom, inputNo, evaluateStepNo}
 use Rattle.witness.specs.declared.PermutationWitness.{PermutationWitness}
 use Rattle.witness.proofs.Accepted.{input-yes}
 
@@ -31,24 +31,24 @@ module _ (wit : PermutationWitness) (len k : ℕ) (e : k ≡ 0 ▸ ask 10 (leb (
   full-refused h n m f z = h (sym asked-10 ∙ both n _ (sym f ∙ z) .1)
 
 module _ (wit : PermutationWitness) (len : ℕ) (input : List ℕ) (rounds : ℕ) (params : List ℕ) where
-  parts : allocatePermutationNo wit len input rounds params
+  parts : evaluateStepNo wit len input rounds params
       ≡ inputNo wit len input params
       ▸ (ask 17 (soundParameters (wit .width) rounds params) ▸ (ask 10 (leb (wordsOf (wit .width) (wit .steps + 1)) len) ▸ 0))
-  unfolding allocatePermutationNo inputNo
+  unfolding evaluateStepNo inputNo
   parts = firstNo-append (inputAsks wit len input params) (question 17 (soundParameters (wit .width) rounds params) ∷ stepRoom wit len)
 
   -- a question before the parameters says no
-  pub input-refused : (k : ℕ) → k ≡ inputNo wit len input params → (k ≡ 0 → ⊥) → k ≡ allocatePermutationNo wit len input rounds params
+  pub input-refused : (k : ℕ) → k ≡ inputNo wit len input params → (k ≡ 0 → ⊥) → k ≡ evaluateStepNo wit len input rounds params
   input-refused k e h = e ∙ sym (parts ∙ stays _ _ (λ z. h (e ∙ z)))
 
   module _ (z : inputNo wit len input params ≡ 0) where
-    rest : allocatePermutationNo wit len input rounds params
+    rest : evaluateStepNo wit len input rounds params
         ≡ ask 17 (soundParameters (wit .width) rounds params) ▸ ask 10 (leb (wordsOf (wit .width) (wit .steps + 1)) len)
     rest = parts ∙ goes-on _ _ z ∙ ap (λ (n : ℕ). ask 17 (soundParameters (wit .width) rounds params) ▸ n) (▸-zero _)
 
     -- the trace is full
     pub full-number : (n k : ℕ) → n ≡ 0 ▸ ask 17 (soundParameters (wit .width) rounds params)
-        → k ≡ n ▸ ask 10 (leb (wordsOf (wit .width) (wit .steps + 1)) len) → k ≡ allocatePermutationNo wit len input rounds params
+        → k ≡ n ▸ ask 10 (leb (wordsOf (wit .width) (wit .steps + 1)) len) → k ≡ evaluateStepNo wit len input rounds params
     full-number n k e f =
         f ∙ ap (λ (m : ℕ). m ▸ ask 10 (leb (wordsOf (wit .width) (wit .steps + 1)) len)) (e ∙ zero-▸ _) ∙ sym rest
 
@@ -66,7 +66,7 @@ module _ (wit : PermutationWitness) (len : ℕ) (input : List ℕ) (rounds : ℕ
 
     -- the trace has room
     pub room-number : wordsOf (wit .width) (wit .steps + 1) ≤ len
-        → permuteNo (wit .width) rounds params input ≡ allocatePermutationNo wit len input rounds params
+        → permuteNo (wit .width) rounds params input ≡ evaluateStepNo wit len input rounds params
     room-number h =
         only-17
         ∙ sym (rest ∙ ap (λ (n : ℕ). ask 17 (soundParameters (wit .width) rounds params) ▸ n) (ask-yes 10 _ (le-leb _ _ h)) ∙ ▸-zero _)

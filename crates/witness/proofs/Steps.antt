@@ -17,9 +17,9 @@ use Rattle.baby_bear.proofs.Units.{true-both}
 use Rattle.permute.specs.Permute.{permute}
 use Rattle.permute.specs.Parameters.{parametersOf, permuteNo, isEvaluation}
 use Rattle.permute.proofs.Laws.{permute-length, permute-units, is-evaluation}
-use Rattle.witness.specs.Trace.{addPermutationNo, addPermutation, addPermutationTrace, evaluatedStep, allocatePermutationNo, allocatePermutation, allocatePermutationTrace, stepsOf}
+use Rattle.witness.specs.Trace.{appendStepNo, appendStep, appendStepTrace, evaluatedStep, evaluateStepNo, evaluateStep, evaluateStepTrace, stepsOf}
 use Rattle.witness.specs.declared.PermutationWitness.{PermutationWitness}
-use Rattle.witness.proofs.Accepted.{addPermutation-yes, input-yes, allocatePermutation-yes}
+use Rattle.witness.proofs.Accepted.{appendStep-yes, input-yes, evaluateStep-yes}
 use Rattle.witness.proofs.Evaluated.{room-number}
 
 -- ---- pieces of k words that a store holds
@@ -65,43 +65,43 @@ step-units : (input output : List ℕ) → allBelow prime input ≡ true → all
 step-units input output i o = allBelow-append prime input output ∙ true-both _ _ i o
 
 -- ---- a given step
-module _ (wit : PermutationWitness) (trace input output : List ℕ) (e : addPermutationNo wit (length trace) input output ≡ 0) where
-  pub addPermutation-steps :
-      stepsOf (addPermutation wit trace input output .witness) (addPermutationTrace wit trace input output)
+module _ (wit : PermutationWitness) (trace input output : List ℕ) (e : appendStepNo wit (length trace) input output ≡ 0) where
+  pub appendStep-steps :
+      stepsOf (appendStep wit trace input output .witness) (appendStepTrace wit trace input output)
       ≡ stepsOf wit trace ++ ((input ++ output) ∷ [])
-  addPermutation-steps =
-      let y = addPermutation-yes wit (length trace) input output e in
+  appendStep-steps =
+      let y = appendStep-yes wit (length trace) input output e in
       rw e
       (one-behind (wit .width + wit .width) (wit .steps) (input ++ output) trace
       (step-length (wit .width) input output (y .inputs) (y .outputs)) (y .held))
 
-  pub addPermutation-units : allBelow prime (input ++ output) ≡ true
-  addPermutation-units =
-      let y = addPermutation-yes wit (length trace) input output e in
+  pub appendStep-units : allBelow prime (input ++ output) ≡ true
+  appendStep-units =
+      let y = appendStep-yes wit (length trace) input output e in
       step-units input output (y .inputUnits) (y .outputUnits)
 
 -- ---- an evaluated step
 module _ (wit : PermutationWitness) (trace input : List ℕ) (rounds : ℕ) (params : List ℕ)
-    (e : allocatePermutationNo wit (length trace) input rounds params ≡ 0) where
-  pub allocatePermutation-steps :
-      stepsOf (allocatePermutation wit trace input rounds params .witness) (allocatePermutationTrace wit trace input rounds params)
+    (e : evaluateStepNo wit (length trace) input rounds params ≡ 0) where
+  pub evaluateStep-steps :
+      stepsOf (evaluateStep wit trace input rounds params .witness) (evaluateStepTrace wit trace input rounds params)
       ≡ stepsOf wit trace ++ (evaluatedStep wit input rounds params ∷ [])
-  allocatePermutation-steps =
-      let y = input-yes wit (length trace) input params (allocatePermutation-yes wit (length trace) input rounds params e .asked) in
+  evaluateStep-steps =
+      let y = input-yes wit (length trace) input params (evaluateStep-yes wit (length trace) input rounds params e .asked) in
       let n = permute-length (wit .width) rounds params input (y .inputs) in
       rw e
       (one-behind (wit .width + wit .width) (wit .steps) (evaluatedStep wit input rounds params) trace
       (step-length (wit .width) input _ (y .inputs) n) (y .held))
 
-  pub allocatePermutation-units : allBelow prime (evaluatedStep wit input rounds params) ≡ true
-  allocatePermutation-units =
-      let y = input-yes wit (length trace) input params (allocatePermutation-yes wit (length trace) input rounds params e .asked) in
+  pub evaluateStep-units : allBelow prime (evaluatedStep wit input rounds params) ≡ true
+  evaluateStep-units =
+      let y = input-yes wit (length trace) input params (evaluateStep-yes wit (length trace) input rounds params e .asked) in
       let u = permute-units (wit .width) rounds params input (y .inputUnits) in
       step-units input _ (y .inputUnits) u
 
-  pub allocatePermutation-evaluation : isEvaluation (wit .width) rounds params (evaluatedStep wit input rounds params) ≡ true
-  allocatePermutation-evaluation =
-      let a = allocatePermutation-yes wit (length trace) input rounds params e in
+  pub evaluateStep-evaluation : isEvaluation (wit .width) rounds params (evaluatedStep wit input rounds params) ≡ true
+  evaluateStep-evaluation =
+      let a = evaluateStep-yes wit (length trace) input rounds params e in
       let y = input-yes wit (length trace) input params (a .asked) in
       let out = permute (parametersOf (wit .width) rounds params) input in
       let first : take (wit .width) (input ++ out) ≡ input = take-at input out (wit .width) (y .inputs) in

@@ -26,8 +26,8 @@ abbrev pub stepRoom : PermutationWitness → ℕ → List Question
 stepRoom wit len = question 10 (leb (wordsOf (wit .width) (wit .steps + 1)) len) ∷ []
 
 -- a given step: 1, 2 (a lent list is a word store too), 9, 4, 10
-abbrev pub addPermutationAsks : PermutationWitness → ℕ → List ℕ → List ℕ → List Question
-addPermutationAsks wit len input output =
+abbrev pub appendStepAsks : PermutationWitness → ℕ → List ℕ → List ℕ → List Question
+appendStepAsks wit len input output =
     traceAsks wit len
     ++ (storeAsks (length input) ++ (storeAsks (length output)
     ++ (question 9 (eqb (length input) (wit .width))
@@ -46,21 +46,21 @@ inputAsks wit len input params =
     ∷ [])))
 
 -- .. and then 17, 10
-abbrev pub allocatePermutationAsks : PermutationWitness → ℕ → List ℕ → ℕ → List ℕ → List Question
-allocatePermutationAsks wit len input rounds params =
+abbrev pub evaluateStepAsks : PermutationWitness → ℕ → List ℕ → ℕ → List ℕ → List Question
+evaluateStepAsks wit len input rounds params =
     inputAsks wit len input params ++ (question 17 (soundParameters (wit .width) rounds params) ∷ stepRoom wit len)
 
 -- each call's number: the first no of its questions
-unfoldable pub addPermutationNo : PermutationWitness → ℕ → List ℕ → List ℕ → ℕ
-addPermutationNo wit len input output = firstNo (addPermutationAsks wit len input output)
+unfoldable pub appendStepNo : PermutationWitness → ℕ → List ℕ → List ℕ → ℕ
+appendStepNo wit len input output = firstNo (appendStepAsks wit len input output)
 
 -- of an evaluated step, the number before the parameters are looked at
 unfoldable pub inputNo : PermutationWitness → ℕ → List ℕ → List ℕ → ℕ
 inputNo wit len input params = firstNo (inputAsks wit len input params)
 
 -- of an evaluated step, the whole number
-unfoldable pub allocatePermutationNo : PermutationWitness → ℕ → List ℕ → ℕ → List ℕ → ℕ
-allocatePermutationNo wit len input rounds params = firstNo (allocatePermutationAsks wit len input rounds params)
+unfoldable pub evaluateStepNo : PermutationWitness → ℕ → List ℕ → ℕ → List ℕ → ℕ
+evaluateStepNo wit len input rounds params = firstNo (evaluateStepAsks wit len input rounds params)
 
 -- ---- what is answered and left: one step more, or everything as it was
 -- the record with one step more
@@ -76,27 +76,27 @@ abbrev pub traceWith : PermutationWitness → List ℕ → List ℕ → List ℕ
 traceWith wit step trace = putWords (wordsOf (wit .width) (wit .steps)) step trace
 
 -- a given step: the answer
-abbrev pub addPermutation : PermutationWitness → List ℕ → List ℕ → List ℕ → Traced
-addPermutation wit trace input output = tracedOf (addPermutationNo wit (length trace) input output) wit
+abbrev pub appendStep : PermutationWitness → List ℕ → List ℕ → List ℕ → Traced
+appendStep wit trace input output = tracedOf (appendStepNo wit (length trace) input output) wit
 
 -- and the trace: the inputs and outputs appended, or as it was
-abbrev pub addPermutationTrace : PermutationWitness → List ℕ → List ℕ → List ℕ → List ℕ
-addPermutationTrace wit trace input output =
-    onYes (addPermutationNo wit (length trace) input output) (traceWith wit (input ++ output) trace) trace
+abbrev pub appendStepTrace : PermutationWitness → List ℕ → List ℕ → List ℕ → List ℕ
+appendStepTrace wit trace input output =
+    onYes (appendStepNo wit (length trace) input output) (traceWith wit (input ++ output) trace) trace
 
 -- the inputs, and what the permutation turns them into
 abbrev pub evaluatedStep : PermutationWitness → List ℕ → ℕ → List ℕ → List ℕ
 evaluatedStep wit input rounds params = input ++ permute (parametersOf (wit .width) rounds params) input
 
 -- an evaluated step: the answer
-abbrev pub allocatePermutation : PermutationWitness → List ℕ → List ℕ → ℕ → List ℕ → Traced
-allocatePermutation wit trace input rounds params =
-    tracedOf (allocatePermutationNo wit (length trace) input rounds params) wit
+abbrev pub evaluateStep : PermutationWitness → List ℕ → List ℕ → ℕ → List ℕ → Traced
+evaluateStep wit trace input rounds params =
+    tracedOf (evaluateStepNo wit (length trace) input rounds params) wit
 
 -- and the trace: that step appended, or as it was
-abbrev pub allocatePermutationTrace : PermutationWitness → List ℕ → List ℕ → ℕ → List ℕ → List ℕ
-allocatePermutationTrace wit trace input rounds params =
-    onYes (allocatePermutationNo wit (length trace) input rounds params)
+abbrev pub evaluateStepTrace : PermutationWitness → List ℕ → List ℕ → ℕ → List ℕ → List ℕ
+evaluateStepTrace wit trace input rounds params =
+    onYes (evaluateStepNo wit (length trace) input rounds params)
     (traceWith wit (evaluatedStep wit input rounds params) trace) trace
 
 -- ---- the steps that a trace holds, in order

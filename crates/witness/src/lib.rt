@@ -10,8 +10,8 @@ ghost use lib.ListN.{length};
 ghost use Rattle.limits.specs.Questions.{firstNo, onYes};
 ghost use Rattle.words.specs.Pieces.{wordsOf};
 ghost use Rattle.permute.specs.Parameters.{permuteNo};
-ghost use Rattle.witness.specs.Trace.{traceAsks, inputNo, addPermutationNo, tracedOf, traceWith, evaluatedStep};
-ghost use Rattle.witness.specs.Trace.{addPermutation, addPermutationTrace, allocatePermutation, allocatePermutationTrace};
+ghost use Rattle.witness.specs.Trace.{traceAsks, inputNo, appendStepNo, tracedOf, traceWith, evaluatedStep};
+ghost use Rattle.witness.specs.Trace.{appendStep, appendStepTrace, evaluateStep, evaluateStepTrace};
 use limits::Outcome;
 use limits::P;
 
@@ -72,8 +72,8 @@ fn asked_trace(wit: PermutationWitness, len: usize) -> u32
 }
 
 // The number of a given step.
-fn add_permutation_no(wit: PermutationWitness, len: usize, input: &[u32], output: &[u32]) -> u32
-    ensures { λ r. ⌜ r ≡ addPermutationNo wit len (now (input .entry)) (now (output .entry)) ⌝ }
+fn append_step_no(wit: PermutationWitness, len: usize, input: &[u32], output: &[u32]) -> u32
+    ensures { λ r. ⌜ r ≡ appendStepNo wit len (now (input .entry)) (now (output .entry)) ⌝ }
 {
     let width = wit.width;
     let steps = wit.steps;
@@ -87,16 +87,16 @@ fn add_permutation_no(wit: PermutationWitness, len: usize, input: &[u32], output
     words::asked_one_more(no, width, steps, len, 10)
 }
 
-// Record a step without evaluating the permutation (the source's `add_permutation`). Questions 1, 2, 9, 4, 10.
-pub fn add_permutation(
+// Record a step without evaluating the permutation (the source's `append_step`). Questions 1, 2, 9, 4, 10.
+pub fn append_step(
     wit: PermutationWitness,
     trace: &mut [u32],
     input: &[u32],
     output: &[u32],
 ) -> Traced
-    ensures { λ r. ⌜ (r ≡ addPermutation wit (now (trace .entry)) (now (input .entry)) (now (output .entry))) × (now (trace .exit) ≡ addPermutationTrace wit (now (trace .entry)) (now (input .entry)) (now (output .entry))) ⌝ }
+    ensures { λ r. ⌜ (r ≡ appendStep wit (now (trace .entry)) (now (input .entry)) (now (output .entry))) × (now (trace .exit) ≡ appendStepTrace wit (now (trace .entry)) (now (input .entry)) (now (output .entry))) ⌝ }
 {
-    let no = add_permutation_no(wit, trace.len(), input, output);
+    let no = append_step_no(wit, trace.len(), input, output);
     if no != 0 {
         return answered(no, wit);
     }
@@ -116,17 +116,17 @@ fn input_no(wit: PermutationWitness, len: usize, input: &[u32], params: &[u32]) 
     words::asked_below(no, input, P, 4)
 }
 
-// Evaluate the permutation on the inputs and record the step (the source's `allocate_permutation`). Questions
+// Evaluate the permutation on the inputs and record the step (the source's `evaluate_step`). Questions
 // 1, 2, 9, 4, 17, 10. The outputs are the last w words of the new step. The evaluation puts 17 itself; where
 // the trace has no room for a step it is put alone.
-pub fn allocate_permutation(
+pub fn evaluate_step(
     wit: PermutationWitness,
     trace: &mut [u32],
     input: &[u32],
     rounds: u32,
     params: &[u32],
 ) -> Traced
-    ensures { λ r. ⌜ (r ≡ allocatePermutation wit (now (trace .entry)) (now (input .entry)) rounds (now (params .entry))) × (now (trace .exit) ≡ allocatePermutationTrace wit (now (trace .entry)) (now (input .entry)) rounds (now (params .entry))) ⌝ }
+    ensures { λ r. ⌜ (r ≡ evaluateStep wit (now (trace .entry)) (now (input .entry)) rounds (now (params .entry))) × (now (trace .exit) ≡ evaluateStepTrace wit (now (trace .entry)) (now (input .entry)) rounds (now (params .entry))) ⌝ }
 {
     let no = input_no(wit, trace.len(), input, params);
     if no != 0 {

@@ -67,7 +67,7 @@ fn field(rng: &mut Rng, count: u64, counts: &mut Counts) -> Compared {
 
 fn pair(a: u32, b: u32, counts: &mut Counts) -> Compared {
     counts.pairs += 1;
-    let library = (sfr::add(a, b), sfr::mul(a, b));
+    let library = (sfr::add_unit(a, b), sfr::mul_unit(a, b));
     let expected = (leaf::add(a, b), leaf::mul(a, b));
     if library == expected {
         return Ok(());

@@ -24,7 +24,7 @@ fn from_library(rel: sfr::Relation) -> reading::Relation {
 
 /// A new relation over these stores.
 pub fn new_relation(state: &mut State, width: u32) -> Answer {
-    let answer = sfr::new(width, &mut state.slots);
+    let answer = sfr::new_relation(width, &mut state.slots);
     keep(state, answer)
 }
 

@@ -6,8 +6,8 @@ use borrow.Author.Needs.{needs}
 use Rattle.sfr.proofs.trace.sfr_append_step.Statement.{statement}
 use Rattle.sfr.proofs.trace.sfr_append_step.Tie as tie
 
-add-permutation-requires : tie.Need-add-permutation-requires
-add-permutation-requires c κs = search needs
+append-step-requires : tie.Need-append-step-requires
+append-step-requires c κs = search needs
 
 traced-answer-requires : tie.Need-traced-answer-requires
 traced-answer-requires c κs = search needs
@@ -17,9 +17,9 @@ same-length c = search needs
 
 returns : tie.Need-returns
 returns c =
-    let r = c .before .before .before .add-permutation in
+    let r = c .before .before .before .append-step in
     (c .traced-answer .ensures ∙ ap tracedAnswer (r .ensures .0), r .ensures .1)
 
 pub sfr-append-step-spec : {M : Type 1} → statement M
 sfr-append-step-spec =
-    tie.close (tie.spec add-permutation-requires traced-answer-requires same-length returns)
+    tie.close (tie.spec append-step-requires traced-answer-requires same-length returns)

@@ -6,8 +6,8 @@ use borrow.Author.Needs.{needs}
 use Rattle.sfr.proofs.trace.sfr_evaluate_step.Statement.{statement}
 use Rattle.sfr.proofs.trace.sfr_evaluate_step.Tie as tie
 
-allocate-permutation-requires : tie.Need-allocate-permutation-requires
-allocate-permutation-requires c κs = search needs
+evaluate-step-requires : tie.Need-evaluate-step-requires
+evaluate-step-requires c κs = search needs
 
 traced-answer-requires : tie.Need-traced-answer-requires
 traced-answer-requires c κs = search needs
@@ -17,9 +17,9 @@ same-length c = search needs
 
 returns : tie.Need-returns
 returns c =
-    let r = c .before .before .before .allocate-permutation in
+    let r = c .before .before .before .evaluate-step in
     (c .traced-answer .ensures ∙ ap tracedAnswer (r .ensures .0), r .ensures .1)
 
 pub sfr-evaluate-step-spec : {M : Type 1} → statement M
 sfr-evaluate-step-spec =
-    tie.close (tie.spec allocate-permutation-requires traced-answer-requires same-length returns)
+    tie.close (tie.spec evaluate-step-requires traced-answer-requires same-length returns)

@@ -1,10 +1,10 @@
--- `witness::add_permutation_no` meets its contract: its questions in a row.
+-- `witness::append_step_no` meets its contract: its questions in a row.
 -- Assumes nothing.
-use Rattle.witness.specs.Trace.{addPermutationNo}
+use Rattle.witness.specs.Trace.{appendStepNo}
 use Rattle.witness.proofs.Chain.{given-chain}
 use borrow.Author.Needs.{needs}
-use Rattle.witness.proofs.add_permutation_no.Statement.{statement}
-use Rattle.witness.proofs.add_permutation_no.Tie as tie
+use Rattle.witness.proofs.append_step_no.Statement.{statement}
+use Rattle.witness.proofs.append_step_no.Tie as tie
 
 asked-trace-requires : tie.Need-asked-trace-requires
 asked-trace-requires c κs = search needs
@@ -37,7 +37,7 @@ asked-one-more-requires : tie.Need-asked-one-more-requires
 asked-one-more-requires c κs = search needs
 
 returns : tie.Need-returns
-unfolding addPermutationNo
+unfolding appendStepNo
 returns c =
     rw (
       c .asked-one-more .ensures,
@@ -51,8 +51,8 @@ returns c =
     )
     (given-chain _ _ _ _ _ _ _ _ _ _ _)
 
-pub add-permutation-no-spec : {M : Type 1} → statement M
-add-permutation-no-spec =
+pub append-step-no-spec : {M : Type 1} → statement M
+append-step-no-spec =
     tie.close
     (tie.spec
     asked-trace-requires

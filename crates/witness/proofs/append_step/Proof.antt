@@ -1,18 +1,18 @@
--- `witness::add_permutation` meets its contract: its questions first, and where all say yes the step is written.
+-- `witness::append_step` meets its contract: its questions first, and where all say yes the step is written.
 -- Assumes nothing.
 use mathlib.Core.Path.{sym, ap, _∙_}
 use mathlib.Core.List.{_++_}
 use denote.Ref.{now}
 use lib.ListN.{length}
 use Rattle.limits.proofs.Answered.{store-refused, store-accepted}
-use Rattle.witness.specs.Trace.{addPermutationNo, tracedOf, traceWith}
-use Rattle.witness.proofs.Accepted.{addPermutation-yes}
+use Rattle.witness.specs.Trace.{appendStepNo, tracedOf, traceWith}
+use Rattle.witness.proofs.Accepted.{appendStep-yes}
 use borrow.Author.Needs.{needs}
-use Rattle.witness.proofs.add_permutation.Statement.{statement}
-use Rattle.witness.proofs.add_permutation.Tie as tie
+use Rattle.witness.proofs.append_step.Statement.{statement}
+use Rattle.witness.proofs.append_step.Tie as tie
 
-add-permutation-no-requires : tie.Need-add-permutation-no-requires
-add-permutation-no-requires c κs = search needs
+append-step-no-requires : tie.Need-append-step-no-requires
+append-step-no-requires c κs = search needs
 
 answered-requires : tie.Need-answered-requires
 answered-requires c κs = search needs
@@ -23,8 +23,8 @@ returns c =
     let s = now (a .trace) in
     let input = now (a .input) in
     let output = now (a .output) in
-    let no = addPermutationNo (a .wit) (length s) input output in
-    let e = c .before .before .add-permutation-no .ensures in (
+    let no = appendStepNo (a .wit) (length s) input output in
+    let e = c .before .before .append-step-no .ensures in (
       c .answered .ensures ∙ ap (λ k. tracedOf k (a .wit)) e,
       store-refused no _ e (traceWith (a .wit) (input ++ output) s) s (c .before .if1 .taken),
     )
@@ -35,7 +35,7 @@ put-step-requires c κs =
     let s = now (a .trace) in
     let input = now (a .input) in
     let output = now (a .output) in
-    let y = addPermutation-yes (a .wit) (length s) input output (sym (c .before .before .add-permutation-no .ensures) ∙ c .before .if1 .left) in
+    let y = appendStep-yes (a .wit) (length s) input output (sym (c .before .before .append-step-no .ensures) ∙ c .before .if1 .left) in
     (y .inputs, y .outputs, y .room)
 
 answered-requires-2 : tie.Need-answered-requires-2
@@ -44,7 +44,7 @@ answered-requires-2 c κs =
     let s = now (a .trace) in
     let input = now (a .input) in
     let output = now (a .output) in
-    let y = addPermutation-yes (a .wit) (length s) input output (sym (c .before .before .before .before .before .add-permutation-no .ensures) ∙ c .before .before .before .before .if1 .left) in
+    let y = appendStep-yes (a .wit) (length s) input output (sym (c .before .before .before .before .before .append-step-no .ensures) ∙ c .before .before .before .before .if1 .left) in
     λ z. y .few
 
 same-length : tie.Need-same-length
@@ -56,18 +56,18 @@ returns-2 c =
     let s = now (a .trace) in
     let input = now (a .input) in
     let output = now (a .output) in
-    let no = addPermutationNo (a .wit) (length s) input output in
-    let e = c .before .before .before .before .before .before .add-permutation-no .ensures in (
+    let no = appendStepNo (a .wit) (length s) input output in
+    let e = c .before .before .before .before .before .before .append-step-no .ensures in (
       c .answered2 .ensures ∙ ap (λ k. tracedOf k (a .wit)) e,
       c .before .before .before .put-step .ensures
           ∙ store-accepted no _ e (traceWith (a .wit) (input ++ output) s) s (c .before .before .before .before .before .if1 .left),
     )
 
-pub add-permutation-spec : {M : Type 1} → statement M
-add-permutation-spec =
+pub append-step-spec : {M : Type 1} → statement M
+append-step-spec =
     tie.close
     (tie.spec
-    add-permutation-no-requires
+    append-step-no-requires
     answered-requires
     returns
     put-step-requires

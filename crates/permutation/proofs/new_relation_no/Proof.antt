@@ -1,10 +1,10 @@
--- `permutation::new_no` meets its contract: its questions in a row.
+-- `permutation::new_relation_no` meets its contract: its questions in a row.
 -- Assumes nothing.
 use Rattle.limits.proofs.Questions.{▸-assoc, zero-▸, ▸-zero}
-use Rattle.permutation.specs.Numbers.{newNo}
+use Rattle.permutation.specs.Numbers.{newRelationNo}
 use borrow.Author.Needs.{needs}
-use Rattle.permutation.proofs.new_no.Statement.{statement}
-use Rattle.permutation.proofs.new_no.Tie as tie
+use Rattle.permutation.proofs.new_relation_no.Statement.{statement}
+use Rattle.permutation.proofs.new_relation_no.Tie as tie
 
 asked-width-requires : tie.Need-asked-width-requires
 asked-width-requires c κs = search needs
@@ -16,10 +16,10 @@ asked-requires : tie.Need-asked-requires
 asked-requires c κs = search needs
 
 returns : tie.Need-returns
-unfolding newNo
+unfolding newRelationNo
 returns c =
     rw (c .asked .ensures, c .before .asked-store .ensures, c .before .before .asked-width .ensures)
     (simp (▸-assoc, zero-▸, ▸-zero))
 
-pub new-no-spec : {M : Type 1} → statement M
-new-no-spec = tie.close (tie.spec asked-width-requires asked-store-requires asked-requires returns)
+pub new-relation-no-spec : {M : Type 1} → statement M
+new-relation-no-spec = tie.close (tie.spec asked-width-requires asked-store-requires asked-requires returns)

@@ -1,11 +1,11 @@
--- `baby_bear::mul` meets its contract: the product of two u32 fits a u64.
+-- `baby_bear::mul_unit` meets its contract: the product of two u32 fits a u64.
 -- Assumes nothing.
 use mathlib.Core.Path.{refl}
 use borrow.Author.Needs.{needs}
 use Rattle.baby_bear.specs.Field.{mulUnit}
 use Rattle.limits.proofs.Product.{below}
-use Rattle.baby_bear.proofs.mul.Statement.{statement}
-use Rattle.baby_bear.proofs.mul.Tie as tie
+use Rattle.baby_bear.proofs.mul_unit.Statement.{statement}
+use Rattle.baby_bear.proofs.mul_unit.Tie as tie
 
 cast-t3 : tie.Need-cast-t3
 cast-t3 c = search needs
@@ -29,5 +29,5 @@ returns : tie.Need-returns
 unfolding mulUnit
 returns c = refl
 
-pub mul-spec : {M : Type 1} → statement M
-mul-spec = tie.close (tie.spec cast-t3 cast-t4 mul-t5 cast-t6 rem-t7 cast-t8 returns)
+pub mul-unit-spec : {M : Type 1} → statement M
+mul-unit-spec = tie.close (tie.spec cast-t3 cast-t4 mul-t5 cast-t6 rem-t7 cast-t8 returns)

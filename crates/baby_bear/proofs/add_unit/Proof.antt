@@ -1,10 +1,10 @@
--- `baby_bear::add` meets its contract: the sum of two u32 fits a u64.
+-- `baby_bear::add_unit` meets its contract: the sum of two u32 fits a u64.
 -- Assumes nothing.
 use mathlib.Core.Path.{refl}
 use borrow.Author.Needs.{needs}
 use Rattle.baby_bear.specs.Field.{addUnit}
-use Rattle.baby_bear.proofs.add.Statement.{statement}
-use Rattle.baby_bear.proofs.add.Tie as tie
+use Rattle.baby_bear.proofs.add_unit.Statement.{statement}
+use Rattle.baby_bear.proofs.add_unit.Tie as tie
 
 cast-t3 : tie.Need-cast-t3
 cast-t3 c = search needs
@@ -28,5 +28,5 @@ returns : tie.Need-returns
 unfolding addUnit
 returns c = refl
 
-pub add-spec : {M : Type 1} → statement M
-add-spec = tie.close (tie.spec cast-t3 cast-t4 add-t5 cast-t6 rem-t7 cast-t8 returns)
+pub add-unit-spec : {M : Type 1} → statement M
+add-unit-spec = tie.close (tie.spec cast-t3 cast-t4 add-t5 cast-t6 rem-t7 cast-t8 returns)

@@ -7,8 +7,8 @@ use lib.ListN.{length}
 use Rattle.limits.proofs.Questions.{▸-assoc, zero-▸, ▸-zero}
 use Rattle.instance.specs.Looks.{publicValueNo}
 use Rattle.instance.proofs.Values.{valueOf, value-refused, value-accepted, value-fits}
-use Rattle.instance.proofs.value.Statement.{statement}
-use Rattle.instance.proofs.value.Tie as tie
+use Rattle.instance.proofs.public_value.Statement.{statement}
+use Rattle.instance.proofs.public_value.Tie as tie
 
 asked-width-requires : tie.Need-asked-width-requires
 asked-width-requires c κs = search needs
@@ -58,8 +58,8 @@ returns-2 c =
     (simp (▸-assoc, zero-▸, ▸-zero)) in
     c .last-value .ensures ∙ value-accepted (a .ins) (now (a .publics)) (a .var .0) _ e (c .before .if1 .left)
 
-pub value-spec : {M : Type 1} → statement M
-value-spec =
+pub public-value-spec : {M : Type 1} → statement M
+public-value-spec =
     tie.close
     (tie.spec
     asked-width-requires

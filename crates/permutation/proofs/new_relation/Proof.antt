@@ -1,4 +1,4 @@
--- `permutation::new` meets its contract: a refusal leaves the slots, and an accepted call sets slot 0.
+-- `permutation::new_relation` meets its contract: a refusal leaves the slots, and an accepted call sets slot 0.
 -- Assumes nothing.
 use denote.Ref.{now}
 use lib.ListN.{length, set}
@@ -6,21 +6,21 @@ use Rattle.limits.proofs.Answered.{store-refused, store-accepted}
 use Rattle.permutation.proofs.Answered.{recorded-refused, recorded-accepted}
 use Rattle.permutation.proofs.Accepted.{new-yes}
 use Rattle.permutation.specs.Answers.{relation}
-use Rattle.permutation.specs.Numbers.{newNo}
+use Rattle.permutation.specs.Numbers.{newRelationNo}
 use mathlib.Core.Path.{sym, _∙_}
 use borrow.Author.Needs.{needs}
-use Rattle.permutation.proofs.new.Statement.{statement}
-use Rattle.permutation.proofs.new.Tie as tie
+use Rattle.permutation.proofs.new_relation.Statement.{statement}
+use Rattle.permutation.proofs.new_relation.Tie as tie
 
-new-no-requires : tie.Need-new-no-requires
-new-no-requires c κs = search needs
+new-relation-no-requires : tie.Need-new-relation-no-requires
+new-relation-no-requires c κs = search needs
 
 returns : tie.Need-returns
 returns c =
     let a = c .before .before .before .args in
     let s = now (a .slots) in
-    let no = newNo (a .width) (length s) in
-    let e = c .before .new-no .ensures in (
+    let no = newRelationNo (a .width) (length s) in
+    let e = c .before .new-relation-no .ensures in (
       recorded-refused no _ e (relation (a .width) 1 0 0 0) (relation 0 0 0 0 0) (c .if1 .taken),
       store-refused no _ e (set s 0 0) s (c .if1 .taken),
     )
@@ -28,7 +28,7 @@ returns c =
 slice-write-slots : tie.Need-slice-write-slots
 slice-write-slots c =
     let a = c .before .before .before .args in
-    new-yes (a .width) (length (now (a .slots))) (sym (c .before .new-no .ensures) ∙ c .if1 .left) .room
+    new-yes (a .width) (length (now (a .slots))) (sym (c .before .new-relation-no .ensures) ∙ c .if1 .left) .room
 
 same-length : tie.Need-same-length
 same-length c = search needs
@@ -37,11 +37,11 @@ returns-2 : tie.Need-returns-2
 returns-2 c =
     let a = c .before .before .before .args in
     let s = now (a .slots) in
-    let no = newNo (a .width) (length s) in
-    let e = c .before .new-no .ensures in (
+    let no = newRelationNo (a .width) (length s) in
+    let e = c .before .new-relation-no .ensures in (
       recorded-accepted no _ e (relation (a .width) 1 0 0 0) (relation 0 0 0 0 0) (c .if1 .left),
       store-accepted no _ e (set s 0 0) s (c .if1 .left),
     )
 
-pub new-spec : {M : Type 1} → statement M
-new-spec = tie.close (tie.spec new-no-requires returns slice-write-slots same-length returns-2)
+pub new-relation-spec : {M : Type 1} → statement M
+new-relation-spec = tie.close (tie.spec new-relation-no-requires returns slice-write-slots same-length returns-2)

@@ -1,16 +1,16 @@
--- `witness::allocate_permutation` meets its contract: the questions before the parameters, then 17 and 10 where the
+-- `witness::evaluate_step` meets its contract: the questions before the parameters, then 17 and 10 where the
 -- trace is full, and where it has room the evaluation, which answers 17 or writes the step. Assumes nothing.
 use mathlib.Core.Path.{sym, ap, _∙_}
 use denote.Ref.{now}
 use lib.ListN.{length}
 use Rattle.limits.specs.Questions.{onYes}
 use Rattle.limits.proofs.Answered.{store-refused}
-use Rattle.witness.specs.Trace.{allocatePermutationNo, tracedOf, traceWith, evaluatedStep}
-use Rattle.witness.proofs.Accepted.{input-yes, allocatePermutation-yes}
+use Rattle.witness.specs.Trace.{evaluateStepNo, tracedOf, traceWith, evaluatedStep}
+use Rattle.witness.proofs.Accepted.{input-yes, evaluateStep-yes}
 use Rattle.witness.proofs.Evaluated.{input-refused, room-asked, full-number, full-refused, room-number}
 use borrow.Author.Needs.{needs}
-use Rattle.witness.proofs.allocate_permutation.Statement.{statement}
-use Rattle.witness.proofs.allocate_permutation.Tie as tie
+use Rattle.witness.proofs.evaluate_step.Statement.{statement}
+use Rattle.witness.proofs.evaluate_step.Tie as tie
 
 input-no-requires : tie.Need-input-no-requires
 input-no-requires c κs = search needs
@@ -24,7 +24,7 @@ returns c =
     let s = now (a .trace) in
     let input = now (a .input) in
     let params = now (a .params) in
-    let no = allocatePermutationNo (a .wit) (length s) input (a .rounds) params in
+    let no = evaluateStepNo (a .wit) (length s) input (a .rounds) params in
     let e = input-refused (a .wit) (length s) input (a .rounds) params _ (c .before .before .input-no .ensures) (c .before .if1 .taken) in (
       c .answered .ensures ∙ ap (λ k. tracedOf k (a .wit)) e,
       store-refused no _ e (traceWith (a .wit) (evaluatedStep (a .wit) input (a .rounds) params) s) s (c .before .if1 .taken),
@@ -46,7 +46,7 @@ answered-requires-2 c κs =
     let input = now (a .input) in
     let params = now (a .params) in
     let e = full-number (a .wit) (length s) input (a .rounds) params (sym (c .before .before .before .before .before .input-no .ensures) ∙ c .before .before .before .before .if1 .left) _ _ (c .before .parameters-no .ensures) (c .asked-one-more2 .ensures) in
-    λ z. allocatePermutation-yes (a .wit) (length s) input (a .rounds) params (sym e ∙ z) .few
+    λ z. evaluateStep-yes (a .wit) (length s) input (a .rounds) params (sym e ∙ z) .few
 
 returns-2 : tie.Need-returns-2
 returns-2 c =
@@ -54,7 +54,7 @@ returns-2 c =
     let s = now (a .trace) in
     let input = now (a .input) in
     let params = now (a .params) in
-    let no = allocatePermutationNo (a .wit) (length s) input (a .rounds) params in
+    let no = evaluateStepNo (a .wit) (length s) input (a .rounds) params in
     let y = sym (c .before .before .before .before .before .before .input-no .ensures) ∙ c .before .before .before .before .before .if1 .left in
     let e = full-number (a .wit) (length s) input (a .rounds) params y _ _ (c .before .before .parameters-no .ensures) (c .before .asked-one-more2 .ensures) in
     let h = full-refused (a .wit) (length s) _ (c .before .before .before .before .asked-one-more .ensures) (c .before .before .before .if2 .taken) _ _ (c .before .asked-one-more2 .ensures) in (
@@ -99,7 +99,7 @@ answered-requires-3 c κs =
     let y = sym (c .before .before .before .before .before .before .before .before .before .input-no .ensures) ∙ c .before .before .before .before .before .before .before .before .if1 .left in
     let r = room-asked (a .wit) (length s) _ (c .before .before .before .before .before .before .before .asked-one-more .ensures) (c .before .before .before .before .before .before .if2 .left) in
     let e = c .before .before .before .put-evaluation .ensures .0 ∙ room-number (a .wit) (length s) input (a .rounds) params y r in
-    λ z. allocatePermutation-yes (a .wit) (length s) input (a .rounds) params (sym e ∙ z) .few
+    λ z. evaluateStep-yes (a .wit) (length s) input (a .rounds) params (sym e ∙ z) .few
 
 same-length : tie.Need-same-length
 same-length c = search needs
@@ -117,8 +117,8 @@ returns-3 c =
       c .before .before .before .before .put-evaluation .ensures .1 ∙ ap (λ k. onYes k (traceWith (a .wit) (evaluatedStep (a .wit) input (a .rounds) params) s) s) e,
     )
 
-pub allocate-permutation-spec : {M : Type 1} → statement M
-allocate-permutation-spec =
+pub evaluate-step-spec : {M : Type 1} → statement M
+evaluate-step-spec =
     tie.close
     (tie.spec
     input-no-requires
