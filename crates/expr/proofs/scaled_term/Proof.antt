@@ -3,11 +3,11 @@ use borrow.Author.Needs.{needs}
 use Rattle.expr.proofs.scaled_term.Statement.{statement}
 use Rattle.expr.proofs.scaled_term.Tie as tie
 
-mul-requires : tie.Need-mul-requires
-mul-requires c κs = search needs
+mul-unit-requires : tie.Need-mul-unit-requires
+mul-unit-requires c κs = search needs
 
 returns : tie.Need-returns
-returns c = λ j. record { var = c .before .before .args .t .var; weight = record { 0 = c .mul .ensures j } }
+returns c = λ j. record { var = c .before .before .args .t .var; weight = record { 0 = c .mul-unit .ensures j } }
 
 pub scaled-term-spec : {M : Type 1} → statement M
-scaled-term-spec = tie.close (tie.spec mul-requires returns)
+scaled-term-spec = tie.close (tie.spec mul-unit-requires returns)
