@@ -6,7 +6,7 @@ use borrow.Author.Needs.{needs}
 use Rattle.sfr.proofs.gate.sfr_public_value.Statement.{statement}
 use Rattle.sfr.proofs.gate.sfr_public_value.Tie as tie
 
-public-value-requires : tie.Need-public-public-value-requires
+public-value-requires : tie.Need-public-value-requires
 public-value-requires c κs = search needs
 
 value-answer-requires : tie.Need-value-answer-requires

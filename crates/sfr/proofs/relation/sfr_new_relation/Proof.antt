@@ -17,7 +17,7 @@ same-length c = search needs
 
 returns : tie.Need-returns
 returns c =
-    let r = c .before .before .before .new in
+    let r = c .before .before .before .new-relation in
     (c .recorded-answer .ensures ∙ ap recordedAnswer (r .ensures .0), r .ensures .1)
 
 pub sfr-new-relation-spec : {M : Type 1} → statement M
