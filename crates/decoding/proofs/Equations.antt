@@ -12,10 +12,10 @@ use lib.ListN.{length, set, drop, length-append, length-set}
 use lib.Seq.{sets-eq, set-split}
 use Rattle.words.specs.Store.{putWords}
 use Rattle.narg.specs.Reader.{Got, got, stop, onGot, _>>=_, give, need, wire, unit, times, items, each}
-use Rattle.narg.specs.Cursor.{wordAt}
+use Rattle.narg.specs.Cursor.{readU32}
 use Rattle.narg.specs.declared.Cursor.{Cursor}
 use Rattle.narg.specs.declared.Word.the-variants.{Read as ReadWord, Short}
-use Rattle.narg.proofs.At.{wordAt-stop, word-next}
+use Rattle.narg.proofs.At.{readU32-stop, word-next}
 use Rattle.narg.proofs.Lists.{times-stop, times-more, times-count}
 use Rattle.narg.proofs.Stores.{putWords-nil, length-putWords, put-two}
 use Rattle.allocator.specs.Slots.{Pair, pair}
@@ -173,10 +173,10 @@ module _ (s : List ℕ) (at place room : ℕ) where
   abbrev asked : Got (Unit {0})
   asked = (readEquation >>= λ e. need 10 (leb (place + sizeOf e) room)) (drop at s)
 
-  pub equation-short : wordAt s at ≡ Short → asked ≡ stop 20
-  equation-short e = rw (wordAt-stop s at e)
+  pub equation-short : readU32 s at ≡ Short → asked ≡ stop 20
+  equation-short e = rw (readU32-stop s at e)
 
-  module _ (t : ℕ) (c : Cursor) (ew : wordAt s at ≡ ReadWord t c) where
+  module _ (t : ℕ) (c : Cursor) (ew : readU32 s at ≡ ReadWord t c) where
     pub equation-terms-stop : (k : ℕ) → times readTerm t (drop (c .at) s) ≡ stop k → asked ≡ stop k
     equation-terms-stop k e = rw (word-next s at t c ew, e)
 
@@ -207,7 +207,7 @@ equation-stored out place t v ts after e h w =
     ∙ ap (λ (n : ℕ). putWords place (n ∷ (termWords ts ++ (v ∷ []))) out) e
 
 -- what was read and stored, with the room asked
-module _ (s : List ℕ) (at : ℕ) (out : List ℕ) (place t : ℕ) (c : Cursor) (ew : wordAt s at ≡ ReadWord t c) (out1 : List ℕ) (e1 : out1 ≡ set out place t)
+module _ (s : List ℕ) (at : ℕ) (out : List ℕ) (place t : ℕ) (c : Cursor) (ew : readU32 s at ≡ ReadWord t c) (out1 : List ℕ) (e1 : out1 ≡ set out place t)
     (out2 : List ℕ) (last : Cursor) (g : TermsGiven (times readTerm t (drop (c .at) s)) s out1 out2 (place + 1) last)
     (v : ℕ) (next : Cursor) (ei : unit (drop (last .at) s) ≡ got v (drop (next .at) s)) (len : ℕ) (el : len ≡ length out) where
   counted : length (g .terms) ≡ t

@@ -18,12 +18,12 @@ use Rattle.words.specs.Pieces.{wordsOf, flat}
 use Rattle.words.proofs.Held.{flat-length, pieces-flat}
 use Rattle.utf8.specs.Utf8.{isUtf8}
 use Rattle.narg.specs.Reader.{Got, got, stop, word, wire, times, items}
-use Rattle.narg.specs.Cursor.{wordAt}
+use Rattle.narg.specs.Cursor.{readU32}
 use Rattle.narg.specs.declared.Cursor.{Cursor}
 use Rattle.narg.specs.declared.Word.the-variants.{Read as ReadWord, Short}
 use Rattle.narg.proofs.Fields.{part-short, part-long}
 use Rattle.narg.proofs.Lists.{passed, items-all, times-count}
-use Rattle.narg.proofs.At.{wordAt-read, wordAt-stop, word-next}
+use Rattle.narg.proofs.At.{readU32-read, readU32-stop, word-next}
 use Rattle.allocator.specs.Slots.{Pair, pair}
 use Rattle.expr.specs.Equation.{Equation, equationsWords}
 use Rattle.expr.proofs.Held.{equations-words}
@@ -46,13 +46,13 @@ use Rattle.decoding.proofs.Steps.{ended-left, ended-yes, put-padded}
 
 -- ---- the label
 module _ (s : List ℕ) (at : ℕ) where
-  pub label-short : wordAt s at ≡ Short → readLabel (drop at s) ≡ stop 20
+  pub label-short : readU32 s at ≡ Short → readLabel (drop at s) ≡ stop 20
   unfolding readLabel
-  label-short e = rw (wordAt-stop s at e)
+  label-short e = rw (readU32-stop s at e)
 
-  module _ (n : ℕ) (c : Cursor) (ew : wordAt s at ≡ ReadWord n c) where
+  module _ (n : ℕ) (c : Cursor) (ew : readU32 s at ≡ ReadWord n c) where
     pub label-start : c .at ≤ length s
-    label-start = let w = wordAt-read s at n c ew in let f = w .fits in let p = w .past in omega arith
+    label-start = let w = readU32-read s at n c ew in let f = w .fits in let p = w .past in omega arith
 
     pub label-cut : length s - c .at < n → readLabel (drop at s) ≡ stop 20
     unfolding readLabel
@@ -109,11 +109,11 @@ module _ (width p q e : ℕ) (s : List ℕ) (at : ℕ) where
   abbrev partsGot : Got Parts
   partsGot = readParts width (rooms p q e 0) (drop at s)
 
-  pub parts-short : wordAt s at ≡ Short → partsGot ≡ stop 20
+  pub parts-short : readU32 s at ≡ Short → partsGot ≡ stop 20
   unfolding readParts
-  parts-short w = rw (wordAt-stop s at w)
+  parts-short w = rw (readU32-stop s at w)
 
-  module _ (vars : ℕ) (c : Cursor) (ew : wordAt s at ≡ ReadWord vars c) where
+  module _ (vars : ℕ) (c : Cursor) (ew : readU32 s at ≡ ReadWord vars c) where
     pub publics-stop : (k : ℕ) → readPublics p (drop (c .at) s) ≡ stop k → partsGot ≡ stop k
     unfolding readParts
     publics-stop k f = rw (word-next s at vars c ew, f)
@@ -179,7 +179,7 @@ module _ (width : ℕ) (parts : Parts) (ins : PermutationInstance) (p₀ p q₀ 
       )
 
 -- the parts as their readers list them
-module _ (width label : ℕ) (s p₀ p₁ q₀ q₁ e₀ e₁ : List ℕ) (at vars : ℕ) (c : Cursor) (ew : wordAt s at ≡ ReadWord vars c)
+module _ (width label : ℕ) (s p₀ p₁ q₀ q₁ e₀ e₁ : List ℕ) (at vars : ℕ) (c : Cursor) (ew : readU32 s at ≡ ReadWord vars c)
     (np wp : ℕ) (c1 : Cursor) (lp : Listed (readPublics (length p₀) (drop (c .at) s)) pairWords s p₀ p₁ np wp c1)
     (nq wq : ℕ) (c2 : Cursor) (lq : Listed (readQueries width (length q₀) (drop (c1 .at) s)) flat s q₀ q₁ nq wq c2)
     (ne we : ℕ) (c3 : Cursor) (le : Listed (readEquations (length e₀) (drop (c2 .at) s)) equationsWords s e₀ e₁ ne we c3) where

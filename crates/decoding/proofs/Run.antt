@@ -11,12 +11,12 @@ use lib.ListN.{length, drop, length-append}
 use Rattle.words.specs.Store.{putWords}
 use Rattle.words.specs.Pieces.{flat}
 use Rattle.narg.specs.Reader.{Got, got, stop, Reader, onGot, _>>=_, _>>_, give, need, below, times, items, each}
-use Rattle.narg.specs.Cursor.{item, wordsAt, wordsOut}
+use Rattle.narg.specs.Cursor.{item, readWords, readWordsOut}
 use Rattle.narg.specs.declared.Cursor.{Cursor}
 use Rattle.narg.specs.declared.Item.the-variants.{Read as ReadItem, Refused as RefusedItem}
 use Rattle.narg.proofs.Fields.{never}
 use Rattle.narg.proofs.Lists.{each-append, items-more}
-use Rattle.narg.proofs.Items.{wordsAt-read, wordsAt-refused}
+use Rattle.narg.proofs.Items.{readWords-read, readWords-refused}
 use Rattle.narg.proofs.Stores.{putWords-nil, putWords-append, length-putWords}
 use Rattle.decoding.specs.Told.{Listed}
 
@@ -140,21 +140,21 @@ each-flat (q ∷ qs) = ap (λ (l : List ℕ). q ++ l) (each-flat qs)
 
 module _ (size bound k : ℕ) (bytes : List ℕ) (start n : ℕ) (out₀ out : List ℕ) (at to left : ℕ)
     (r : Run (times (below bound k) size) (λ q. size) (λ q. q) bytes start n out₀ out at to left) (h : 0 < left) where
-  pub run-piece : (next : Cursor) (last : List ℕ) → wordsAt bytes at out to size bound k ≡ ReadItem next → last ≡ wordsOut bytes at out to size bound k
+  pub run-piece : (next : Cursor) (last : List ℕ) → readWords bytes at out to size bound k ≡ ReadItem next → last ≡ readWordsOut bytes at out to size bound k
       → Run (times (below bound k) size) (λ q. size) (λ q. q) bytes start n out₀ last (next .at) (to + size) (left - 1)
   run-piece next last e w =
-      let g = wordsAt-read bytes at out to size bound k next e in
+      let g = readWords-read bytes at out to size bound k next e in
       let l = r .same in
       let f = g .room in
       run-more (times (below bound k) size) (λ q. size) (λ q. q) bytes start n out₀ out at to left r h (g .ws) (next .at) last
       (g .reads ∙ ap (λ (m : ℕ). got (g .ws) (drop m bytes)) (sym (g .past))) (sym (g .count)) (omega arith) (w ∙ g .stored)
 
-  pub run-piece-no : (j : ℕ) → wordsAt bytes at out to size bound k ≡ RefusedItem j
+  pub run-piece-no : (j : ℕ) → readWords bytes at out to size bound k ≡ RefusedItem j
       → items (times (below bound k) size) (λ q. size) (length out₀) 0 n (drop start bytes) ≡ stop j
   unfolding item
   run-piece-no j e =
       let l = r .same in
-      let f = wordsAt-refused bytes at out to size bound k j e .0 in
+      let f = readWords-refused bytes at out to size bound k j e .0 in
       run-stop (times (below bound k) size) (λ q. size) (λ q. q) bytes start n out₀ out at to left r h j
       (ap (λ (m : ℕ). onGot (times (below bound k) size (drop at bytes)) (λ q. need 10 (leb (to + size) m))) (sym l)
       ∙ go (times (below bound k) size (drop at bytes)) f)

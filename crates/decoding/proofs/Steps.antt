@@ -15,10 +15,10 @@ use Rattle.limits.proofs.Questions.{▸-zero, zero-▸, ▸-assoc, onYes-yes, o
 use Rattle.words.specs.Store.{putWords}
 use Rattle.words.specs.Pieces.{flat}
 use Rattle.narg.specs.Reader.{Got, got, stop, Reader, _>>=_, _>>_, give, word, items}
-use Rattle.narg.specs.Cursor.{wordAt}
+use Rattle.narg.specs.Cursor.{readU32}
 use Rattle.narg.specs.declared.Cursor.{Cursor}
 use Rattle.narg.specs.declared.Word.the-variants.{Read, Short}
-use Rattle.narg.proofs.At.{wordAt-stop, word-next}
+use Rattle.narg.proofs.At.{readU32-stop, word-next}
 use Rattle.limits.specs.declared.Outcome.the-variants.{Accepted, Refused}
 use Rattle.header.specs.Form.{letterW, version}
 use Rattle.header.specs.Read.{readHeader}
@@ -38,10 +38,10 @@ put-padded len words =
 
 -- a count and as many items, by what stands at the place
 module _ {A : Type 0} (p : Reader A) (size : A → ℕ) (room : ℕ) (s : List ℕ) (at : ℕ) where
-  pub count-short : wordAt s at ≡ Short → (word >>= λ n. items p size room 0 n) (drop at s) ≡ stop 20
-  count-short e = rw (wordAt-stop s at e)
+  pub count-short : readU32 s at ≡ Short → (word >>= λ n. items p size room 0 n) (drop at s) ≡ stop 20
+  count-short e = rw (readU32-stop s at e)
 
-  pub count-on : (n : ℕ) (next : Cursor) → wordAt s at ≡ Read n next
+  pub count-on : (n : ℕ) (next : Cursor) → readU32 s at ≡ Read n next
       → items p size room 0 n (drop (next .at) s) ≡ (word >>= λ m. items p size room 0 m) (drop at s)
   count-on n next e = rw (word-next s at n next e)
 

@@ -9,10 +9,10 @@ use borrow.Author.Tests.{eq-eqb, ne-eqb}
 use lib.Dec.{eqb}
 use lib.ListN.{length, drop, getD}
 use Rattle.narg.specs.Reader.{got, stop, number}
-use Rattle.narg.specs.Cursor.{cursor, wordAt}
+use Rattle.narg.specs.Cursor.{cursor, readU32}
 use Rattle.narg.specs.declared.Cursor.{Cursor}
 use Rattle.narg.specs.declared.Word.the-variants.{Read, Short}
-use Rattle.narg.proofs.At.{wordAt-read, wordAt-stop}
+use Rattle.narg.proofs.At.{readU32-read, readU32-stop}
 use Rattle.reader.specs.At.{partAt}
 use Rattle.reader.proofs.Found.{part-short, part-long, part-getD}
 use Rattle.header.specs.Read.{readMagic, readHeader}
@@ -114,28 +114,28 @@ module _ (last version width : ℕ) (s : List ℕ) (k : ℕ) (em : readMagic las
     front : readMagic last version s ≡ got tt (drop 5 s)
     front = em ∙ ap (λ (n : ℕ). number n (drop 5 s)) z
 
-    pub width-short : wordAt s 5 ≡ Short → readHeader last version width s ≡ stop 20
+    pub width-short : readU32 s 5 ≡ Short → readHeader last version width s ≡ stop 20
     unfolding readHeader
-    width-short e = rw (front, wordAt-stop s 5 e)
+    width-short e = rw (front, readU32-stop s 5 e)
 
-    module _ (w : ℕ) (c : Cursor) (ew : wordAt s 5 ≡ Read w c) where
+    module _ (w : ℕ) (c : Cursor) (ew : readU32 s 5 ≡ Read w c) where
       pub width-no : (w ≡ width → ⊥) → readHeader last version width s ≡ stop 23
       unfolding readHeader
-      width-no h = rw (front, wordAt-read s 5 w c ew .reads, ne-eqb w width h)
+      width-no h = rw (front, readU32-read s 5 w c ew .reads, ne-eqb w width h)
 
       module _ (h : w ≡ width) where
-        pub unit-short : wordAt s 9 ≡ Short → readHeader last version width s ≡ stop 20
+        pub unit-short : readU32 s 9 ≡ Short → readHeader last version width s ≡ stop 20
         unfolding readHeader
-        unit-short e = rw (front, wordAt-read s 5 w c ew .reads, eq-eqb w width h, wordAt-stop s 9 e)
+        unit-short e = rw (front, readU32-read s 5 w c ew .reads, eq-eqb w width h, readU32-stop s 9 e)
 
-        module _ (n : ℕ) (d : Cursor) (en : wordAt s 9 ≡ Read n d) where
+        module _ (n : ℕ) (d : Cursor) (en : readU32 s 9 ≡ Read n d) where
           pub unit-no : (n ≡ 4 → ⊥) → readHeader last version width s ≡ stop 24
           unfolding readHeader
-          unit-no l = rw (front, wordAt-read s 5 w c ew .reads, eq-eqb w width h, wordAt-read s 9 n d en .reads, ne-eqb n 4 l)
+          unit-no l = rw (front, readU32-read s 5 w c ew .reads, eq-eqb w width h, readU32-read s 9 n d en .reads, ne-eqb n 4 l)
 
           pub header-yes : n ≡ 4 → ReadField 0 0 d ≡ headerField (readHeader last version width s)
           unfolding readHeader
           header-yes l =
-              let u = wordAt-read s 9 n d en in
+              let u = readU32-read s 9 n d en in
               ap (λ (at : ℕ). ReadField 0 0 (cursor at)) (u .past)
-              ∙ rw (front, wordAt-read s 5 w c ew .reads, eq-eqb w width h, u .reads, eq-eqb n 4 l)
+              ∙ rw (front, readU32-read s 5 w c ew .reads, eq-eqb w width h, u .reads, eq-eqb n 4 l)

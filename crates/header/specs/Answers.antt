@@ -4,7 +4,7 @@ use mathlib.Core.Path.{_≡_}
 use mathlib.Core.List.{List}
 use lib.ListN.{drop}
 use Rattle.narg.specs.Reader.{Got, got, stop, number}
-use Rattle.narg.specs.Cursor.{cursor, wordAt}
+use Rattle.narg.specs.Cursor.{cursor, readU32}
 use Rattle.narg.specs.declared.Word.{Word}
 use Rattle.reader.specs.At.{partAt}
 use Rattle.header.specs.Read.{readMagic, readHeader}
@@ -30,5 +30,5 @@ ToldMagic last version magic mark k =
 -- then the width and the unit length
 abbrev pub ToldHeader : (last version width : ℕ) (magic mark : List ℕ) (w unit : Word) → Field → Type 0
 ToldHeader last version width magic mark w unit r =
-    (s : List ℕ) → magic ≡ partAt s 0 4 → mark ≡ partAt s 4 1 → w ≡ wordAt s 5 → unit ≡ wordAt s 9
+    (s : List ℕ) → magic ≡ partAt s 0 4 → mark ≡ partAt s 4 1 → w ≡ readU32 s 5 → unit ≡ readU32 s 9
     → r ≡ headerField (readHeader last version width s)

@@ -9,10 +9,10 @@ use mathlib.Core.List.{List, [], _∷_, _++_}
 use native.Mathlib.Omega.{arith}
 use borrow.Author.Tests.{lt-ltb, le-ltb, ltb-true, le-leb, lt-leb, leb-true}
 use lib.Dec.{ltb, leb}
-use lib.ListN.{length, take, drop, getD, length-append, take-append-drop, length-drop}
+use lib.ListN.{length, take, drop, length-append, take-append-drop, length-drop}
 use lib.Seq.{take-append-seam, drop-append-seam, drop-drop, getD-append-add, length-take-le}
 use Rattle.limits.specs.Questions.{pick}
-use Rattle.narg.specs.Bytes.{wordEnd, IsBytes, u32Bytes, word4}
+use Rattle.narg.specs.Bytes.{wordEnd, IsBytes, u32Bytes, word4, wordIn}
 use Rattle.narg.specs.Reader.{Got, got, stop, onGot, _>>_, give, need, word, part, below}
 
 -- a refusal is no value
@@ -69,7 +69,7 @@ word-short (a ∷ b ∷ []) h = refl
 word-short (a ∷ b ∷ c ∷ []) h = refl
 word-short (a ∷ b ∷ c ∷ d ∷ rest) h = absurd (omega arith)
 
-pub word-long : (bs : List ℕ) → 4 ≤ length bs → word bs ≡ got (word4 (getD bs 0 0) (getD bs 1 0) (getD bs 2 0) (getD bs 3 0)) (drop 4 bs)
+pub word-long : (bs : List ℕ) → 4 ≤ length bs → word bs ≡ got (wordIn bs 0) (drop 4 bs)
 unfolding word
 word-long [] h = absurd (omega arith)
 word-long (a ∷ []) h = absurd (omega arith)

@@ -7,12 +7,12 @@ use mathlib.Core.List.{List, _∷_}
 use native.Mathlib.Omega.{arith}
 use borrow.Author.Tests.{ltb-true, ltb-false, le-leb, lt-leb, leb-true}
 use lib.Dec.{ltb, leb}
-use lib.ListN.{length, drop, getD, length-drop}
+use lib.ListN.{length, drop, length-drop}
 use Rattle.limits.specs.Questions.{pick}
 use Rattle.words.specs.Store.{putWords}
-use Rattle.narg.specs.Bytes.{word4}
+use Rattle.narg.specs.Bytes.{wordIn}
 use Rattle.narg.specs.Reader.{Got, got, stop, onGot, _>>_, give, need, word, below, times}
-use Rattle.narg.specs.Cursor.{cursor, item, itemOf, storeOf, wordsAt, wordsOut}
+use Rattle.narg.specs.Cursor.{cursor, item, itemOf, storeOf, readWords, readWordsOut}
 use Rattle.narg.specs.declared.Cursor.{Cursor}
 use Rattle.narg.specs.declared.Item.{Item}
 use Rattle.narg.specs.declared.Item.the-variants.{Read as ReadItem, Refused}
@@ -88,8 +88,7 @@ module _ (s : List ℕ) (at n bound k i : ℕ) where
     pub ask-done : says ≡ true → i ≡ n → ReadItem (cursor (at + 4 * i)) ≡ itemOf (at + 4 * n) (times (below bound k) n (drop at s))
     ask-done f h = sym (asked-done h) ∙ (rw f at e) ∙ asked-all
 
-    pub ask-more : (v : ℕ) → i < n → at + 4 * i + 4 ≤ length s
-        → v ≡ word4 (getD s (at + 4 * i) 0) (getD s (at + 4 * i + 1) 0) (getD s (at + 4 * i + 2) 0) (getD s (at + 4 * i + 3) 0)
+    pub ask-more : (v : ℕ) → i < n → at + 4 * i + 4 ≤ length s → v ≡ wordIn s (at + 4 * i)
         → pick (says && ltb v bound) (askedFrom s at n bound k (i + 1)) (Refused k) ≡ askedFrom s at n bound k 0
     ask-more v h l f =
         let w = word-at s (at + 4 * i) l ∙ ap (λ (x : ℕ). got x (drop (at + 4 * i + 4) s)) (sym f) in
@@ -145,23 +144,23 @@ module _ (s : List ℕ) (at : ℕ) (out : List ℕ) (place n bound k : ℕ) wher
 
   -- the ends of reading an item, by the answer to its words' questions
   module _ (asked : Item) (e : asked ≡ itemOf (at + 4 * n) (times (below bound k) n (drop at s))) where
-    pub words-refused : (j : ℕ) → asked ≡ Refused j → (asked ≡ wordsAt s at out place n bound k) × (out ≡ wordsOut s at out place n bound k)
-    unfolding wordsAt wordsOut
+    pub words-refused : (j : ℕ) → asked ≡ Refused j → (asked ≡ readWords s at out place n bound k) × (out ≡ readWordsOut s at out place n bound k)
+    unfolding readWords readWordsOut
     words-refused j r = let f = item-stop (length out) j (words-stop j (sym e ∙ r)) in (rw f r, rw f)
 
     module _ (next : Cursor) (r : asked ≡ ReadItem next) where
       pub words-fit : 4 * n ≤ length s - at
       words-fit = words-got next (sym e ∙ r) .fits
 
-      pub words-full : length out < place + n → (Refused 10 ≡ wordsAt s at out place n bound k) × (out ≡ wordsOut s at out place n bound k)
-      unfolding wordsAt wordsOut
+      pub words-full : length out < place + n → (Refused 10 ≡ readWords s at out place n bound k) × (out ≡ readWordsOut s at out place n bound k)
+      unfolding readWords readWordsOut
       words-full h =
           let g = words-got next (sym e ∙ r) in
           let f = item-full (length out) (g .ws) (drop (at + 4 * n) s) (g .reads) h in (rw f, rw f)
 
       pub words-read : (last : List ℕ) → place + n ≤ length out → last ≡ storeOf place out (times word n (drop at s))
-          → (asked ≡ wordsAt s at out place n bound k) × (last ≡ wordsOut s at out place n bound k)
-      unfolding wordsAt wordsOut
+          → (asked ≡ readWords s at out place n bound k) × (last ≡ readWordsOut s at out place n bound k)
+      unfolding readWords readWordsOut
       words-read last h l =
           let g = words-got next (sym e ∙ r) in
           let f = item-got (length out) (g .ws) (drop (at + 4 * n) s) (g .reads) h in
@@ -176,11 +175,11 @@ module _ (s : List ℕ) (at : ℕ) (out : List ℕ) (place n bound k : ℕ) wher
     pub fits : 4 * n ≤ length s - at
     pub room : place + n ≤ length out
     pub past : next .at ≡ at + 4 * n
-    pub stored : wordsOut s at out place n bound k ≡ putWords place ws out
+    pub stored : readWordsOut s at out place n bound k ≡ putWords place ws out
 
-  pub wordsAt-read : (next : Cursor) → wordsAt s at out place n bound k ≡ ReadItem next → WordsRead next
-  unfolding wordsAt wordsOut item
-  wordsAt-read next e = go (times (below bound k) n (drop at s)) refl e
+  pub readWords-read : (next : Cursor) → readWords s at out place n bound k ≡ ReadItem next → WordsRead next
+  unfolding readWords readWordsOut item
+  readWords-read next e = go (times (below bound k) n (drop at s)) refl e
     where
       asked : (ws r : List ℕ) (b : Bool) → leb (place + n) (length out) ≡ b → times (below bound k) n (drop at s) ≡ got ws r
           → itemOf (at + 4 * n) (onGot (need 10 b r) (λ u. give ws)) ≡ ReadItem next → WordsRead next
@@ -196,10 +195,10 @@ module _ (s : List ℕ) (at : ℕ) (out : List ℕ) (place n bound k : ℕ) wher
       go (got ws r) w f = asked ws r (leb (place + n) (length out)) refl w f
       go (stop j) w f = absurd (never next j (sym f))
 
-  pub wordsAt-refused : (j : ℕ) → wordsAt s at out place n bound k ≡ Refused j
-      → (item bound k n place (length out) (drop at s) ≡ stop j) × (wordsOut s at out place n bound k ≡ out)
-  unfolding wordsAt wordsOut
-  wordsAt-refused j e = go (item bound k n place (length out) (drop at s)) refl e
+  pub readWords-refused : (j : ℕ) → readWords s at out place n bound k ≡ Refused j
+      → (item bound k n place (length out) (drop at s) ≡ stop j) × (readWordsOut s at out place n bound k ≡ out)
+  unfolding readWords readWordsOut
+  readWords-refused j e = go (item bound k n place (length out) (drop at s)) refl e
     where
       go : (g : Got (List ℕ)) → item bound k n place (length out) (drop at s) ≡ g → itemOf (at + 4 * n) g ≡ Refused j
           → (item bound k n place (length out) (drop at s) ≡ stop j) × (storeOf place out g ≡ out)

@@ -10,7 +10,7 @@ use lib.Dec.{ltb}
 use lib.ListN.{length, drop, getD, length-drop}
 use lib.Seq.{drop-drop, getD-drop}
 use Rattle.words.specs.Store.{allBelow, All}
-use Rattle.narg.specs.Bytes.{wordEnd, IsBytes, u32Bytes, word4}
+use Rattle.narg.specs.Bytes.{wordEnd, IsBytes, u32Bytes, wordIn}
 use Rattle.narg.specs.Reader.{Got, got, onGot, give, word, below, times, each}
 use Rattle.narg.proofs.Fields.{length-u32Bytes, word-rest, word-long, below-law, below-back, below-rest, below-got, rest-at}
 use Rattle.narg.proofs.Lists.{length-each, ReadBack, times-law, times-back, times-all, times-rest, times-cons, times-more}
@@ -73,7 +73,7 @@ allBelow-all bound (x ∷ ws) e = go (ltb x bound) refl (λ z. allBelow-all boun
 -- the first n words of the bytes
 abbrev pub wordsOf : ℕ → List ℕ → List ℕ
 wordsOf zero bs = []
-wordsOf (suc n) bs = word4 (getD bs 0 0) (getD bs 1 0) (getD bs 2 0) (getD bs 3 0) ∷ wordsOf n (drop 4 bs)
+wordsOf (suc n) bs = wordIn bs 0 ∷ wordsOf n (drop 4 bs)
 
 pub length-wordsOf : (n : ℕ) (bs : List ℕ) → length (wordsOf n bs) ≡ n
 length-wordsOf zero bs = refl
@@ -86,22 +86,20 @@ times-wordsOf (suc n) bs h =
     let z : 4 + 4 * n ≡ 4 * suc n = omega arith in
     rw (word-long bs (omega arith), times-wordsOf n (drop 4 bs) (omega arith), drop-drop, z)
 
-getD-wordsOf : (n : ℕ) (bs : List ℕ) (i : ℕ) → i < n
-    → getD (wordsOf n bs) i 0 ≡ word4 (getD bs (4 * i) 0) (getD bs (4 * i + 1) 0) (getD bs (4 * i + 2) 0) (getD bs (4 * i + 3) 0)
+-- past the first n bytes
+pub wordIn-drop : (n : ℕ) (bs : List ℕ) (i : ℕ) → wordIn (drop n bs) i ≡ wordIn bs (n + i)
+wordIn-drop n bs i =
+    let e1 : n + (i + 1) ≡ n + i + 1 = omega arith in
+    let e2 : n + (i + 2) ≡ n + i + 2 = omega arith in
+    let e3 : n + (i + 3) ≡ n + i + 3 = omega arith in
+    simp (getD-drop, e1, e2, e3)
+
+getD-wordsOf : (n : ℕ) (bs : List ℕ) (i : ℕ) → i < n → getD (wordsOf n bs) i 0 ≡ wordIn bs (4 * i)
 getD-wordsOf zero bs i h = absurd (omega arith)
 getD-wordsOf (suc n) bs zero h = refl
 getD-wordsOf (suc n) bs (suc i) h =
-    let e0 : 4 + 4 * i ≡ 4 * suc i = omega arith in
-    let e1 : 4 + (4 * i + 1) ≡ 4 * suc i + 1 = omega arith in
-    let e2 : 4 + (4 * i + 2) ≡ 4 * suc i + 2 = omega arith in
-    let e3 : 4 + (4 * i + 3) ≡ 4 * suc i + 3 = omega arith in
-    getD-wordsOf n (drop 4 bs) i (omega arith) ∙ simp (getD-drop, e0, e1, e2, e3)
+    let e : 4 + 4 * i ≡ 4 * suc i = omega arith in
+    getD-wordsOf n (drop 4 bs) i (omega arith) ∙ wordIn-drop 4 bs (4 * i) ∙ ap (wordIn bs) e
 
-pub getD-wordsOf-at : (s : List ℕ) (at n i : ℕ) → i < n
-    → getD (wordsOf n (drop at s)) i 0
-    ≡ word4 (getD s (at + 4 * i) 0) (getD s (at + 4 * i + 1) 0) (getD s (at + 4 * i + 2) 0) (getD s (at + 4 * i + 3) 0)
-getD-wordsOf-at s at n i h =
-    let e1 : at + (4 * i + 1) ≡ at + 4 * i + 1 = omega arith in
-    let e2 : at + (4 * i + 2) ≡ at + 4 * i + 2 = omega arith in
-    let e3 : at + (4 * i + 3) ≡ at + 4 * i + 3 = omega arith in
-    getD-wordsOf n (drop at s) i h ∙ simp (getD-drop, e1, e2, e3)
+pub getD-wordsOf-at : (s : List ℕ) (at n i : ℕ) → i < n → getD (wordsOf n (drop at s)) i 0 ≡ wordIn s (at + 4 * i)
+getD-wordsOf-at s at n i h = getD-wordsOf n (drop at s) i h ∙ wordIn-drop at s (4 * i)

@@ -18,3 +18,7 @@ u32Bytes v = v % 256 ∷ v / 256 % 256 ∷ v / 256 / 256 % 256 ∷ v / 256 / 256
 -- the word of four bytes, the least first
 abbrev pub word4 : ℕ → ℕ → ℕ → ℕ → ℕ
 word4 a b c d = a + 256 * b + 65536 * c + 16777216 * d
+
+-- the word of the four bytes from a place on, where they are there
+abbrev pub wordIn : List ℕ → ℕ → ℕ
+wordIn bytes at = word4 (getD bytes at 0) (getD bytes (at + 1) 0) (getD bytes (at + 2) 0) (getD bytes (at + 3) 0)

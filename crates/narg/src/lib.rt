@@ -6,11 +6,16 @@
 ghost use mathlib.Core.Path.{_≡_};
 ghost use Prim.Native.Nat.{_+_, _*_, _-_, _/_, _≤_, min};
 ghost use lib.ListN.{length, drop};
-ghost use Rattle.limits.specs.Numbers.{prime, maxCount};
 ghost use Rattle.words.specs.Store.{putWords, fitWords};
-ghost use Rattle.narg.specs.Bytes.{u32Bytes, word4};
+ghost use Rattle.narg.specs.Bytes.{u32Bytes, word4, wordIn};
 ghost use Rattle.narg.specs.Reader.{word, below, times, each};
-ghost use Rattle.narg.specs.Cursor.{wordAt, putAt, itemOf, storeOf, wordsAt, wordsOut};
+ghost use Rattle.narg.specs.Cursor.{readU32, putAt, putU32, putU32Out, itemOf, storeOf, readWords, readWordsOut, readUnits, readUnitsOut, readVars, readVarsOut};
+
+// How many bytes a word has.
+const WORD: usize = 4;
+
+// How many values a byte has: what a word's second byte counts by.
+const BYTE: u32 = 256;
 
 // A place in bytes.
 pub struct Cursor {
@@ -39,22 +44,30 @@ pub enum Item {
 fn word4(a: u8, b: u8, c: u8, d: u8) -> u32
     ensures { λ r. ⌜ r ≡ word4 a b c d ⌝ }
 {
-    a as u32 + 256 * (b as u32) + 65536 * (c as u32) + 16777216 * (d as u32)
+    a as u32 + BYTE * (b as u32) + BYTE * BYTE * (c as u32) + BYTE * BYTE * BYTE * (d as u32)
+}
+
+// The word at a place, where the bytes hold it.
+fn word_in(bytes: &[u8], at: usize) -> u32
+    requires { ⌜ at + 4 ≤ length (now bytes) ⌝ }
+    ensures { λ r. ⌜ r ≡ wordIn (now (bytes .entry)) at ⌝ }
+{
+    word4(bytes[at], bytes[at + 1], bytes[at + 2], bytes[at + 3])
 }
 
 // The word at the cursor; Short where the bytes end before it.
 pub fn read_u32(bytes: &[u8], c: Cursor) -> Word
-    ensures { λ r. ⌜ r ≡ wordAt (now (bytes .entry)) (c .at) ⌝ }
+    ensures { λ r. ⌜ r ≡ readU32 (now (bytes .entry)) (c .at) ⌝ }
 {
     let at = c.at;
     if bytes.len() < at {
         return Word::Short;
     }
-    if bytes.len() - at < 4 {
+    if bytes.len() - at < WORD {
         return Word::Short;
     }
-    let v = word4(bytes[at], bytes[at + 1], bytes[at + 2], bytes[at + 3]);
-    Word::Read(v, Cursor { at: at + 4 })
+    let v = word_in(bytes, at);
+    Word::Read(v, Cursor { at: at + WORD })
 }
 
 // The four bytes of a word, where the output holds them.
@@ -62,26 +75,25 @@ fn store_u32(out: &mut [u8], at: usize, value: u32)
     requires { ⌜ at + 4 ≤ length (now out) ⌝ }
     ensures { λ _. ⌜ now (out .exit) ≡ putWords at (u32Bytes value) (now (out .entry)) ⌝ }
 {
-    out[at] = (value % 256) as u8;
-    out[at + 1] = (value / 256 % 256) as u8;
-    out[at + 2] = (value / 256 / 256 % 256) as u8;
-    out[at + 3] = (value / 256 / 256 / 256 % 256) as u8;
+    out[at] = (value % BYTE) as u8;
+    out[at + 1] = (value / BYTE % BYTE) as u8;
+    out[at + 2] = (value / BYTE / BYTE % BYTE) as u8;
+    out[at + 3] = (value / BYTE / BYTE / BYTE % BYTE) as u8;
 }
 
 // The word's four bytes at the cursor, or Full.
 pub fn put_u32(out: &mut [u8], c: Cursor, value: u32) -> Put
-    ensures { λ r. ⌜ (r ≡ putAt (now (out .entry)) (c .at) (u32Bytes value))
-        × (now (out .exit) ≡ fitWords (c .at) (u32Bytes value) (now (out .entry))) ⌝ }
+    ensures { λ r. ⌜ (r ≡ putU32 (now (out .entry)) (c .at) value) × (now (out .exit) ≡ putU32Out (now (out .entry)) (c .at) value) ⌝ }
 {
     let at = c.at;
     if out.len() < at {
         return Put::Full;
     }
-    if out.len() - at < 4 {
+    if out.len() - at < WORD {
         return Put::Full;
     }
     store_u32(out, at, value);
-    Put::Written(Cursor { at: at + 4 })
+    Put::Written(Cursor { at: at + WORD })
 }
 
 // The words in order, four bytes each, at the cursor; or Full.
@@ -93,15 +105,15 @@ pub fn put_words(out: &mut [u8], c: Cursor, words: &[u32]) -> Put
     if out.len() < at {
         return Put::Full;
     }
-    if (out.len() - at) / 4 < words.len() {
+    if (out.len() - at) / WORD < words.len() {
         return Put::Full;
     }
     let mut i = 0;
     while i < words.len() {
-        store_u32(out, at + 4 * i, words[i]);
+        store_u32(out, at + WORD * i, words[i]);
         i += 1;
     }
-    Put::Written(Cursor { at: at + 4 * i })
+    Put::Written(Cursor { at: at + WORD * i })
 }
 
 // How many of n words the bytes hold from a place on, when there are len of them.
@@ -111,7 +123,7 @@ fn words_held(len: usize, at: usize, n: usize) -> usize
     if len < at {
         return 0;
     }
-    let whole = (len - at) / 4;
+    let whole = (len - at) / WORD;
     if whole < n { whole } else { n }
 }
 
@@ -126,13 +138,7 @@ fn ask_words(bytes: &[u8], c: Cursor, n: u32, bound: u32, k: u32) -> Item
     let mut below = true;
     let mut i = 0;
     while i < held {
-        let from = at + 4 * i;
-        let v = word4(
-            bytes[from],
-            bytes[from + 1],
-            bytes[from + 2],
-            bytes[from + 3],
-        );
+        let v = word_in(bytes, at + WORD * i);
         below = below & (v < bound);
         i += 1;
     }
@@ -142,7 +148,7 @@ fn ask_words(bytes: &[u8], c: Cursor, n: u32, bound: u32, k: u32) -> Item
     if held < wanted {
         return Item::Refused(20);
     }
-    Item::Read(Cursor { at: at + 4 * i })
+    Item::Read(Cursor { at: at + WORD * i })
 }
 
 // The n words at the place of the store, where the bytes and the store hold them.
@@ -152,13 +158,7 @@ fn store_words(bytes: &[u8], at: usize, out: &mut [u32], place: usize, n: usize)
 {
     let mut i = 0;
     while i < n {
-        let from = at + 4 * i;
-        out[place + i] = word4(
-            bytes[from],
-            bytes[from + 1],
-            bytes[from + 2],
-            bytes[from + 3],
-        );
+        out[place + i] = word_in(bytes, at + WORD * i);
         i += 1;
     }
 }
@@ -174,8 +174,8 @@ pub fn read_words(
     bound: u32,
     k: u32,
 ) -> Item
-    ensures { λ r. ⌜ (r ≡ wordsAt (now (bytes .entry)) (c .at) (now (out .entry)) place n bound k)
-        × (now (out .exit) ≡ wordsOut (now (bytes .entry)) (c .at) (now (out .entry)) place n bound k) ⌝ }
+    ensures { λ r. ⌜ (r ≡ readWords (now (bytes .entry)) (c .at) (now (out .entry)) place n bound k)
+        × (now (out .exit) ≡ readWordsOut (now (bytes .entry)) (c .at) (now (out .entry)) place n bound k) ⌝ }
 {
     let at = c.at;
     let count = n as usize;
@@ -195,16 +195,16 @@ pub fn read_words(
 
 // An item of n units (the source's units of a public, a step, a weight): below p, else 4.
 pub fn read_units(bytes: &[u8], c: Cursor, out: &mut [u32], place: usize, n: u32) -> Item
-    ensures { λ r. ⌜ (r ≡ wordsAt (now (bytes .entry)) (c .at) (now (out .entry)) place n prime 4)
-        × (now (out .exit) ≡ wordsOut (now (bytes .entry)) (c .at) (now (out .entry)) place n prime 4) ⌝ }
+    ensures { λ r. ⌜ (r ≡ readUnits (now (bytes .entry)) (c .at) (now (out .entry)) place n)
+        × (now (out .exit) ≡ readUnitsOut (now (bytes .entry)) (c .at) (now (out .entry)) place n) ⌝ }
 {
     read_words(bytes, c, out, place, n, limits::P, 4)
 }
 
 // An item of n wires (the source's `FieldVar`s): below 2^30, else 3.
 pub fn read_vars(bytes: &[u8], c: Cursor, out: &mut [u32], place: usize, n: u32) -> Item
-    ensures { λ r. ⌜ (r ≡ wordsAt (now (bytes .entry)) (c .at) (now (out .entry)) place n maxCount 3)
-        × (now (out .exit) ≡ wordsOut (now (bytes .entry)) (c .at) (now (out .entry)) place n maxCount 3) ⌝ }
+    ensures { λ r. ⌜ (r ≡ readVars (now (bytes .entry)) (c .at) (now (out .entry)) place n)
+        × (now (out .exit) ≡ readVarsOut (now (bytes .entry)) (c .at) (now (out .entry)) place n) ⌝ }
 {
     read_words(bytes, c, out, place, n, limits::MAX_COUNT, 3)
 }

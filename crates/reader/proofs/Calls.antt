@@ -33,7 +33,7 @@ use denote.Triple.Statement.{Contract, Triple}
 use denote.Triple.Call.{calls-at}
 use denote.Triple.Spec.{tripleOf}
 use denote.Triple.Clauses.{ensured, lasts}
-use Rattle.narg.specs.Cursor.{cursor, wordAt}
+use Rattle.narg.specs.Cursor.{cursor, readU32}
 use Rattle.narg.specs.declared.Cursor.{Cursor}
 use Rattle.narg.specs.declared.Word.{Word}
 use Rattle.narg.proofs.Cursor as P
@@ -118,8 +118,8 @@ module _ {M : Type 1} (𝓤 : URA M) (H : Heap 𝓤) (A : Atoms 𝓤) (mem : Mem
     said-take : (r : NargReader) (n : ℕ) (m : RefT (List ℕ)) → ent 𝓤 (ensured 𝓤 H A take.ended (take.clauses 𝓤 H A mem run) (κ, tt) (r, (n, tt)) tt m) (fact 𝓤 (Taken r n m))
     said-take r n m = exE 𝓤 _ (λ ws. snd∗ 𝓤 (sem 𝓤 H A (lasts take.ended (κ, tt) (r, (n, tt)) ws)) (fact 𝓤 (Taken r n m)))
 
-    said-read : (r : NargReader) (w : Word) → ent 𝓤 (ensured 𝓤 H A read-u32.ended (read-u32.clauses 𝓤 H A mem run) (κ, tt) (r, tt) tt w) (fact 𝓤 (w ≡ wordAt (now (r .bytes)) (r .at .at)))
-    said-read r w = exE 𝓤 _ (λ ws. snd∗ 𝓤 (sem 𝓤 H A (lasts read-u32.ended (κ, tt) (r, tt) ws)) (fact 𝓤 (w ≡ wordAt (now (r .bytes)) (r .at .at))))
+    said-read : (r : NargReader) (w : Word) → ent 𝓤 (ensured 𝓤 H A read-u32.ended (read-u32.clauses 𝓤 H A mem run) (κ, tt) (r, tt) tt w) (fact 𝓤 (w ≡ readU32 (now (r .bytes)) (r .at .at)))
+    said-read r w = exE 𝓤 _ (λ ws. snd∗ 𝓤 (sem 𝓤 H A (lasts read-u32.ended (κ, tt) (r, tt) ws)) (fact 𝓤 (w ≡ readU32 (now (r .bytes)) (r .at .at))))
 
 module _ {M : Type 1} {𝓤 : URA M} {H : Heap 𝓤} {A : Atoms 𝓤} {K : Type 0} {W : Given 𝓤 H A} {Γ : List (Item 𝓤)} {E : Env 𝓤 H} {C : Calls 𝓤 H} {Λ : Loops 𝓤 H} {post : Post 𝓤 H} {d : Place} {rest : Body} {xs : List Operand} {κ : Lft} {q : Share} where
   -- a reader is made at the start of a slice
@@ -172,7 +172,7 @@ module _ {M : Type 1} {𝓤 : URA M} {H : Heap 𝓤} {A : Atoms 𝓤} {K : Type 
     pub reads : K → (mem : Memory → SProp 𝓤) (run : Routine → Fun 𝓤) → FmC 𝓤 H (W .laws) C → Triple 𝓤 (C #reader·read-u32) (Read 𝓤 H A mem run)
         → (r : NargReader) (u : Val) → On r s c
         → Opds K W (raw (Read 𝓤 H A mem run .pre (to-read 𝓤 H A mem run κ q r u)) ∷ ‵ (Own κ r u) ∷ Γ) E xs (u ∷ [])
-        → ((w : Word) (v : Val) → w ≡ wordAt (now s) (c .at) → Is S.the-row w (v ∷ []) → Seq K W (Token 𝓤 κ q ∷ ‵ (Own κ r u) ∷ Γ) (lands C Λ E d v rest post))
+        → ((w : Word) (v : Val) → w ≡ readU32 (now s) (c .at) → Is S.the-row w (v ∷ []) → Seq K W (Token 𝓤 κ q ∷ ‵ (Own κ r u) ∷ Γ) (lands C Λ E d v rest post))
         → Seq K W (‵ (Own κ r u) ∷ Token 𝓤 κ q ∷ Γ) (runs C Λ E (seq (call #reader·read-u32 xs d) rest) post)
     reads t mem run fm known r u on os k =
         use1 W (‵ (Own κ r u) ⊛ ‵ (Own κ r u)) (LL.copy (T.the-type (namedLft 1 0 tt (κ, tt))) (T′.the-copy (namedLft 1 0 tt (κ, tt))) 𝓤 H A W .twice r (u ∷ [])) $ split t $
@@ -180,6 +180,6 @@ module _ {M : Type 1} {𝓤 : URA M} {H : Heap 𝓤} {A : Atoms 𝓤} {K : Type 
         (qed W (Token 𝓤 κ q ∷ ‵ (owns (B κ ∷ []) (r, tt) (u ∷ [], tt)) ∷ []) ∵ join ! $ frame ! $ done !) $
         calls-at t fm (Read 𝓤 H A mem run) known (to-read 𝓤 H A mem run κ q r u) os (λ v.
         use1 W (later (some (λ (w : Word). (Token 𝓤 κ q ⊛ ‵ (S.the-row .own w (v ∷ []))) ⊛ raw (ensured 𝓤 H A read-u32.ended (read-u32.clauses 𝓤 H A mem run) (κ, tt) (r, tt) tt w)))) (id⊢ 𝓤 _) $ await t tt $ pick t (λ w.
-        split t $ move t (1 ∷ []) $ use1 W (raw (fact 𝓤 (w ≡ wordAt (now (r .bytes)) (r .at .at)))) (said-read 𝓤 H A mem run κ r w) $ heard t (w ≡ wordAt (now (r .bytes)) (r .at .at)) (λ e. split t $ move t (1 ∷ []) $
+        split t $ move t (1 ∷ []) $ use1 W (raw (fact 𝓤 (w ≡ readU32 (now (r .bytes)) (r .at .at)))) (said-read 𝓤 H A mem run κ r w) $ heard t (w ≡ readU32 (now (r .bytes)) (r .at .at)) (λ e. split t $ move t (1 ∷ []) $
         facts t S.the-row (Is S.the-row) (shows 𝓤 H A S.the-row) w (v ∷ []) (λ is.
-        k w v (e ∙ (ap (λ (x : RefT (List ℕ)). wordAt (now x) (r .at .at)) (on .0) ∙ ap (λ (x : Cursor). wordAt (now s) (x .at)) (on .1))) is))))
+        k w v (e ∙ (ap (λ (x : RefT (List ℕ)). readU32 (now x) (r .at .at)) (on .0) ∙ ap (λ (x : Cursor). readU32 (now s) (x .at)) (on .1))) is))))

@@ -5,7 +5,7 @@
 // function answers on every input. Those over a reader only take it apart: the work is done on bytes and a cursor.
 
 ghost use mathlib.Core.Path.{_≡_};
-ghost use Rattle.narg.specs.Cursor.{cursor, wordAt};
+ghost use Rattle.narg.specs.Cursor.{cursor, readU32};
 ghost use Rattle.reader.specs.At.{partAt, placeAt};
 use narg::Cursor;
 use narg::Word;
@@ -55,7 +55,7 @@ pub fn moved<'a>(r: NargReader<'a>, at: Cursor) -> NargReader<'a>
 
 // The word at the place; Short where the bytes end before it.
 pub fn read_u32<'a>(r: NargReader<'a>) -> Word
-    ensures { λ w. ⌜ w ≡ wordAt (now (r .entry .bytes)) (r .entry .at .at) ⌝ }
+    ensures { λ w. ⌜ w ≡ readU32 (now (r .entry .bytes)) (r .entry .at .at) ⌝ }
 {
     narg::read_u32(r.bytes, r.at)
 }

@@ -7,12 +7,9 @@
 ghost use mathlib.Core.Path.{_≡_};
 ghost use mathlib.Core.Logic.{_↔_};
 ghost use mathlib.Core.Bool.{true};
-ghost use Rattle.limits.specs.Numbers.{prime, maxCount};
 ghost use Rattle.baby_bear.specs.Field.{addUnit, mulUnit};
 ghost use Rattle.utf8.specs.Utf8.{isUtf8, Utf8};
-ghost use Rattle.words.specs.Store.{fitWords};
-ghost use Rattle.narg.specs.Bytes.{u32Bytes};
-ghost use Rattle.narg.specs.Cursor.{wordAt, putAt, wordsAt, wordsOut};
+ghost use Rattle.narg.specs.Cursor.{readU32, putU32, putU32Out, readUnits, readUnitsOut, readVars, readVarsOut};
 ghost use Rattle.sfr.specs.Leaves.{wordRead, placeWritten, placeRead};
 use baby_bear::BabyBearUnit;
 use narg::Cursor;
@@ -68,7 +65,7 @@ pub extern "C" fn sfr_is_utf8(bytes: &[u8]) -> bool
 // The little-endian word at a place of the bytes.
 #[no_mangle]
 pub extern "C" fn sfr_read_u32(bytes: &[u8], at: usize) -> SfrWord
-    ensures { λ r. ⌜ r ≡ wordRead at (wordAt (now (bytes .entry)) at) ⌝ }
+    ensures { λ r. ⌜ r ≡ wordRead at (readU32 (now (bytes .entry)) at) ⌝ }
 {
     match narg::read_u32(bytes, Cursor { at }) {
         Word::Read(value, c) => SfrWord {
@@ -87,7 +84,7 @@ pub extern "C" fn sfr_read_u32(bytes: &[u8], at: usize) -> SfrWord
 // A word, little-endian, at a place of the output; nothing is written where it does not fit.
 #[no_mangle]
 pub extern "C" fn sfr_put_u32(out: &mut [u8], at: usize, value: u32) -> SfrPlace
-    ensures { λ r. ⌜ (r ≡ placeWritten at (putAt (now (out .entry)) at (u32Bytes value))) × (now (out .exit) ≡ fitWords at (u32Bytes value) (now (out .entry))) ⌝ }
+    ensures { λ r. ⌜ (r ≡ placeWritten at (putU32 (now (out .entry)) at value)) × (now (out .exit) ≡ putU32Out (now (out .entry)) at value) ⌝ }
 {
     match narg::put_u32(out, Cursor { at }, value) {
         Put::Written(c) => SfrPlace {
@@ -126,7 +123,8 @@ pub extern "C" fn sfr_read_units(
     place: usize,
     n: u32,
 ) -> SfrPlace
-    ensures { λ r. ⌜ (r ≡ placeRead at (wordsAt (now (bytes .entry)) at (now (out .entry)) place n prime 4)) × (now (out .exit) ≡ wordsOut (now (bytes .entry)) at (now (out .entry)) place n prime 4) ⌝ }
+    ensures { λ r. ⌜ (r ≡ placeRead at (readUnits (now (bytes .entry)) at (now (out .entry)) place n))
+        × (now (out .exit) ≡ readUnitsOut (now (bytes .entry)) at (now (out .entry)) place n) ⌝ }
 {
     place_read(at, narg::read_units(bytes, Cursor { at }, out, place, n))
 }
@@ -140,7 +138,8 @@ pub extern "C" fn sfr_read_vars(
     place: usize,
     n: u32,
 ) -> SfrPlace
-    ensures { λ r. ⌜ (r ≡ placeRead at (wordsAt (now (bytes .entry)) at (now (out .entry)) place n maxCount 3)) × (now (out .exit) ≡ wordsOut (now (bytes .entry)) at (now (out .entry)) place n maxCount 3) ⌝ }
+    ensures { λ r. ⌜ (r ≡ placeRead at (readVars (now (bytes .entry)) at (now (out .entry)) place n))
+        × (now (out .exit) ≡ readVarsOut (now (bytes .entry)) at (now (out .entry)) place n) ⌝ }
 {
     place_read(at, narg::read_vars(bytes, Cursor { at }, out, place, n))
 }

@@ -29,35 +29,14 @@ words-held-requires c κs = search needs
 loop-holds : tie.Need-loop-holds Inv-loop μ-loop
 loop-holds c = (omega arith, c .words-held .ensures, refl)
 
-mul-from : tie.Need-mul-from Inv-loop μ-loop
-mul-from c = search needs
+mul-word-in : tie.Need-mul-word-in Inv-loop μ-loop
+mul-word-in c = search needs
 
-add-from : tie.Need-add-from Inv-loop μ-loop
-add-from c = search needs
+add-word-in : tie.Need-add-word-in Inv-loop μ-loop
+add-word-in c = search needs
 
-shared-slice-read-word4 : tie.Need-shared-slice-read-word4 Inv-loop μ-loop
-shared-slice-read-word4 c = search needs
-
-add-word4 : tie.Need-add-word4 Inv-loop μ-loop
-add-word4 c = search needs
-
-shared-slice-read-word4-2 : tie.Need-shared-slice-read-word4-2 Inv-loop μ-loop
-shared-slice-read-word4-2 c = search needs
-
-add-word4-2 : tie.Need-add-word4-2 Inv-loop μ-loop
-add-word4-2 c = search needs
-
-shared-slice-read-word4-3 : tie.Need-shared-slice-read-word4-3 Inv-loop μ-loop
-shared-slice-read-word4-3 c = search needs
-
-add-word4-3 : tie.Need-add-word4-3 Inv-loop μ-loop
-add-word4-3 c = search needs
-
-shared-slice-read-word4-4 : tie.Need-shared-slice-read-word4-4 Inv-loop μ-loop
-shared-slice-read-word4-4 c = search needs
-
-word4-requires : tie.Need-word4-requires Inv-loop μ-loop
-word4-requires c κs = search needs
+word-in-requires : tie.Need-word-in-requires Inv-loop μ-loop
+word-in-requires c κs = search needs
 
 add-i : tie.Need-add-i Inv-loop μ-loop
 add-i c = search needs
@@ -67,11 +46,11 @@ loop-less c = search needs
 
 loop-again : tie.Need-loop-again Inv-loop μ-loop
 loop-again c =
-    let l = c .before .before .before .before .before .before .loop in
-    let a = c .before .before .before .before .before .before .before .before .before .args in (
+    let l = c .before .before .loop in
+    let a = c .before .before .before .before .before .args in (
       omega arith,
       l .inv .1,
-      ask-more (now (a .bytes)) (a .c .at) (a .n) (a .bound) (a .k) (l .i) (l .below) (l .inv .2) _ (omega arith) (omega arith) (c .word4 .ensures),
+      ask-more (now (a .bytes)) (a .c .at) (a .n) (a .bound) (a .k) (l .i) (l .below) (l .inv .2) _ (omega arith) (omega arith) (c .word-in .ensures),
     )
 
 returns : tie.Need-returns Inv-loop μ-loop
@@ -86,11 +65,11 @@ returns-2 c =
     let a = c .before .before .before .before .before .before .args in
     ask-short (now (a .bytes)) (a .c .at) (a .n) (a .bound) (a .k) (l .i) (l .below) (l .inv .2) (not-false _ (c .before .if1 .left)) (omega arith) (omega arith)
 
-mul-t13 : tie.Need-mul-t13 Inv-loop μ-loop
-mul-t13 c = search needs
+mul-t12 : tie.Need-mul-t12 Inv-loop μ-loop
+mul-t12 c = search needs
 
-add-t27 : tie.Need-add-t27 Inv-loop μ-loop
-add-t27 c = search needs
+add-t17 : tie.Need-add-t17 Inv-loop μ-loop
+add-t17 c = search needs
 
 returns-3 : tie.Need-returns-3 Inv-loop μ-loop
 returns-3 c =
@@ -106,21 +85,14 @@ ask-words-spec =
     μ-loop
     words-held-requires
     loop-holds
-    mul-from
-    add-from
-    shared-slice-read-word4
-    add-word4
-    shared-slice-read-word4-2
-    add-word4-2
-    shared-slice-read-word4-3
-    add-word4-3
-    shared-slice-read-word4-4
-    word4-requires
+    mul-word-in
+    add-word-in
+    word-in-requires
     add-i
     loop-less
     loop-again
     returns
     returns-2
-    mul-t13
-    add-t27
+    mul-t12
+    add-t17
     returns-3)

@@ -26,35 +26,14 @@ loop-holds c =
     let a = c .before .before .args in
     (paste-zero (now (a .out)) (a .place) (wordsOf (a .n) (drop (a .at) (now (a .bytes)))), omega arith, refl)
 
-mul-from : tie.Need-mul-from Inv-loop μ-loop
-mul-from c = search needs
+mul-word-in : tie.Need-mul-word-in Inv-loop μ-loop
+mul-word-in c = search needs
 
-add-from : tie.Need-add-from Inv-loop μ-loop
-add-from c = search needs
+add-word-in : tie.Need-add-word-in Inv-loop μ-loop
+add-word-in c = search needs
 
-shared-slice-read-word4 : tie.Need-shared-slice-read-word4 Inv-loop μ-loop
-shared-slice-read-word4 c = search needs
-
-add-word4 : tie.Need-add-word4 Inv-loop μ-loop
-add-word4 c = search needs
-
-shared-slice-read-word4-2 : tie.Need-shared-slice-read-word4-2 Inv-loop μ-loop
-shared-slice-read-word4-2 c = search needs
-
-add-word4-2 : tie.Need-add-word4-2 Inv-loop μ-loop
-add-word4-2 c = search needs
-
-shared-slice-read-word4-3 : tie.Need-shared-slice-read-word4-3 Inv-loop μ-loop
-shared-slice-read-word4-3 c = search needs
-
-add-word4-3 : tie.Need-add-word4-3 Inv-loop μ-loop
-add-word4-3 c = search needs
-
-shared-slice-read-word4-4 : tie.Need-shared-slice-read-word4-4 Inv-loop μ-loop
-shared-slice-read-word4-4 c = search needs
-
-word4-requires : tie.Need-word4-requires Inv-loop μ-loop
-word4-requires c κs = search needs
+word-in-requires : tie.Need-word-in-requires Inv-loop μ-loop
+word-in-requires c κs = search needs
 
 add-out : tie.Need-add-out Inv-loop μ-loop
 add-out c = search needs
@@ -73,13 +52,12 @@ loop-less c = search needs
 
 loop-again : tie.Need-loop-again Inv-loop μ-loop
 loop-again c =
-    let t = c .before .before .before .before .before in
-    let l = t .before .loop in
-    let a = t .before .before .before .before .args in
+    let l = c .before .before .loop in
+    let a = c .before .before .before .before .before .args in
     let d = now (a .out) in
     let ws = wordsOf (a .n) (drop (a .at) (now (a .bytes))) in
     let n = length-wordsOf (a .n) (drop (a .at) (now (a .bytes))) in
-    let v = c .word4 .ensures ∙ sym (getD-wordsOf-at (now (a .bytes)) (a .at) (a .n) (l .i) (t .loop-test .taken)) in (
+    let v = c .word-in .ensures ∙ sym (getD-wordsOf-at (now (a .bytes)) (a .at) (a .n) (l .i) (c .before .loop-test .taken)) in (
       ap (λ (x : ℕ). set (l .out) (a .place + l .i) x) v
           ∙ ap (λ (s : List ℕ). set s (a .place + l .i) (getD ws (l .i) 0)) (l .inv .0)
           ∙ rw add-one (paste-suc d (a .place) ws (l .i) 0 (omega arith) (omega arith)),
@@ -111,16 +89,9 @@ store-words-spec =
     Inv-loop
     μ-loop
     loop-holds
-    mul-from
-    add-from
-    shared-slice-read-word4
-    add-word4
-    shared-slice-read-word4-2
-    add-word4-2
-    shared-slice-read-word4-3
-    add-word4-3
-    shared-slice-read-word4-4
-    word4-requires
+    mul-word-in
+    add-word-in
+    word-in-requires
     add-out
     mul-out
     slice-write-out

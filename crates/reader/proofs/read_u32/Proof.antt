@@ -41,7 +41,7 @@ use denote.Triple.Table.{entered, cited}
 use denote.Triple.Walked.{says, Stays, stay-none, walkOf, goes-none, Walks, ends-at, walked, walk-meets}
 use denote.Exit.{yes}
 use denote.Triple.Clauses.{ensured, lasts}
-use Rattle.narg.specs.Cursor.{wordAt}
+use Rattle.narg.specs.Cursor.{readU32}
 use Rattle.reader.specs.declared.NargReader.{NargReader}
 use Rattle.narg.specs.declared.Word.{Word}
 use Rattle.reader.proofs.NargReader as T
@@ -80,7 +80,7 @@ module _ {M : Type 1} (𝓤 : URA M) (H : Heap 𝓤) (A : Atoms 𝓤) (W : Given
   v = sliceVal (d .bytes .ptr) (length (d .bytes .now))
 
   abbrev found : Word
-  found = wordAt (now (d .bytes)) (d .at .at)
+  found = readU32 (now (d .bytes)) (d .at .at)
 
   abbrev Post : Val → SProp 𝓤
   Post = walkOf 𝓤 H A read-u32.ended stayed (read-u32.clauses 𝓤 H A mem run) .post (((κ, tt), (q, tt), tt, (d, tt), (mach ∷ [], tt)), tt)

@@ -2,7 +2,7 @@
 -- Assumes nothing.
 use mathlib.Core.Path.{refl, sym, _∙_}
 use Rattle.narg.proofs.Fields.{below-short, below-not, below-yes}
-use Rattle.narg.proofs.At.{wordAt-stop, word-next}
+use Rattle.narg.proofs.At.{readU32-stop, word-next}
 use Rattle.decoding.proofs.Told.{tell-stop, tell-got}
 use native.Mathlib.Omega.{arith}
 use borrow.Author.Needs.{needs}
@@ -19,7 +19,7 @@ enum-told : tie.Need-enum-told
 enum-told c = search needs
 
 returns : tie.Need-returns
-returns c = tell-stop _ _ _ _ (below-short _ _ _ (wordAt-stop _ _ (sym (c .before .before .read-u32 .ensures) ∙ c .enum-told .given .1)))
+returns c = tell-stop _ _ _ _ (below-short _ _ _ (readU32-stop _ _ (sym (c .before .before .read-u32 .ensures) ∙ c .enum-told .given .1)))
 
 returns-2 : tie.Need-returns-2
 returns-2 c =
