@@ -18,7 +18,7 @@ use crate::items::read_equations;
 use crate::items::read_pairs;
 use crate::items::read_pieces;
 use header::Field;
-use header::number;
+use header::field_number;
 use instance::PermutationInstance;
 use limits::MAX_COUNT;
 use narg::Cursor;
@@ -99,15 +99,15 @@ pub(crate) fn read_parts(
     };
     let pairs = read_publics(bytes, first, publics);
     let Field::Read(p, _, second) = pairs else {
-        return FileRead::Refused(number(pairs));
+        return FileRead::Refused(field_number(pairs));
     };
     let pieces = read_queries(bytes, second, width, queries);
     let Field::Read(q, _, third) = pieces else {
-        return FileRead::Refused(number(pieces));
+        return FileRead::Refused(field_number(pieces));
     };
     let linear = read_linear(bytes, third, equations);
     let Field::Read(m, words, next) = linear else {
-        return FileRead::Refused(number(linear));
+        return FileRead::Refused(field_number(linear));
     };
     let ins = PermutationInstance {
         width,

@@ -17,7 +17,7 @@ use crate::parts::read_label;
 use crate::parts::read_parts;
 use header::Field;
 use header::VERSION;
-use header::number;
+use header::field_number;
 use header::read_header;
 use instance::PermutationInstance;
 use limits::Outcome;
@@ -37,11 +37,11 @@ fn read_file(
 {
     let header = read_header(bytes, b'I', VERSION, width);
     let Field::Read(_, _, c) = header else {
-        return FileRead::Refused(number(header));
+        return FileRead::Refused(field_number(header));
     };
     let label = read_label(bytes, c);
     let Field::Read(len, _, after) = label else {
-        return FileRead::Refused(number(label));
+        return FileRead::Refused(field_number(label));
     };
     let parts = read_parts(bytes, after, width, len, publics, queries, equations);
     let FileRead::Read(ins, _, _) = parts else {

@@ -13,7 +13,7 @@ use crate::WitnessRead;
 use crate::items::read_pieces;
 use header::Field;
 use header::VERSION;
-use header::number;
+use header::field_number;
 use header::read_header;
 use limits::Outcome;
 use narg::Cursor;
@@ -70,7 +70,7 @@ pub fn witness_from_bytes(width: u32, bytes: &[u8], trace: &mut [u32]) -> Witnes
     let Field::Read(steps, _, _) = read else {
         words::fill(trace, 0);
         return WitnessRead {
-            outcome: Outcome::Refused(number(read)),
+            outcome: Outcome::Refused(field_number(read)),
             steps: 0,
         };
     };

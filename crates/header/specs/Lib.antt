@@ -1,3 +1,4 @@
 pub mod Form
 pub mod Read
 pub mod Answers
+pub mod Told

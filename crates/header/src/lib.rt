@@ -2,19 +2,31 @@
 //
 //   "SFRI" or "SFRW" u8:1 u32:width u32:4
 //
-// The version is here for what writes (crate `encoding`) and what reads (crate `decoding`), and so is what a
+// Its numbers are here for what writes (crate `encoding`) and what reads (crate `decoding`), and so is what a
 // reader of a field answers. Every open function answers on every input.
 
 ghost use mathlib.Core.Path.{_≡_};
-ghost use mathlib.Core.Bool.{_&&_};
-ghost use lib.Dec.{eqb};
 ghost use Rattle.header.specs.Read.{readHeader};
-ghost use Rattle.header.specs.Answers.{numberOf, headerField, ToldMagic, ToldHeader};
+ghost use Rattle.header.specs.Form.{isMagic};
+ghost use Rattle.header.specs.Answers.{fieldNumber, headerField};
+ghost use Rattle.header.specs.Told.{ToldMagic, ToldHeader};
 use narg::Cursor;
 use narg::Word;
 
 // The version that is written and read.
 pub const VERSION: u8 = 1;
+
+// How many bytes a unit has.
+pub const UNIT_LENGTH: u32 = 4;
+
+// Where the version stands, behind the magic; the width; the unit length; and where the header ends.
+pub const VERSION_AT: usize = 4;
+
+pub const WIDTH_AT: usize = 5;
+
+pub const UNIT_LENGTH_AT: usize = 9;
+
+pub const HEADER_LENGTH: usize = 13;
 
 // What a reader of a field or a part answers: two numbers (a count and how many words the part takes in its store; a
 // wire and a unit; a length or a word, and 0), and the cursor past it; or the number of the question that said no.
@@ -24,8 +36,8 @@ pub enum Field {
 }
 
 // The number of a refusal, or 0.
-pub fn number(field: Field) -> u32
-    ensures { λ r. ⌜ r ≡ numberOf field ⌝ }
+pub fn field_number(field: Field) -> u32
+    ensures { λ r. ⌜ r ≡ fieldNumber field ⌝ }
 {
     match field {
         Field::Read(_, _, _) => 0,
@@ -35,15 +47,15 @@ pub fn number(field: Field) -> u32
 
 // Are four bytes the magic with that last letter?
 fn is_magic(a: u8, b: u8, c: u8, d: u8, last: u8) -> bool
-    ensures { λ r. ⌜ r ≡ (eqb a 83 && (eqb b 70 && (eqb c 82 && eqb d last))) ⌝ }
+    ensures { λ r. ⌜ r ≡ isMagic a b c d last ⌝ }
 {
-    if a != 83 {
+    if a != b'S' {
         return false;
     }
-    if b != 70 {
+    if b != b'F' {
         return false;
     }
-    if c != 82 {
+    if c != b'R' {
         return false;
     }
     d == last
@@ -53,7 +65,7 @@ fn is_magic(a: u8, b: u8, c: u8, d: u8, last: u8) -> bool
 fn magic_no(magic: &[u8], mark: &[u8], last: u8, version: u8) -> u32
     ensures { λ r. ⌜ ToldMagic last version (now (magic .entry)) (now (mark .entry)) r ⌝ }
 {
-    if magic.len() < 4 {
+    if magic.len() < VERSION_AT {
         return 20;
     }
     if !is_magic(magic[0], magic[1], magic[2], magic[3], last) {
@@ -93,7 +105,7 @@ fn header_answer<'a>(
     let Word::Read(len, next) = unit else {
         return Field::Refused(20);
     };
-    if len != 4 {
+    if len != UNIT_LENGTH {
         return Field::Refused(24);
     }
     Field::Read(0, 0, next)
@@ -105,9 +117,9 @@ pub fn read_header(bytes: &[u8], last: u8, version: u8, width: u32) -> Field
     ensures { λ r. ⌜ r ≡ headerField (readHeader last version width (now (bytes .entry))) ⌝ }
 {
     let start = reader::new(bytes);
-    let magic = reader::take(start, 4);
-    let mark = reader::take(reader::moved(start, Cursor { at: 4 }), 1);
-    let w = reader::read_u32(reader::moved(start, Cursor { at: 5 }));
-    let unit = reader::read_u32(reader::moved(start, Cursor { at: 9 }));
+    let magic = reader::take(start, VERSION_AT);
+    let mark = reader::take(reader::moved(start, Cursor { at: VERSION_AT }), 1);
+    let w = reader::read_u32(reader::moved(start, Cursor { at: WIDTH_AT }));
+    let unit = reader::read_u32(reader::moved(start, Cursor { at: UNIT_LENGTH_AT }));
     header_answer(magic, mark, w, unit, last, version, width)
 }

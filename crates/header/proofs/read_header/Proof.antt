@@ -60,7 +60,8 @@ use Rattle.reader.proofs.read_u32.Symbol as read-def
 use Rattle.reader.proofs.read_u32.Symbol.{name as #reader·read-u32}
 use Rattle.reader.proofs.read_u32.Met as read-thm
 use Rattle.header.specs.Read.{readHeader}
-use Rattle.header.specs.Answers.{headerField, ToldHeader}
+use Rattle.header.specs.Answers.{headerField}
+use Rattle.header.specs.Told.{ToldHeader}
 use Rattle.header.specs.declared.Field.{Field}
 use Rattle.header.proofs.Field as F
 use Rattle.header.proofs.Field.Laws as F′

@@ -2,7 +2,7 @@
 -- Assumes nothing.
 use Prim.Native.Nat.{_-_}
 use mathlib.Core.Path.{refl, sym, ap, _∙_}
-use Rattle.header.specs.Answers.{numberOf}
+use Rattle.header.specs.Answers.{fieldNumber}
 use Rattle.decoding.proofs.Files.{parts-short, publics-stop, queries-stop, equations-stop, parts-given, tell-parts-stop, tell-parts}
 use Rattle.decoding.proofs.Told.{listed-stop, listed-got}
 use borrow.Author.Needs.{needs}
@@ -30,8 +30,8 @@ enum-known-pairs c = search needs
 enum-told-2 : tie.Need-enum-told-2
 enum-told-2 c = search needs
 
-number-requires : tie.Need-number-requires
-number-requires c κs = search needs
+field-number-requires : tie.Need-field-number-requires
+field-number-requires c κs = search needs
 
 same-length : tie.Need-same-length
 same-length c = search needs
@@ -40,7 +40,7 @@ returns-2 : tie.Need-returns-2
 returns-2 c =
     let e = c .before .enum-told2 .given .1 in
     let n = c .before .before .before .before .before .before .before .before in
-    tell-parts-stop _ _ _ _ _ _ _ _ _ _ _ _ (c .number .ensures ∙ ap numberOf e)
+    tell-parts-stop _ _ _ _ _ _ _ _ _ _ _ _ (c .field-number .ensures ∙ ap fieldNumber e)
     (publics-stop _ _ _ _ _ _ _ _ (sym (n .before .before .read-u32 .ensures) ∙ n .vars .given .1) _ (listed-stop _ _ _ _ _ _ _ e (c .before .before .before .before .before .read-publics .ensures)))
 
 read-queries-requires : tie.Need-read-queries-requires
@@ -52,8 +52,8 @@ enum-known-pieces c = search needs
 enum-told-3 : tie.Need-enum-told-3
 enum-told-3 c = search needs
 
-number-requires-2 : tie.Need-number-requires-2
-number-requires-2 c κs = search needs
+field-number-requires-2 : tie.Need-field-number-requires-2
+field-number-requires-2 c κs = search needs
 
 same-length-2 : tie.Need-same-length-2
 same-length-2 c = search needs
@@ -66,7 +66,7 @@ returns-3 c =
     let e = c .before .enum-told3 .given .1 in
     let n = c .before .before .before .before .before .before .before .before .before .before .before .before .before .before .before in
     let lp = listed-got _ _ _ _ _ _ _ _ _ (c .before .before .before .before .before .before .before .before .pairs .given .1) (c .before .before .before .before .before .before .before .before .before .before .before .before .read-publics .ensures) in
-    tell-parts-stop _ _ _ _ _ _ _ _ _ _ _ _ (c .number2 .ensures ∙ ap numberOf e)
+    tell-parts-stop _ _ _ _ _ _ _ _ _ _ _ _ (c .field-number2 .ensures ∙ ap fieldNumber e)
     (queries-stop _ _ _ _ _ _ _ _ (sym (n .before .before .read-u32 .ensures) ∙ n .vars .given .1) _ _ (lp .reads) _ (listed-stop _ _ _ _ _ _ _ e (c .before .before .before .before .before .read-queries .ensures)))
 
 read-linear-requires : tie.Need-read-linear-requires
@@ -78,8 +78,8 @@ enum-known-linear c = search needs
 enum-told-4 : tie.Need-enum-told-4
 enum-told-4 c = search needs
 
-number-requires-3 : tie.Need-number-requires-3
-number-requires-3 c κs = search needs
+field-number-requires-3 : tie.Need-field-number-requires-3
+field-number-requires-3 c κs = search needs
 
 same-length-4 : tie.Need-same-length-4
 same-length-4 c = search needs
@@ -96,7 +96,7 @@ returns-4 c =
     let n = c .before .before .before .before .before .before .before .before .before .before .before .before .before .before .before .before .before .before .before .before .before .before in
     let lp = listed-got _ _ _ _ _ _ _ _ _ (c .before .before .before .before .before .before .before .before .before .before .before .before .before .before .before .pairs .given .1) (c .before .before .before .before .before .before .before .before .before .before .before .before .before .before .before .before .before .before .before .read-publics .ensures) in
     let lq = listed-got _ _ _ _ _ _ _ _ _ (c .before .before .before .before .before .before .before .before .pieces .given .1) (c .before .before .before .before .before .before .before .before .before .before .before .before .read-queries .ensures) in
-    tell-parts-stop _ _ _ _ _ _ _ _ _ _ _ _ (c .number3 .ensures ∙ ap numberOf e)
+    tell-parts-stop _ _ _ _ _ _ _ _ _ _ _ _ (c .field-number3 .ensures ∙ ap fieldNumber e)
     (equations-stop _ _ _ _ _ _ _ _ (sym (n .before .before .read-u32 .ensures) ∙ n .vars .given .1) _ _ (lp .reads) _ _ (lq .reads) _
     (listed-stop _ _ _ _ _ _ _ e (c .before .before .before .before .before .read-linear .ensures)))
 
@@ -129,20 +129,20 @@ read-parts-spec =
     read-publics-requires
     enum-known-pairs
     enum-told-2
-    number-requires
+    field-number-requires
     same-length
     returns-2
     read-queries-requires
     enum-known-pieces
     enum-told-3
-    number-requires-2
+    field-number-requires-2
     same-length-2
     same-length-3
     returns-3
     read-linear-requires
     enum-known-linear
     enum-told-4
-    number-requires-3
+    field-number-requires-3
     same-length-4
     same-length-5
     same-length-6

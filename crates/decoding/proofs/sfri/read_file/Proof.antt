@@ -4,7 +4,7 @@ use Prim.Native.Nat.{_-_}
 use mathlib.Core.Path.{refl, ap, _∙_}
 use native.Mathlib.Omega.{arith}
 use borrow.Author.Tests.{not-true, not-false}
-use Rattle.header.specs.Answers.{numberOf}
+use Rattle.header.specs.Answers.{fieldNumber}
 use Rattle.header.proofs.Got.{field-stop, field-got}
 use Rattle.decoding.proofs.Files.{header-refused, label-refused, parts-refused, parts-told-stop, parts-told, pairs-fit, unordered, file-given, tell-file-stop, tell-file-on, tell-file}
 use Rattle.decoding.proofs.Told.{told-stop, told-got}
@@ -21,13 +21,13 @@ enum-known-header c = search needs
 enum-told : tie.Need-enum-told
 enum-told c = search needs
 
-number-requires : tie.Need-number-requires
-number-requires c κs = search needs
+field-number-requires : tie.Need-field-number-requires
+field-number-requires c κs = search needs
 
 returns : tie.Need-returns
 returns c =
     let e = c .before .enum-told .given .1 in
-    tell-file-stop _ _ _ _ _ _ _ _ _ _ _ (c .number .ensures ∙ ap numberOf e) (header-refused _ _ _ _ _ _ (field-stop _ _ _ _ _ (c .before .before .before .read-header .ensures) _ e))
+    tell-file-stop _ _ _ _ _ _ _ _ _ _ _ (c .field-number .ensures ∙ ap fieldNumber e) (header-refused _ _ _ _ _ _ (field-stop _ _ _ _ _ (c .before .before .before .read-header .ensures) _ e))
 
 read-label-requires : tie.Need-read-label-requires
 read-label-requires c κs = search needs
@@ -38,14 +38,14 @@ enum-known-label c = search needs
 enum-told-2 : tie.Need-enum-told-2
 enum-told-2 c = search needs
 
-number-requires-2 : tie.Need-number-requires-2
-number-requires-2 c κs = search needs
+field-number-requires-2 : tie.Need-field-number-requires-2
+field-number-requires-2 c κs = search needs
 
 returns-2 : tie.Need-returns-2
 returns-2 c =
     let e = c .before .enum-told2 .given .1 in
     let h = field-got _ _ _ _ _ (c .before .before .before .before .before .before .before .read-header .ensures) _ _ _ (c .before .before .before .before .before .header .given .1) in
-    tell-file-stop _ _ _ _ _ _ _ _ _ _ _ (c .number2 .ensures ∙ ap numberOf e)
+    tell-file-stop _ _ _ _ _ _ _ _ _ _ _ (c .field-number2 .ensures ∙ ap fieldNumber e)
     (label-refused _ _ _ _ _ _ _ h _ (told-stop _ _ _ _ _ e (c .before .before .before .read-label .ensures)))
 
 read-parts-requires : tie.Need-read-parts-requires
@@ -121,12 +121,12 @@ read-file-spec =
     read-header-requires
     enum-known-header
     enum-told
-    number-requires
+    field-number-requires
     returns
     read-label-requires
     enum-known-label
     enum-told-2
-    number-requires-2
+    field-number-requires-2
     returns-2
     read-parts-requires
     enum-known-parts

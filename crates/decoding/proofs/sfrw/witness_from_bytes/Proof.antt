@@ -14,7 +14,7 @@ use Rattle.limits.specs.declared.Outcome.the-variants.{Refused}
 use Rattle.header.specs.Form.{version}
 use Rattle.decoding.specs.Read.{readWitness}
 use Rattle.decoding.specs.Answers.{witnessFromBytes}
-use Rattle.header.specs.Answers.{numberOf}
+use Rattle.header.specs.Answers.{fieldNumber}
 use Rattle.decoding.proofs.Steps.{from-no, from-refused, from-read, from-sizes, answer-stop, answer-got, put-padded}
 use Rattle.decoding.proofs.Told.{listed-stop, listed-got}
 use Rattle.decoding.proofs.sfrw.witness_from_bytes.Statement.{statement}
@@ -60,8 +60,8 @@ enum-told c = search needs
 fill-requires-2 : tie.Need-fill-requires-2
 fill-requires-2 c κs = search needs
 
-number-requires : tie.Need-number-requires
-number-requires c κs = search needs
+field-number-requires : tie.Need-field-number-requires
+field-number-requires c κs = search needs
 
 same-length-2 : tie.Need-same-length-2
 same-length-2 c = search needs
@@ -77,7 +77,7 @@ returns-2 c =
     let no = from-no (a .width) _ _ _ _ (r .before .before .before .before .asked-width .ensures) (r .before .before .before .asked-store .ensures) l in
     let s = from-read (a .width) (now (a .bytes)) n _ no (r .before .before .if1 .left) ∙ ap (λ (m : ℕ). readWitness version (a .width) m (now (a .bytes))) (sym l) ∙ listed-stop _ _ _ _ _ _ _ e (r .read-witness .ensures) in
     let g = answer-stop (witnessFromBytes (a .width) (now (a .bytes)) n) n _ s in (
-      ap (λ (k : ℕ). record { outcome = Refused k; steps = 0 }) (c .number .ensures ∙ ap numberOf e) ∙ g .0,
+      ap (λ (k : ℕ). record { outcome = Refused k; steps = 0 }) (c .field-number .ensures ∙ ap fieldNumber e) ∙ g .0,
       c .before .before .before .fill2 .ensures ∙ ap (λ (m : ℕ). replicate {A = ℕ} m 0) (r .read-witness .kept .1 .1 .0 ∙ l) ∙ g .1,
     )
 
@@ -111,7 +111,7 @@ witness-from-bytes-spec =
     enum-known-read
     enum-told
     fill-requires-2
-    number-requires
+    field-number-requires
     same-length-2
     returns-2
     same-length-3
