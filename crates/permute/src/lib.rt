@@ -13,16 +13,21 @@ ghost use Rattle.limits.specs.Questions.{_▸_, ask};
 ghost use Rattle.words.specs.Pieces.{pieces};
 ghost use Rattle.permute.specs.Parameters.{soundParameters, permuteNo, permuted, sameWords, isEvaluation, leading};
 use limits::MAX_WIDTH;
+use limits::P;
 
 mod matrix;
 mod rounds;
 mod sound;
 
-// Question 17, after the number answered so far.
+// Question 17, after the number answered so far; the parameters are not looked at where an earlier question
+// said no.
 pub fn parameters_no(no: u32, width: u32, rounds: u32, params: &[u32]) -> u32
     ensures { λ r. ⌜ r ≡ no ▸ ask 17 (soundParameters width rounds (now (params .entry))) ⌝ }
 {
-    limits::asked(no, sound::sound_parameters(width, rounds, params), 17)
+    if no != 0 {
+        return no;
+    }
+    limits::asked(0, sound::sound_parameters(width, rounds, params), 17)
 }
 
 // The questions of `permute`: 1, 2, 9, 4 and 17.
@@ -33,7 +38,7 @@ fn permute_no(width: u32, rounds: u32, params: &[u32], state: &[u32]) -> u32
     let b = limits::asked_store(a, params.len());
     let c = limits::asked_store(b, state.len());
     let d = limits::asked(c, state.len() == width as usize, 9);
-    let e = limits::asked(d, baby_bear::are_units(state), 4);
+    let e = words::asked_below(d, state, P, 4);
     parameters_no(e, width, rounds, params)
 }
 

@@ -26,11 +26,8 @@ asked-store-requires-2 c κs = search needs
 asked-requires : tie.Need-asked-requires
 asked-requires c κs = search needs
 
-are-units-requires : tie.Need-are-units-requires
-are-units-requires c κs = search needs
-
-asked-requires-2 : tie.Need-asked-requires-2
-asked-requires-2 c κs = search needs
+asked-below-requires : tie.Need-asked-below-requires
+asked-below-requires c κs = search needs
 
 parameters-no-requires : tie.Need-parameters-no-requires
 parameters-no-requires c κs = search needs
@@ -40,12 +37,11 @@ unfolding permuteNo
 returns c =
     rw (
       c .parameters-no .ensures,
-      c .before .asked2 .ensures,
-      c .before .before .are-units .ensures,
-      c .before .before .before .asked .ensures,
-      c .before .before .before .before .asked-store2 .ensures,
-      c .before .before .before .before .before .asked-store .ensures,
-      c .before .before .before .before .before .before .asked-width .ensures,
+      c .before .asked-below .ensures,
+      c .before .before .asked .ensures,
+      c .before .before .before .asked-store2 .ensures,
+      c .before .before .before .before .asked-store .ensures,
+      c .before .before .before .before .before .asked-width .ensures,
     )
     (chain _ _ _ _ _ _ _)
 
@@ -57,7 +53,6 @@ permute-no-spec =
     asked-store-requires
     asked-store-requires-2
     asked-requires
-    are-units-requires
-    asked-requires-2
+    asked-below-requires
     parameters-no-requires
     returns)
