@@ -1,3 +1,4 @@
+pub mod Examples
 pub mod Fill
 pub mod Columns
 pub mod Times
@@ -8,4 +9,3 @@ pub mod Run
 pub mod Words
 pub mod Laws
 pub mod Trace
-pub mod Examples
