@@ -1,3 +1,4 @@
 pub mod Questions
 pub mod Product
 pub mod Answered
+pub mod Below

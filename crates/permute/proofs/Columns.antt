@@ -11,27 +11,17 @@ use mathlib.Core.List.{List, [], _∷_}
 use native.Mathlib.Omega.{arith}
 use native.Mathlib.Numerals.{add-one}
 use native.Mathlib.Nat.{mul-le-mul, eq-or-lt-of-le}
-use borrow.Author.Tests.{lt-ltb}
-use lib.Dec.{ltb, lit<}
+use lib.Dec.{lit<}
 use lib.ListN.{length, getD, take, drop, set, replicate, length-set, length-take, length-drop, drop-of-length-le}
 use lib.Seq.{drop-cons, drop-drop, getD-take, getD-drop, getD-set-same, getD-set-other}
 use Rattle.limits.specs.Numbers.{prime}
-use Rattle.limits.specs.Below.{allBelow}
+use Rattle.limits.proofs.Below.{below-replicate, below-take, below-drop, below-set}
 use Rattle.baby_bear.specs.Field.{areUnits, dot}
-use Rattle.baby_bear.proofs.Units.{both-true, true-both, units-at, at-units, units-take, units-drop}
+use Rattle.baby_bear.proofs.Units.{units-at}
 use Rattle.permute.specs.Parameters.{rowsOf}
 use Rattle.permute.specs.Columns.{strided, turnedRows, four}
 
 -- ---- places
-units-set : (l : List ℕ) (i v : ℕ) → areUnits l ≡ true → v < prime → areUnits (set l i v) ≡ true
-unfolding allBelow
-units-set [] i v e h = e
-units-set (a ∷ l) zero v e h =
-    true-both (ltb v prime) (areUnits l) (lt-ltb v prime h) (both-true (ltb a prime) (areUnits l) e .1)
-units-set (a ∷ l) (suc i) v e h =
-    let b = both-true (ltb a prime) (areUnits l) e in
-    true-both (ltb a prime) (areUnits (set l i v)) (b .0) (units-set l i v (b .1) h)
-
 -- an array before anything is put into it
 abbrev zeros : ℕ → List ℕ
 zeros n = replicate n 0
@@ -42,7 +32,7 @@ zeros-at (suc n) zero = refl
 zeros-at (suc n) (suc i) = zeros-at n i
 
 pub zeros-units : (n : ℕ) → areUnits (zeros n) ≡ true
-zeros-units n = at-units (zeros n) (λ i. rw (zeros-at n i) (lit< tt))
+zeros-units n = below-replicate prime n 0 (lit< tt)
 
 -- word k of row i, in a square of w words by w, and in m rows of w words
 row-room : (w m k i : ℕ) → k < w → i < m → k + i * w < m * w
@@ -77,7 +67,7 @@ module _ (matrix first : List ℕ) (w k at : ℕ) where
         → Putting matrix first w k at (set columns (at + i) v) (i + 1) (from + w)
     putting-turn v e u h l =
         record {
-          units = units-set columns (at + i) v (p .units) (rw e (units-at matrix u from));
+          units = below-set prime columns (at + i) v (rw e (units-at matrix u from)) (p .units);
           earlier = λ n b. getD-set-other columns (at + i) n v 0 (λ z. omega (arith, z)) ∙ p .earlier n b;
           written = λ n b. ⊎-elim (λ z. here n z) (λ z. getD-set-other columns (at + i) (at + n) v 0 (λ y. omega (arith, y)) ∙ p .written n z) (eq-or-lt-of-le (le n b));
           place = omega (arith, p .place);
@@ -290,7 +280,7 @@ module _ (columns x : List ℕ) (w : ℕ) where
       length-row n = strided-length w w n columns
 
       units-part : (size : ℕ) → areUnits (take size (drop at columns)) ≡ true
-      units-part size = units-take size (drop at columns) (units-drop at columns u)
+      units-part size = below-take prime size (drop at columns) (below-drop prime at columns u)
 
       turn : (n k l : ℕ) → l ≡ k + 1 → k < w
           → dot (drop k (strided w w n columns)) (drop k x) ≡ getD (strided w w n columns) k 0 * getD x k 0 + dot (drop l (strided w w n columns)) (drop l x)

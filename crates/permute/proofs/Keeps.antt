@@ -9,9 +9,9 @@ use lib.Dec.{ltb, lit<}
 use lib.ListN.{length, drop, length-map}
 use Rattle.limits.specs.Numbers.{prime}
 use Rattle.limits.specs.Below.{allBelow}
+use Rattle.limits.proofs.Below.{both-true, true-both}
 use Rattle.baby_bear.specs.Field.{areUnits, addUnit, mulUnit, seventh, sumUnits, productUnits, dotUnits}
 use Rattle.baby_bear.proofs.Ring.{addUnit-below, seventh-below}
-use Rattle.baby_bear.proofs.Units.{both-true, true-both}
 use Rattle.permute.specs.Permute.{Round, addConstants, raise, timesMatrix, runRound, runRounds}
 use Rattle.permute.specs.Parameters.{rowsOf}
 

@@ -10,8 +10,8 @@ use borrow.Author.Tests.{leb-true, le-leb, eqb-true, eq-eqb, ne-eqb}
 use lib.Dec.{eqb}
 use lib.ListN.{length, take, drop}
 use Rattle.limits.proofs.Questions.{accepted-says, ask-yes, join, onYes-yes, onYes-no}
+use Rattle.limits.proofs.Below.{both-true, true-both}
 use Rattle.baby_bear.specs.Field.{areUnits}
-use Rattle.baby_bear.proofs.Units.{both-true, true-both}
 use Rattle.permute.specs.Permute.{permute, runRounds}
 use Rattle.permute.specs.Parameters.{roundsOf, parametersOf, soundParameters, permuteAsks, permuteNo, permuted, sameWords, isEvaluation}
 use Rattle.permute.proofs.Keeps.{rowsOf-length, runRounds-length, runRounds-units}

@@ -13,19 +13,10 @@ use lib.ListN.{length, getD, take, drop, length-drop}
 use lib.Seq.{drop-drop, getD-drop}
 use Rattle.limits.specs.Numbers.{prime}
 use Rattle.limits.specs.Below.{allBelow}
+use Rattle.limits.proofs.Below.{both-true, true-both, below-take, below-drop, below-both}
 use Rattle.baby_bear.specs.Field.{areUnits}
-use Rattle.baby_bear.proofs.Units.{both-true, true-both, units-take, units-drop}
 use Rattle.permute.specs.Permute.{roundOf}
 use Rattle.permute.specs.Parameters.{roundsOf, rowsOf, soundKinds, unitConstants, unitRows, soundParameters}
-
--- ---- units in two parts
-units-join : (n : ℕ) (l : List ℕ) → areUnits (take n l) ≡ true → areUnits (drop n l) ≡ true → areUnits l ≡ true
-unfolding allBelow
-units-join zero l e f = f
-units-join (suc n) [] e f = e
-units-join (suc n) (a ∷ l) e f =
-    let p = both-true (ltb a prime) (areUnits (take n l)) e in
-    true-both (ltb a prime) (areUnits l) (p .0) (units-join n l (p .1) f)
 
 kind-unit : (a : ℕ) → ltb a 2 ≡ true → ltb a prime ≡ true
 kind-unit a e = lt-ltb a prime (omega (arith, ltb-true a 2 e))
@@ -49,14 +40,14 @@ rounds-units w (suc n) (a ∷ l) k c r =
     let p = both-true (ltb a 2) (soundKinds (roundsOf w n (drop w l))) k in
     let q = both-true (areUnits (take w l)) (unitConstants (roundsOf w n (drop w l))) c in
     true-both (ltb a prime) (areUnits l) (kind-unit a (p .0))
-    (units-join w l (q .0) (rounds-units w n (drop w l) (p .1) (q .1) (rw after at r)))
+    (below-both prime w l (q .0) (rounds-units w n (drop w l) (p .1) (q .1) (rw after at r)))
 
 units-rounds : (w n : ℕ) (words : List ℕ) → areUnits words ≡ true → unitConstants (roundsOf w n words) ≡ true
 unfolding roundsOf unitConstants
 units-rounds w zero words e = refl
 units-rounds w (suc n) words e =
     true-both (areUnits (take w (drop 1 words))) (unitConstants (roundsOf w n (drop (suc w) words)))
-    (units-take w (drop 1 words) (units-drop 1 words e)) (units-rounds w n (drop (suc w) words) (units-drop (suc w) words e))
+    (below-take prime w (drop 1 words) (below-drop prime 1 words e)) (units-rounds w n (drop (suc w) words) (below-drop prime (suc w) words e))
 
 -- ---- rows
 rows-units : (w n : ℕ) (l : List ℕ) → length l ≡ n * w → unitRows (rowsOf w n l) ≡ true → areUnits l ≡ true
@@ -65,13 +56,13 @@ rows-units w zero [] h e = refl
 rows-units w zero (a ∷ l) h e = absurd (omega arith)
 rows-units w (suc n) l h e =
     let p = both-true (areUnits (take w l)) (unitRows (rowsOf w n (drop w l))) e in
-    units-join w l (p .0) (rows-units w n (drop w l) (simp length-drop (omega arith)) (p .1))
+    below-both prime w l (p .0) (rows-units w n (drop w l) (simp length-drop (omega arith)) (p .1))
 
 units-rows : (w n : ℕ) (l : List ℕ) → areUnits l ≡ true → unitRows (rowsOf w n l) ≡ true
 unfolding rowsOf unitRows
 units-rows w zero l e = refl
 units-rows w (suc n) l e =
-    true-both (areUnits (take w l)) (unitRows (rowsOf w n (drop w l))) (units-take w l e) (units-rows w n (drop w l) (units-drop w l e))
+    true-both (areUnits (take w l)) (unitRows (rowsOf w n (drop w l))) (below-take prime w l e) (units-rows w n (drop w l) (below-drop prime w l e))
 
 -- ---- what 17 says
 pub record Sound (w rounds : ℕ) (words : List ℕ) : Type 0 where
@@ -110,7 +101,7 @@ module _ (w rounds : ℕ) (words : List ℕ) where
       true-both _ _ (le-leb rounds 128 (s .few))
       (true-both _ _ (eq-eqb (length words) (rounds * (w + 1) + w * w) (s .size))
       (true-both _ _ (s .kinds)
-      (true-both _ _ (units-rounds w rounds words (s .units)) (units-rows w w matrix (units-drop (rounds * (w + 1)) words (s .units))))))
+      (true-both _ _ (units-rounds w rounds words (s .units)) (units-rows w w matrix (below-drop prime (rounds * (w + 1)) words (s .units))))))
 
 -- ---- the code's tests
 same-says : (a b : Bool) → (a ≡ true → b ≡ true) → (b ≡ true → a ≡ true) → a ≡ b

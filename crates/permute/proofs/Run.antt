@@ -11,8 +11,9 @@ use native.Mathlib.Omega.{arith}
 use native.Mathlib.Nat.{mul-le-mul}
 use lib.ListN.{length, getD, take, drop, length-take, length-drop}
 use lib.Seq.{take-all}
+use Rattle.limits.specs.Numbers.{prime}
+use Rattle.limits.proofs.Below.{below-take, below-drop}
 use Rattle.baby_bear.specs.Field.{areUnits}
-use Rattle.baby_bear.proofs.Units.{units-take, units-drop}
 use Rattle.permute.specs.Permute.{Round, roundOf, addConstants, raise, timesMatrix, runRound, runRounds, permute}
 use Rattle.permute.specs.Parameters.{roundsOf, rowsOf, parametersOf}
 use Rattle.permute.specs.Columns.{turnedRows}
@@ -77,7 +78,7 @@ module _ (words : List ℕ) (w rounds : ℕ) (first : List ℕ) (s : Sound w rou
       × (length (take (length words - rounds * (w + 1)) (drop (rounds * (w + 1)) words)) ≡ w * w)
       × (w * w ≤ length columns) × (w ≤ 24)
   turn-asked columns most u l = (
-    units-take (length words - rounds * (w + 1)) (drop (rounds * (w + 1)) words) (units-drop (rounds * (w + 1)) words (s .units)),
+    below-take prime (length words - rounds * (w + 1)) (drop (rounds * (w + 1)) words) (below-drop prime (rounds * (w + 1)) words (s .units)),
     u,
     ap length matrix-is ∙ simp length-drop (omega (arith, s .size)),
     omega (arith, square-fits most),
@@ -108,7 +109,7 @@ module _ (words : List ℕ) (w rounds : ℕ) (first : List ℕ) (s : Sound w rou
     round-asked columns mixed h pos most u lc l =
         let f = running-room h in
         let k = r .kept in (
-          units-take (at + 1 + w - (at + 1)) (drop (at + 1) words) (units-drop (at + 1) words (s .units)),
+          below-take prime (at + 1 + w - (at + 1)) (drop (at + 1) words) (below-drop prime (at + 1) words (s .units)),
           u,
           r .units,
           simp (length-take, length-drop) (omega arith),

@@ -10,7 +10,7 @@ use borrow.Author.Tests.{eq-eqb, ne-eqb, eqb-true}
 use lib.Dec.{eqb}
 use lib.ListN.{length, getD, drop, drop-of-length-le}
 use lib.Seq.{drop-cons}
-use Rattle.baby_bear.proofs.Units.{both-true, true-both}
+use Rattle.limits.proofs.Below.{both-true, true-both}
 use Rattle.words.specs.Store.{fitWords}
 use Rattle.words.proofs.Written.{fit-put}
 use Rattle.permute.specs.Parameters.{sameWords}

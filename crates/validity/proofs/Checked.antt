@@ -12,6 +12,7 @@ use lib.Seq.{length-take-le}
 use Rattle.limits.specs.Numbers.{prime}
 use Rattle.limits.specs.Questions.{_▸_}
 use Rattle.limits.proofs.Questions.{stays, goes-on, ask-yes, ask-no}
+use Rattle.limits.proofs.Below.{below-replicate}
 use Rattle.words.specs.Store.{allBelow}
 use Rattle.words.specs.Pieces.{wordsOf, pieces}
 use Rattle.allocator.specs.Slots.{Pair}
@@ -24,7 +25,6 @@ use Rattle.validity.specs.Values.{cells}
 use Rattle.validity.specs.Check.{publicsNo, stepsNo, equationsNo, checkNo}
 use Rattle.validity.specs.Scratch.{valueAt, Walked}
 use Rattle.validity.specs.Valid.{stepsOf, Sound}
-use Rattle.validity.proofs.Below.{below-replicate}
 use Rattle.validity.proofs.Scratch.{nothing-entry}
 
 length-pieces : (k n : ℕ) (s : List ℕ) → length (pieces k n s) ≡ n

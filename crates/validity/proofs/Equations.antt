@@ -11,12 +11,12 @@ use lib.ListN.{length, drop, getD}
 use lib.Seq.{drop-drop}
 use Rattle.limits.specs.Numbers.{prime, maxCount}
 use Rattle.limits.proofs.Questions.{stays, goes-on}
+use Rattle.limits.proofs.Below.{both-true}
 use Rattle.words.specs.Store.{allBelow}
 use Rattle.allocator.specs.Values.{Values}
 use Rattle.expr.specs.Equation.{Equation, termVars, termWeights, equationSize, equationAt, sizeAt, equationsAt, equationsEnd, equationsHeld}
 use Rattle.instance.specs.Held.{equationsSound}
 use Rattle.validity.specs.Check.{equationNo, equationsNo}
-use Rattle.validity.proofs.Below.{and-both}
 use Rattle.validity.proofs.Sums.{size-at}
 
 -- what is left: it ends where the words end, what it holds is sound, and its number is the whole's
@@ -29,7 +29,7 @@ pub equations-start : (g : Values) (words : List ℕ) (count : ℕ) → equation
     → EquationsLeft g words (equationsNo g (equationsAt count words)) 0 count
 unfolding equationsSound
 equations-start g words count e =
-    let a = and-both (eqb (equationsEnd count words) (length words)) (equationsHeld (equationsAt count words)) e in
+    let a = both-true (eqb (equationsEnd count words) (length words)) (equationsHeld (equationsAt count words)) e in
     let z : equationsEnd count words ≡ length words = eqb-true _ _ (a .0) in
     record { ends = omega arith; held = a .1; number = refl }
 
@@ -37,9 +37,9 @@ equations-start g words count e =
 held-first : (e : Equation) (es : List Equation) → equationsHeld (e ∷ es) ≡ true
     → (allBelow prime (termWeights (e .terms)) ≡ true) × (equationsHeld es ≡ true)
 held-first e es h =
-    let a = and-both (allBelow maxCount (termVars (e .terms))) _ h in
-    let b = and-both (allBelow prime (termWeights (e .terms))) _ (a .1) in
-    (b .0, and-both (ltb (e .image) prime) _ (b .1) .1)
+    let a = both-true (allBelow maxCount (termVars (e .terms))) _ h in
+    let b = both-true (allBelow prime (termWeights (e .terms))) _ (a .1) in
+    (b .0, both-true (ltb (e .image) prime) _ (b .1) .1)
 
 -- the place after the first
 next-at : (words : List ℕ) (at : ℕ) → drop (sizeAt (drop at words)) (drop at words) ≡ drop (at + equationSize (getD words at 0)) words

@@ -1,4 +1,3 @@
-pub mod Below
 pub mod Scratch
 pub mod Publics
 pub mod Cells

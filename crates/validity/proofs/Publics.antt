@@ -11,6 +11,7 @@ use lib.ListN.{length, getD, drop, set, length-set}
 use lib.Seq.{getD-drop, drop-drop}
 use Rattle.limits.specs.Numbers.{prime, maxCount}
 use Rattle.limits.specs.Questions.{ask, _▸_}
+use Rattle.limits.proofs.Below.{both-true, below-cons}
 use Rattle.words.specs.Store.{allBelow}
 use Rattle.allocator.specs.Slots.{Pair, pair}
 use Rattle.allocator.specs.Values.{Values, put, putAll}
@@ -18,14 +19,13 @@ use Rattle.instance.specs.Parts.{pairsAt, pairVars, pairValues}
 use Rattle.instance.specs.Held.{publicsSound}
 use Rattle.validity.specs.Check.{publicsNo}
 use Rattle.validity.specs.Scratch.{valueAt, Walked}
-use Rattle.validity.proofs.Below.{and-both, below-cons}
 use Rattle.validity.proofs.Scratch.{put-entry, put-units, Walking, stopped, ended}
 
 -- units of publics that are sound
 pub sound-values : (n : ℕ) (held : List ℕ) → publicsSound n held ≡ true → allBelow prime (pairValues (pairsAt n held)) ≡ true
 unfolding publicsSound
 sound-values n held e =
-    and-both (allBelow maxCount (pairVars (pairsAt n held))) (allBelow prime (pairValues (pairsAt n held))) e .1
+    both-true (allBelow maxCount (pairVars (pairsAt n held))) (allBelow prime (pairValues (pairsAt n held))) e .1
 
 -- the first of the pairs that are left
 pub pairsAt-cons : (s : List ℕ) (at left : ℕ) → 0 < left

@@ -11,11 +11,11 @@ use lib.ListN.{length, set, replicate}
 use lib.Seq.{getD-set-same, getD-set-other}
 use Rattle.limits.specs.Numbers.{prime}
 use Rattle.limits.specs.Questions.{pick}
+use Rattle.limits.proofs.Below.{below-set}
 use Rattle.words.specs.Store.{allBelow}
 use Rattle.allocator.specs.Slots.{Pair}
 use Rattle.allocator.specs.Values.{Values, nothing, put, fits}
 use Rattle.validity.specs.Scratch.{entry, valueAt, Walked}
-use Rattle.validity.proofs.Below.{below-set}
 
 -- ---- one word
 pub fits-none : (m v : ℕ) → m ≡ 0 → true ≡ fits (entry m) v

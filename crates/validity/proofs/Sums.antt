@@ -12,13 +12,13 @@ use lib.ListN.{length, drop, getD, List·getD-eq-default}
 use lib.Seq.{getD-drop, drop-drop}
 use Rattle.limits.specs.Numbers.{prime}
 use Rattle.limits.specs.Questions.{ask, _▸_}
+use Rattle.limits.proofs.Below.{below-cons}
 use Rattle.words.specs.Store.{allBelow}
 use Rattle.baby_bear.specs.Field.{addUnit, mulUnit}
 use Rattle.allocator.specs.Values.{Values}
 use Rattle.expr.specs.Equation.{Term, termWeights, equationSize, termsAt, equationAt, sizeAt}
 use Rattle.validity.specs.Check.{termsNo, sumFrom, equationNo}
 use Rattle.validity.specs.Scratch.{entry, valueAt}
-use Rattle.validity.proofs.Below.{below-cons}
 use Rattle.validity.proofs.Scratch.{entry-some}
 
 -- what is left of an equation, with the sum so far: 34 of the terms, then 35

@@ -8,12 +8,12 @@ use native.Mathlib.Omega.{arith}
 use lib.ListN.{length, take, drop, length-append, length-drop, take-append-drop}
 use lib.Seq.{length-take-le, take-at, drop-at}
 use Rattle.limits.specs.Numbers.{prime}
+use Rattle.limits.proofs.Below.{true-both}
 use Rattle.words.specs.Store.{allBelow, putWords, All, Begins}
 use Rattle.words.specs.Pieces.{pieces, flat}
 use Rattle.words.proofs.Below.{allBelow-append}
 use Rattle.words.proofs.Lists.{all-append}
 use Rattle.words.proofs.Held.{pieces-held, pieces-put}
-use Rattle.baby_bear.proofs.Units.{true-both}
 use Rattle.permute.specs.Permute.{permute}
 use Rattle.permute.specs.Parameters.{parametersOf, permuteNo, isEvaluation}
 use Rattle.permute.proofs.Laws.{permute-length, permute-units, is-evaluation}

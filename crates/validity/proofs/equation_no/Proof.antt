@@ -9,10 +9,10 @@ use denote.Ref.{now}
 use lib.Dec.{lit<}
 use lib.ListN.{length, drop, getD}
 use Rattle.limits.specs.Numbers.{prime}
+use Rattle.limits.proofs.Below.{below-getD}
 use Rattle.words.specs.Store.{allBelow}
 use Rattle.expr.specs.Equation.{termWeights, equationSize, termsAt}
 use Rattle.validity.specs.Scratch.{valueAt}
-use Rattle.validity.proofs.Below.{below-getD}
 use Rattle.validity.proofs.Sums.{restNo, imageOf, wholeNo, size-at, sum-starts, weights-start, weight-below, sum-beyond, sum-nothing, sum-turn, sum-wrong, sum-right}
 use Rattle.validity.proofs.equation_no.Statement.{statement}
 use Rattle.validity.proofs.equation_no.Tie as tie

@@ -10,11 +10,11 @@ use denote.Ref.{now}
 use lib.Dec.{lit<}
 use lib.ListN.{length, drop}
 use Rattle.limits.specs.Numbers.{prime}
+use Rattle.limits.proofs.Below.{below-getD}
 use Rattle.allocator.specs.Slots.{pairs}
 use Rattle.allocator.specs.Values.{putAll}
 use Rattle.validity.specs.Check.{cellsNo}
 use Rattle.validity.specs.Scratch.{valueAt}
-use Rattle.validity.proofs.Below.{below-getD}
 use Rattle.validity.proofs.Scratch.{begins}
 use Rattle.validity.proofs.Cells.{CellsLeft, cells-done, cells-36, cells-33, cells-turn}
 use Rattle.validity.proofs.put_cells.Statement.{statement}

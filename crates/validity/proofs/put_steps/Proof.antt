@@ -8,6 +8,7 @@ use borrow.Author.Needs.{needs}
 use denote.Ref.{now}
 use lib.ListN.{length, drop}
 use Rattle.limits.specs.Numbers.{prime}
+use Rattle.limits.proofs.Below.{below-take, below-drop}
 use Rattle.words.specs.Pieces.{pieces}
 use Rattle.allocator.specs.Values.{putAll}
 use Rattle.permute.specs.Parameters.{isEvaluation, leading}
@@ -15,7 +16,6 @@ use Rattle.permute.proofs.Trace.{lent-piece, lent-length}
 use Rattle.validity.specs.Values.{cells}
 use Rattle.validity.specs.Check.{stepsNo}
 use Rattle.validity.specs.Scratch.{valueAt}
-use Rattle.validity.proofs.Below.{below-parts}
 use Rattle.validity.proofs.Scratch.{begins}
 use Rattle.validity.proofs.Steps.{step-32, step-cells, piece-fits, StepsLeft, steps-done, steps-stop, steps-turn}
 use Rattle.validity.proofs.Ahead.{first-none, first-known}
@@ -117,7 +117,7 @@ put-cells-requires c κs =
     let f = piece-fits k (l .at) (l .left) _ (l .inv .0) h in
     let g = piece-fits k (l .at) (l .left) _ (l .inv .1) h in (
       lent-length queries (l .at) k (omega (arith, f)) ∙ sym (lent-length trace (l .at) k (omega (arith, g))),
-      below-parts prime (l .at + k - l .at) (drop (l .at) trace) (below-parts prime (l .at) trace (r .pre .2) .1) .0,
+      below-take prime (l .at + k - l .at) (drop (l .at) trace) (below-drop prime (l .at) trace (r .pre .2)),
       l .inv .3 .units,
     )
 
