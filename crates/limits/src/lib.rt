@@ -20,6 +20,9 @@ pub const MAX_COUNT: u32 = 1073741824;
 // The greatest width of a permutation; the least is 1.
 pub const MAX_WIDTH: u32 = 24;
 
+// 2^32: a label has fewer bytes.
+pub const LABEL_END: usize = 4294967296;
+
 // What a call answers that has no value to give.
 pub enum Outcome {
     Accepted,

@@ -15,6 +15,7 @@ use Rattle.limits.proofs.Questions.{stays, goes-on, ask-yes, ask-no}
 use Rattle.limits.proofs.Below.{below-replicate}
 use Rattle.words.specs.Store.{allBelow}
 use Rattle.words.specs.Pieces.{wordsOf, pieces}
+use Rattle.words.proofs.Pieces.{length-pieces}
 use Rattle.allocator.specs.Slots.{Pair}
 use Rattle.allocator.specs.Values.{nothing, putAll}
 use Rattle.expr.specs.Equation.{equationsAt}
@@ -26,10 +27,6 @@ use Rattle.validity.specs.Check.{publicsNo, stepsNo, equationsNo, checkN
 use Rattle.validity.specs.Scratch.{valueAt, Walked}
 use Rattle.validity.specs.Valid.{stepsOf, Sound}
 use Rattle.validity.proofs.Scratch.{nothing-entry}
-
-length-pieces : (k n : ℕ) (s : List ℕ) → length (pieces k n s) ≡ n
-length-pieces k zero s = refl
-length-pieces k (suc n) s = ap suc (length-pieces k n (drop k s))
 
 module _ (ev : List ℕ → Bool) (ins : PermutationInstance) (publics queries equations : List ℕ) (steps : ℕ) (trace : List ℕ) where
   abbrev wholeNo : ℕ

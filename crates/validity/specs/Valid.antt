@@ -1,5 +1,5 @@
 -- `is_witness_valid` on held parts, gated or not: 1, 2, 17, 11, 16, and then the check. Assumes nothing.
-use Prim.Native.Nat.{ℕ, _+_, _*_, _≤_}
+use Prim.Native.Nat.{ℕ, _*_, _≤_}
 use mathlib.Core.Path.{_≡_}
 use mathlib.Core.Bool.{true}
 use mathlib.Core.List.{List, [], _∷_, _++_}
@@ -9,7 +9,9 @@ use Rattle.limits.specs.Numbers.{prime}
 use Rattle.limits.specs.Questions.{Question, question, firstNo, _▸_}
 use Rattle.limits.specs.Asks.{widthAsks, storeAsks}
 use Rattle.words.specs.Store.{allBelow}
-use Rattle.words.specs.Pieces.{wordsOf, pieces}
+use Rattle.words.specs.Pieces.{wordsOf}
+-- the first `steps` steps of a trace
+pub use Rattle.words.specs.Pieces.{stepsOf}
 use Rattle.limits.specs.Outcome.{outcomeOf}
 use Rattle.limits.specs.declared.Outcome.{Outcome}
 use Rattle.permute.specs.Parameters.{soundParameters, isEvaluation}
@@ -17,10 +19,6 @@ use Rattle.instance.specs.Parts.{heldPublics, heldEquations, partsOf}
 use Rattle.instance.specs.Held.{labelAsks, partsAsks, heldAsks, publicsSound, equationsSound}
 use Rattle.instance.specs.declared.PermutationInstance.{PermutationInstance}
 use Rattle.validity.specs.Check.{checkNo}
-
--- the first `steps` steps of a trace
-abbrev pub stepsOf : ℕ → ℕ → List ℕ → List (List ℕ)
-stepsOf width steps trace = pieces (width + width) steps (take (wordsOf width steps) trace)
 
 -- the questions before the check: 1, 2 of every store and count, 17, 11 of what is held, the trace included, 16
 abbrev pub isWitnessValidAsks : PermutationInstance → (label publics queries equations : List ℕ)

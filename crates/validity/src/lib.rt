@@ -26,6 +26,7 @@ ghost use Rattle.validity.specs.Valid.{stepsOf, isWitnessValidAsks, isWi
 use instance::PermutationInstance;
 use instance::held_pieces;
 use instance::held_words;
+use limits::LABEL_END;
 use limits::Outcome;
 use limits::P;
 
@@ -272,7 +273,7 @@ fn asked_valid(
     let c = limits::asked_store(b, trace.len());
     let d = limits::asked_store(c, params.len());
     let e = limits::asked_store(d, scratch);
-    let f = limits::asked(e, label.len() < 4294967296, 2);
+    let f = limits::asked(e, label.len() < LABEL_END, 2);
     let g = words::asked_pieces(f, width, steps, trace.len(), 2);
     let h = permute::parameters_no(g, width, rounds, params);
     let i = instance::asked_held(h, ins, label, publics, queries, equations);

@@ -13,20 +13,17 @@ use Rattle.words.specs.Store.{allBelow, putWords, All, Begins}
 use Rattle.words.specs.Pieces.{pieces, flat}
 use Rattle.words.proofs.Below.{allBelow-append}
 use Rattle.words.proofs.Lists.{all-append}
+use Rattle.words.proofs.Pieces.{length-pieces, pieces-taken}
 use Rattle.words.proofs.Held.{pieces-held, pieces-put}
 use Rattle.permute.specs.Permute.{permute}
 use Rattle.permute.specs.Parameters.{parametersOf, permuteNo, isEvaluation}
 use Rattle.permute.proofs.Laws.{permute-length, permute-units, is-evaluation}
-use Rattle.witness.specs.Trace.{appendStepNo, appendStep, appendStepTrace, evaluatedStep, evaluateStepNo, evaluateStep, evaluateStepTrace, stepsOf}
+use Rattle.witness.specs.Trace.{appendStepNo, appendStep, appendStepTrace, evaluatedStep, evaluateStepNo, evaluateStep, evaluateStepTrace, witnessSteps}
 use Rattle.witness.specs.declared.PermutationWitness.{PermutationWitness}
 use Rattle.witness.proofs.Accepted.{appendStep-yes, input-yes, evaluateStep-yes}
 use Rattle.witness.proofs.Evaluated.{room-number}
 
 -- ---- pieces of k words that a store holds
-pieces-length : (k n : ℕ) (s : List ℕ) → length (pieces k n s) ≡ n
-pieces-length k zero s = refl
-pieces-length k (suc n) s = ap suc (pieces-length k n (drop k s))
-
 fewer : (k n : ℕ) (s : List ℕ) → suc n * k ≤ length s → n * k ≤ length (drop k s)
 fewer k n s h = simp length-drop (omega arith)
 
@@ -47,16 +44,18 @@ pieces-begin k (suc n) s h =
 
 -- one more, written behind n
 one-behind : (k n : ℕ) (q s : List ℕ) → length q ≡ k → n * k ≤ length s
-    → pieces k (n + 1) (putWords (n * k) q s) ≡ pieces k n s ++ (q ∷ [])
+    → pieces k (n + 1) (take ((n + 1) * k) (putWords (n * k) q s)) ≡ pieces k n (take (n * k) s) ++ (q ∷ [])
 one-behind k n q s l h =
     let qs = pieces k n s in
-    let c : length qs ≡ n = pieces-length k n s in
+    let c : length qs ≡ n = length-pieces k n s in
     let count : n + 1 ≡ length (qs ++ (q ∷ [])) = sym (length-append qs (q ∷ []) ∙ ap (λ (m : ℕ). m + 1) c) in
     let begins : Begins (flat (qs ++ (q ∷ []))) (putWords (n * k) q s) =
     subst (λ (m : ℕ). Begins (flat (qs ++ (q ∷ []))) (putWords (m * k) q s)) c
     (pieces-put k qs q s (pieces-all k n s h) (pieces-begin k n s h)) in
-    ap (λ (m : ℕ). pieces k m (putWords (n * k) q s)) count
+    pieces-taken k (n + 1) (putWords (n * k) q s)
+    ∙ ap (λ (m : ℕ). pieces k m (putWords (n * k) q s)) count
     ∙ pieces-held k (qs ++ (q ∷ [])) (putWords (n * k) q s) (all-append _ qs (q ∷ []) (pieces-all k n s h) (l, tt)) begins
+    ∙ ap (λ (ps : List (List ℕ)). ps ++ (q ∷ [])) (sym (pieces-taken k n s))
 
 step-length : (w : ℕ) (input output : List ℕ) → length input ≡ w → length output ≡ w → length (input ++ output) ≡ w + w
 step-length w input output i o = length-append input output ∙ ap₂ (λ (m n : ℕ). m + n) i o
@@ -67,8 +66,8 @@ step-units input output i o = allBelow-append prime input output ∙ true-both _
 -- ---- a given step
 module _ (wit : PermutationWitness) (trace input output : List ℕ) (e : appendStepNo wit (length trace) input output ≡ 0) where
   pub appendStep-steps :
-      stepsOf (appendStep wit trace input output .witness) (appendStepTrace wit trace input output)
-      ≡ stepsOf wit trace ++ ((input ++ output) ∷ [])
+      witnessSteps (appendStep wit trace input output .witness) (appendStepTrace wit trace input output)
+      ≡ witnessSteps wit trace ++ ((input ++ output) ∷ [])
   appendStep-steps =
       let y = appendStep-yes wit (length trace) input output e in
       rw e
@@ -84,8 +83,8 @@ module _ (wit : PermutationWitness) (trace input output : List ℕ) (e : appendS
 module _ (wit : PermutationWitness) (trace input : List ℕ) (rounds : ℕ) (params : List ℕ)
     (e : evaluateStepNo wit (length trace) input rounds params ≡ 0) where
   pub evaluateStep-steps :
-      stepsOf (evaluateStep wit trace input rounds params .witness) (evaluateStepTrace wit trace input rounds params)
-      ≡ stepsOf wit trace ++ (evaluatedStep wit input rounds params ∷ [])
+      witnessSteps (evaluateStep wit trace input rounds params .witness) (evaluateStepTrace wit trace input rounds params)
+      ≡ witnessSteps wit trace ++ (evaluatedStep wit input rounds params ∷ [])
   evaluateStep-steps =
       let y = input-yes wit (length trace) input params (evaluateStep-yes wit (length trace) input rounds params e .asked) in
       let n = permute-length (wit .width) rounds params input (y .inputs) in

@@ -8,7 +8,7 @@ use Rattle.limits.specs.Numbers.{prime}
 use Rattle.limits.specs.Questions.{Question, question, firstNo, onYes}
 use Rattle.limits.specs.Asks.{widthAsks, storeAsks}
 use Rattle.words.specs.Store.{allBelow, putWords}
-use Rattle.words.specs.Pieces.{wordsOf, pieces}
+use Rattle.words.specs.Pieces.{wordsOf, stepsOf}
 use Rattle.limits.specs.Outcome.{outcomeOf}
 use Rattle.permute.specs.Permute.{permute}
 use Rattle.permute.specs.Parameters.{parametersOf, soundParameters}
@@ -100,6 +100,6 @@ evaluateStepTrace wit trace input rounds params =
     (traceWith wit (evaluatedStep wit input rounds params) trace) trace
 
 -- ---- the steps that a trace holds, in order
--- as many as the record counts, of 2w words each
-abbrev pub stepsOf : PermutationWitness → List ℕ → List (List ℕ)
-stepsOf wit trace = pieces (wit .width + wit .width) (wit .steps) trace
+-- as many as the record counts
+abbrev pub witnessSteps : PermutationWitness → List ℕ → List (List ℕ)
+witnessSteps wit trace = stepsOf (wit .width) (wit .steps) trace

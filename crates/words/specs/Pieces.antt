@@ -12,6 +12,10 @@ abbrev pub pieces : ℕ → ℕ → List ℕ → List (List ℕ)
 pieces k zero s = []
 pieces k (suc n) s = take k s ∷ pieces k n (drop k s)
 
+-- the first n queries or steps of a width that a store holds
+abbrev pub stepsOf : ℕ → ℕ → List ℕ → List (List ℕ)
+stepsOf width n s = pieces (width + width) n (take (wordsOf width n) s)
+
 -- pieces one after the other
 abbrev pub flat : List (List ℕ) → List ℕ
 flat [] = []
