@@ -12,6 +12,7 @@ use native.Mathlib.Omega.{arith}
 use borrow.Author.Tests.{eqb-true, eq-eqb}
 use lib.Dec.{eqb}
 use lib.ListN.{length}
+use Rattle.limits.specs.Outcome.{outcomeOf}
 use Rattle.limits.proofs.Questions.{both, join, says-yes, ask-yes}
 use Rattle.words.specs.Store.{All}
 use Rattle.words.specs.Pieces.{flat}
@@ -24,11 +25,12 @@ use Rattle.validity.specs.Values.{cells}
 use Rattle.validity.specs.Check.{equationsNo, checkNo}
 use Rattle.history.specs.Ledger.{Ledger, known}
 use Rattle.history.specs.Sat.{Sat}
-use Rattle.history.specs.Demand.{Range, Below, At34, Checked}
+use Rattle.history.specs.Demand.{Below, At34, Checked}
+use Rattle.history.proofs.Outcomes.{accepted-no, refused-no}
 use Rattle.history.proofs.Carry.{stays-all, domain, same, units-all}
 use Rattle.history.proofs.Walk.{cells-yes, yes-cells, steps-yes, yes-steps, equations-yes, yes-equations}
 use Rattle.history.proofs.Shapes.{IsTrace, wires-cells, below-cells, units-cells}
-use Rattle.history.proofs.Stops.{range-then, range-ask, range-zero, widen, outside, either, publics-yes, steps-range, equations-range, equations-34, at-none}
+use Rattle.history.proofs.Stops.{Within, among-by, within-then, within-ask, within-zero, widen, outside, either, publics-yes, steps-within, equations-within, equations-34, at-none}
 
 -- the parts of a ledger, with its publics
 abbrev pub ledgerParts : Ledger → ℕ → List Pair → Parts
@@ -125,28 +127,34 @@ module _ (ev : List ℕ → Bool) (w : ℕ) (ledger : Ledger) (n : ℕ) (publics
         (all-map _ _ (ledger .equations) (λ eq. all-map _ _ (eq .terms) (λ t h. s .assignment .domain (t .var) ∙ h)) (s .satisfies .named))
         (s .satisfies .holds)))))
 
-  among : Range 31 35 (checkNo ev (ledgerParts ledger n publics) trace)
+  within : Within 31 35 (checkNo ev (ledgerParts ledger n publics) trace)
   unfolding checkNo
-  among =
-      range-then 31 35 _ _ (range-ask 31 35 31 _ (omega arith) (omega arith))
-      (range-then 31 35 _ _ (range-zero 31 35 _ (publics-yes n publics (c .below .publics)))
-      (range-then 31 35 _ _ (widen 32 33 31 35 _ (omega arith) (omega arith) (steps-range ev n start (ledger .queries) trace (c .below .queries)))
-      (widen 34 35 31 35 _ (omega arith) (omega arith) (equations-range end (ledger .equations)))))
+  within =
+      within-then 31 35 _ _ (within-ask 31 35 31 _ (omega arith) (omega arith))
+      (within-then 31 35 _ _ (within-zero 31 35 _ (publics-yes n publics (c .below .publics)))
+      (within-then 31 35 _ _ (widen 32 33 31 35 _ (omega arith) (omega arith) (steps-within ev n start (ledger .queries) trace (c .below .queries)))
+      (widen 34 35 31 35 _ (omega arith) (omega arith) (equations-within end (ledger .equations)))))
 
   only34 : checkNo ev (ledgerParts ledger n publics) trace ≡ 34
       → (t : Term) × At34 end (ledger .equations) t × (known ledger (t .var) ≡ false)
   unfolding checkNo
   only34 e =
-      ⊎-elim (λ z. absurd (outside 31 31 _ 33 (range-ask 31 31 31 _ (omega arith) (omega arith)) z (inr (omega arith))))
+      ⊎-elim (λ z. absurd (outside 31 31 _ 33 (within-ask 31 31 31 _ (omega arith) (omega arith)) z (inr (omega arith))))
       (λ z0. let l : length trace ≡ length (ledger .queries) = eqb-true _ _ (says-yes 30 _ (z0 .0)) in
-      ⊎-elim (λ z. absurd (outside 1 1 _ 33 (range-zero 1 1 _ (publics-yes n publics (c .below .publics))) z (inr (omega arith))))
+      ⊎-elim (λ z. absurd (outside 1 1 _ 33 (within-zero 1 1 _ (publics-yes n publics (c .below .publics))) z (inr (omega arith))))
       (λ z1.
-      ⊎-elim (λ z. absurd (outside 32 33 _ 33 (steps-range ev n start (ledger .queries) trace (c .below .queries)) z (inr (omega arith))))
+      ⊎-elim (λ z. absurd (outside 32 33 _ 33 (steps-within ev n start (ledger .queries) trace (c .below .queries)) z (inr (omega arith))))
       (λ z2. let r = equations-34 end (ledger .equations) (z2 .1) in
       (r .0, r .1, unknown-by _ _ (end-domain l (r .0 .var)) (at-none (r .1))))
       (either _ _ 33 (z1 .1)))
       (either _ _ 33 (z0 .1)))
       (either _ _ 33 e)
 
-  pub checked : Checked Evaluation ledger (ledgerParts ledger n publics) trace (checkNo ev (ledgerParts ledger n publics) trace)
-  checked = record { among = among; below = c .below; only34 = only34; weightless = c .weights; yes = (sound, complete) }
+  pub checked : Checked Evaluation ledger (ledgerParts ledger n publics) trace (outcomeOf (checkNo ev (ledgerParts ledger n publics) trace))
+  checked = record {
+    among = among-by 31 35 _ within;
+    below = c .below;
+    only34 = λ e. only34 (refused-no _ 34 e);
+    weightless = c .weights;
+    yes = (λ a. sound (accepted-no _ a), λ s. ap outcomeOf (complete s));
+  }

@@ -1,15 +1,14 @@
 -- Bytes that a call wrote into lent bytes, words that a read leaves in a store, and answers by number.
 -- Assumes nothing.
 use Prim.Native.Nat.{ℕ, zero, suc, _+_, _-_, _≤_}
-use mathlib.Core.Path.{_≡_, refl, sym, ap, _∙_}
+use mathlib.Core.Path.{_≡_, refl}
 use mathlib.Core.List.{List, []}
 use native.Mathlib.Omega.{arith}
 use lib.ListN.{length, take, drop, replicate, length-append, length-replicate}
 use lib.Seq.{take-append-seam, take-at}
-use Rattle.limits.specs.Questions.{_▸_}
-use Rattle.limits.proofs.Questions.{onYes-yes, ▸-zero}
+use Rattle.limits.proofs.Questions.{onYes-yes}
 use Rattle.narg.specs.Reader.{Got, got, stop}
-use Rattle.limits.specs.Outcome.{outcomeNumber}
+use Rattle.limits.specs.Outcome.{outcomeOf}
 use Rattle.decoding.specs.Read.{File}
 use Rattle.decoding.specs.Sound.{gotAfter}
 use Rattle.encoding.specs.Answers.{writtenOf, writtenOut}
@@ -31,14 +30,10 @@ padded-length len words h = simp (length-append, length-replicate) (omega arith)
 pub got-yes : {A : Type 0} (k : ℕ) (g : Got A) → k ≡ 0 → gotAfter k g ≡ g
 got-yes k g e = onYes-yes k g (stop k) e
 
-pub instance-number : (w k : ℕ) (file : File) → outcomeNumber (instanceAnswer w (gotAfter k (got file [])) .outcome) ≡ k
-instance-number w zero file = refl
-instance-number w (suc k) file = refl
+pub instance-outcome : (w k : ℕ) (file : File) → instanceAnswer w (gotAfter k (got file [])) .outcome ≡ outcomeOf k
+instance-outcome w zero file = refl
+instance-outcome w (suc k) file = refl
 
-pub witness-number : (k : ℕ) (steps : List (List ℕ)) → outcomeNumber (witnessAnswer (gotAfter k (got steps [])) .outcome) ≡ k
-witness-number zero steps = refl
-witness-number (suc k) steps = refl
-
--- a last question
-pub then-last : (a b : ℕ) → (a ▸ 0) ▸ b ≡ a ▸ (b ▸ 0)
-then-last a b = ap (λ (k : ℕ). k ▸ b) (▸-zero a) ∙ ap (λ (k : ℕ). a ▸ k) (sym (▸-zero b))
+pub witness-outcome : (k : ℕ) (steps : List (List ℕ)) → witnessAnswer (gotAfter k (got steps [])) .outcome ≡ outcomeOf k
+witness-outcome zero steps = refl
+witness-outcome (suc k) steps = refl

@@ -11,35 +11,30 @@ use lib.Seq.{length-take-le}
 use Rattle.limits.specs.Numbers.{prime, maxCount, maxWidth, labelEnd}
 use Rattle.limits.specs.Questions.{firstNo}
 use Rattle.limits.proofs.Questions.{join, ask-yes, goes-on}
-use Rattle.words.specs.Store.{All, allBelow}
+use Rattle.words.specs.Store.{All}
 use Rattle.words.specs.Pieces.{pieces, wordsOf}
 use Rattle.utf8.specs.Utf8.{isUtf8}
 use Rattle.permutation.specs.declared.PermutationRelation.{PermutationRelation}
-use Rattle.limits.specs.Outcome.{outcomeNumber}
+use Rattle.limits.specs.Outcome.{outcomeOf}
 use Rattle.permute.specs.Parameters.{parametersOf, soundParameters, isEvaluation}
 use Rattle.instance.specs.Parts.{Parts, partsOf}
 use Rattle.instance.proofs.Facts.{allBelow-facts, Valid}
+use Rattle.compile.specs.Gate.{compileNo}
 use Rattle.validity.specs.Check.{checkNo}
 use Rattle.validity.specs.Valid.{stepsOf, isWitnessValidAsks, isWitnessValidNo, isWitnessValid}
-use Rattle.limits.proofs.Answered.{outcome-number}
 use Rattle.history.specs.Ledger.{Ledger}
 use Rattle.history.specs.Sat.{Evaluates}
 use Rattle.history.specs.Calls.{State}
 use Rattle.history.specs.Demand.{Checked}
+use Rattle.history.specs.Whole.{TraceHeld, Checks}
 use Rattle.history.proofs.Bridge.{ledgerParts}
 use Rattle.history.proofs.Judged.{checked-by}
 use Rattle.history.proofs.Evaluations.{few-words, evaluations-are}
 use Rattle.history.proofs.Keeps.{Agrees}
-use Rattle.history.proofs.Made.{ps, ins, HoldsWords, Sized, parts-held, sizes-yes, sound-yes}
+use Rattle.history.proofs.Made.{ps, ins, HoldsWords, Sized, parts-held, sizes-yes, sound-yes, made, compiles, parts-valid, gate-holds, gate-sized}
 use Rattle.history.proofs.Shapes.{IsTrace}
 
 -- ---- the steps of a trace
--- a trace store that 2 and 11 let through: it holds the steps, and they are units
-pub record TraceHeld (w steps : ℕ) (trace : List ℕ) : Type 0 where
-  pub size : length trace ≤ maxCount
-  pub room : wordsOf w steps ≤ length trace
-  pub units : allBelow prime (take (wordsOf w steps) trace) ≡ true
-
 pieces-lengths : (k n : ℕ) (l : List ℕ) → n * k ≤ length l → All (λ s. length s ≡ k) (pieces k n l)
 pieces-lengths k zero l h = tt
 pieces-lengths k (suc n) l h =
@@ -105,14 +100,24 @@ module _ (s : State) (l : Ledger) (i : Agrees (s .relation .width) s l)
   Evaluation = Evaluates w (parametersOf w rounds params)
 
   pub checks-are : Checked Evaluation l (partsOf (ins s l i) publics queries equations) (stepsOf w steps trace)
-      (outcomeNumber (isWitnessValid (ins s l i) label publics queries equations steps trace rounds params scratch))
+      (isWitnessValid (ins s l i) label publics queries equations steps trace rounds params scratch)
   unfolding isWitnessValidNo
   checks-are =
       let tr = is-trace w steps trace held in
       let ev = isEvaluation w rounds params in
-      subst (λ (n : ℕ). Checked Evaluation l (partsOf (ins s l i) publics queries equations) (stepsOf w steps trace) n)
-      (sym (outcome-number _ ∙ goes-on _ _ questions-yes))
-      (subst (λ (p : Parts). Checked Evaluation l p (stepsOf w steps trace) (checkNo ev p (stepsOf w steps trace)))
+      subst (λ (n : ℕ). Checked Evaluation l (partsOf (ins s l i) publics queries equations) (stepsOf w steps trace) (outcomeOf n))
+      (sym (goes-on _ _ questions-yes))
+      (subst (λ (p : Parts). Checked Evaluation l p (stepsOf w steps trace) (outcomeOf (checkNo ev p (stepsOf w steps trace))))
       (sym (parts-held s l i publics queries equations holds))
       (checked-by w l (rel .vars) (s .slots) (i .inSlots) (i .inQueries .widths) valid ev (stepsOf w steps trace) tr
       Evaluation (evaluations-are w rounds params (i .least) (i .most) sound (stepsOf w steps trace) tr)))
+
+-- ---- after a gate that accepted, with no bytes between
+module _ (s : State) (l : Ledger) (i : Agrees (s .relation .width) s l) (label publics scratch : List ℕ)
+    (gate : compileNo (s .relation) label (s .slots) (s .queries) (s .equations) (length publics) (length scratch) ≡ 0) where
+  pub held-checks : (steps : ℕ) (trace : List ℕ) → TraceHeld (s .relation .width) steps trace
+      → Checks (s .relation .width) l (ins s l i) label (made s l i label publics scratch gate) (s .queries) (s .equations) steps trace
+  held-checks steps trace =
+      let c = compiles s l i label publics scratch gate in
+      checks-are s l i (parts-valid s l i label publics scratch gate) label (c .label-high) (c .label-sound)
+      _ (s .queries) (s .equations) (gate-holds s l i label publics scratch gate) (gate-sized s l i label publics scratch gate) steps trace

@@ -1,29 +1,33 @@
--- Instance A of document 01 through fresh, a list of calls (some refused) on stores that hold anything, the
--- gate and the check; each number of the check once; and what the theorem says of A: it is not empty.
--- Assumes nothing.
+-- Instance A of document 01 through fresh, a list of calls (some refused) on stores that hold anything, the gate,
+-- both byte forms and the check, to its yes and to a no: the theorem is not empty. Then 01's starred examples, by
+-- the definitions that the open functions' contracts cite. Assumes nothing.
 use Prim.Native.Nat.{ℕ}
-use mathlib.Core.Path.{_≡_, refl}
+use mathlib.Core.Path.{_≡_, refl, ap}
 use mathlib.Core.List.{List, [], _∷_, map}
 use native.Mathlib.Omega.{arith}
 use lib.ListN.{replicate}
+use Rattle.limits.specs.Numbers.{unassigned}
 use Rattle.limits.specs.Questions.{ask, _▸_}
+use Rattle.limits.specs.declared.Outcome.{Outcome}
+use Rattle.limits.specs.declared.Outcome.the-variants.{Accepted, Refused}
 use Rattle.words.specs.Store.{allBelow}
 use Rattle.utf8.specs.Utf8.{follow, isUtf8}
 use Rattle.baby_bear.specs.Field.{addUnit, mulUnit, seventh, dotUnits}
 use Rattle.allocator.specs.Slots.{pair, pairNo, setRun}
 use Rattle.expr.specs.Equation.{Term, equation, equationAt, sizeAt}
 use Rattle.expr.specs.declared.Weighted.{Weighted}
-use Rattle.limits.specs.declared.Outcome.the-variants as outcome
 use Rattle.permutation.specs.Numbers.{newRelationNo, allocateVarsNo, setVarNo, setVarsNo, addPermutationNo, allocatePermutationNo, addEquationNo}
-use Rattle.permutation.specs.Answers.{newRelation, setVarsRun}
+use Rattle.permutation.specs.Answers.{relation, newRelation, setVarsRun}
 use Rattle.permute.specs.Permute.{addConstants, raise, timesMatrix, runRound, runRounds, permute}
 use Rattle.permute.specs.Parameters.{roundsOf, rowsOf, parametersOf, soundKinds, unitConstants, unitRows, soundParameters, permuteNo, sameWords, isEvaluation}
-use Rattle.instance.specs.Parts.{Parts, partsOf}
+use Rattle.instance.specs.Parts.{partsOf}
 use Rattle.instance.specs.Held.{equationsSound, publicsSound, slotsSound}
 use Rattle.instance.specs.Validated.{validatedNo, gateNo}
-use Rattle.compile.specs.Gate.{publicsOf, compiledParts, compileNo, compile, compilePublics}
+use Rattle.instance.specs.declared.PermutationInstance.{PermutationInstance}
+use Rattle.compile.specs.Gate.{publicsOf, compiledParts, instanceOf, compileNo, compile, compilePublics}
+use Rattle.compile.specs.declared.Compiled.{Compiled}
 use Rattle.validity.specs.Check.{checkNo}
-use Rattle.validity.specs.Valid.{isWitnessValidNo}
+use Rattle.validity.specs.Valid.{isWitnessValidNo, isWitnessValid}
 use Rattle.narg.specs.Bytes.{u32Bytes}
 use Rattle.narg.specs.Reader.{word, part, below}
 use Rattle.header.specs.Form.{headerBytes}
@@ -36,7 +40,8 @@ use Rattle.roundtrip.proofs.Examples.{outcomes as reads, examples as on-bytes}
 use Rattle.permutation.proofs.Examples.{Examples, examples}
 use Rattle.history.specs.Sat.{Sat, Evaluates}
 use Rattle.history.specs.Calls.{Call, Allocate, Set, SetList, Record, Mint, Equate, Entry, answer, after, noted, ledger, log}
-use Rattle.history.specs.Whole.{FileLent, TraceLent, begin, last, lastLedger}
+use Rattle.history.specs.Whole.{FileLent, TraceLent, compiled, begin, last, lastLedger}
+use Rattle.history.proofs.Outcomes.{accepted-no}
 use Rattle.history.proofs.Theorem.{whole}
 
 abbrev term : ℕ → ℕ → Term
@@ -77,14 +82,15 @@ calls =
     ∷ Allocate 1073741821
     ∷ []
 
-fresh-accepted : newRelation 1 slots .outcome ≡ outcome.Accepted
+fresh-accepted : newRelation 1 slots .outcome ≡ Accepted
 unfolding ask _▸_ newRelationNo
 fresh-accepted = refl
 
 -- 0 to 5 is refused with 8, the list stops at wire 7 with 7, unequal lengths give 9, the mint lacks room (10)
-numbers : map (λ (e : Entry). e .answered .number) (log (begin 1 slots queries equations calls) calls) ≡ 0 ∷ 8 ∷ 7 ∷ 9 ∷ 0 ∷ 0 ∷ 10 ∷ 5 ∷ 6 ∷ []
+outcomes : map (λ (e : Entry). e .answered .outcome) (log (begin 1 slots queries equations calls) calls)
+    ≡ Accepted ∷ Refused 8 ∷ Refused 7 ∷ Refused 9 ∷ Accepted ∷ Accepted ∷ Refused 10 ∷ Refused 5 ∷ Refused 6 ∷ []
 unfolding ask _▸_ newRelationNo allocateVarsNo setVarNo setVarsNo addPermutationNo allocatePermutationNo addEquationNo pairNo setRun setVarsRun allBelow answer after
-numbers = refl
+outcomes = refl
 
 -- the ledger: three wires, wire 2 set to 5, the query 1 to 2, the equation 3 · wire 1 = 6
 ledger-is : lastLedger 1 slots queries equations calls
@@ -92,117 +98,121 @@ ledger-is : lastLedger 1 slots queries equations calls
 unfolding ask _▸_ newRelationNo allocateVarsNo setVarNo setVarsNo addPermutationNo allocatePermutationNo addEquationNo pairNo setRun setVarsRun allBelow answer after noted
 ledger-is = refl
 
-abbrev instanceA : Parts
-instanceA = record {
-  vars = 3;
-  publics = pair 0 0 ∷ pair 2 5 ∷ [];
-  queries = (1 ∷ 2 ∷ []) ∷ [];
-  equations = equation (term 1 3 ∷ []) 6 ∷ [];
-}
+-- two publics, one query, one equation of four words
+abbrev instanceA : PermutationInstance
+instanceA = instanceOf (relation 1 3 1 1 4) 2
 
-gate-parts : compiledParts (last 1 slots queries equations calls .relation) (last 1 slots queries equations calls .slots)
-    (last 1 slots queries equations calls .queries) (last 1 slots queries equations calls .equations) ≡ instanceA
-unfolding ask _▸_ newRelationNo allocateVarsNo setVarNo setVarsNo addPermutationNo allocatePermutationNo addEquationNo pairNo setRun setVarsRun allBelow answer after compiledParts publicsOf equationAt sizeAt
-gate-parts = refl
+gate-A : compiled (last 1 slots queries equations calls) [] publics scratch ≡ record { outcome = Accepted; instance = instanceA }
+unfolding ask _▸_ newRelationNo allocateVarsNo setVarNo setVarsNo addPermutationNo allocatePermutationNo addEquationNo pairNo setRun setVarsRun allBelow answer after compiledParts publicsOf equationAt sizeAt equationsSound slotsSound follow isUtf8 compileNo compile validatedNo gateNo
+gate-A = refl
 
-gate-accepted : compile (last 1 slots queries equations calls .relation) [] (last 1 slots queries equations calls .slots)
-    (last 1 slots queries equations calls .queries) (last 1 slots queries equations calls .equations) publics scratch .outcome
-    ≡ outcome.Accepted
-unfolding ask _▸_ newRelationNo allocateVarsNo setVarNo setVarsNo addPermutationNo allocatePermutationNo addEquationNo pairNo setRun setVarsRun allBelow answer after compiledParts publicsOf equationAt sizeAt equationsSound slotsSound follow isUtf8 compileNo compile
-gate-accepted = refl
+gate-accepted : compiled (last 1 slots queries equations calls) [] publics scratch .outcome ≡ Accepted
+gate-accepted = ap (λ (c : Compiled). c .outcome) gate-A
 
--- ---- the check of A, and of parts that give 34, 35 and 36
-abbrev check : Parts → List (List ℕ) → ℕ
-check parts steps = checkNo (isEvaluation 1 1 params) parts steps
-
-yes-A : check instanceA ((2 ∷ 5 ∷ []) ∷ []) ≡ 0
-unfolding ask _▸_ checkNo isEvaluation permuteNo soundParameters roundsOf rowsOf soundKinds unitConstants unitRows allBelow sameWords runRounds runRound addConstants raise timesMatrix addUnit mulUnit seventh dotUnits
-yes-A = refl
-
-no-31 : check instanceA [] ≡ 31
-unfolding ask _▸_ checkNo
-no-31 = refl
-
-no-32 : check instanceA ((2 ∷ 6 ∷ []) ∷ []) ≡ 32
-unfolding ask _▸_ checkNo isEvaluation permuteNo soundParameters roundsOf rowsOf soundKinds unitConstants unitRows allBelow sameWords runRounds runRound addConstants raise timesMatrix addUnit mulUnit seventh dotUnits
-no-32 = refl
-
-no-33 : check instanceA ((3 ∷ 640 ∷ []) ∷ []) ≡ 33
-unfolding ask _▸_ checkNo isEvaluation permuteNo soundParameters roundsOf rowsOf soundKinds unitConstants unitRows allBelow sameWords runRounds runRound addConstants raise timesMatrix addUnit mulUnit seventh dotUnits
-no-33 = refl
-
--- weight 0 on an allocated unbound wire: gate yes, check 34; weight 1: 15
-abbrev loose : ℕ → Parts
-loose k = record { vars = 2; publics = pair 0 0 ∷ []; queries = []; equations = equation (term 1 k ∷ []) 0 ∷ [] }
-
-gate-34 : validatedNo (loose 0) ≡ 0
-unfolding ask _▸_ validatedNo allBelow
-gate-34 = refl
-
-no-34 : check (loose 0) [] ≡ 34
-unfolding ask _▸_ checkNo
-no-34 = refl
-
-no-15 : validatedNo (loose 1) ≡ 15
-unfolding ask _▸_ validatedNo allBelow
-no-15 = refl
-
--- no terms: image 0 holds, image 1 does not
-abbrev termless : ℕ → Parts
-termless image = record { vars = 1; publics = pair 0 0 ∷ []; queries = []; equations = equation [] image ∷ [] }
-
-yes-termless : check (termless 0) [] ≡ 0
-unfolding ask _▸_ checkNo
-yes-termless = refl
-
-no-35 : check (termless 1) [] ≡ 35
-unfolding ask _▸_ checkNo
-no-35 = refl
-
--- only parts that no gate has seen
-no-36 : check (record { vars = 1; publics = pair 1 0 ∷ []; queries = []; equations = [] }) [] ≡ 36
-unfolding ask _▸_ checkNo
-no-36 = refl
-
--- ---- the theorem at A: the ledger of those calls is satisfied by the trace (2, 5), through both byte forms
--- outputs of exactly 73 and 25 bytes
+-- ---- the theorem at A, through both byte forms into outputs of exactly 73 and 25 bytes
 abbrev lentFile : FileLent
 lentFile = record { label = []; out = replicate 73 7; rooms = record { publics = 4; queries = 2; equations = 4; scratch = 3 } }
 
-abbrev lentTrace : TraceLent
-lentTrace = record { steps = 1; trace = 2 ∷ 5 ∷ 9 ∷ []; out = replicate 25 7; room = 2 }
+abbrev lentTrace : List ℕ → TraceLent
+lentTrace trace = record { steps = 1; trace = trace; out = replicate 25 7; room = 2 }
 
-pub satisfied : Sat (Evaluates 1 (parametersOf 1 1 params)) (lastLedger 1 slots queries equations calls) ((2 ∷ 5 ∷ []) ∷ [])
-unfolding ask _▸_ newRelationNo allocateVarsNo setVarNo setVarsNo addPermutationNo allocatePermutationNo addEquationNo pairNo setRun setVarsRun allBelow answer after compiledParts publicsOf equationAt sizeAt equationsSound publicsSound slotsSound follow isUtf8 compileNo compile compilePublics partsOf checkNo isWitnessValidNo isEvaluation permuteNo soundParameters roundsOf rowsOf soundKinds unitConstants unitRows sameWords runRounds runRound addConstants raise timesMatrix addUnit mulUnit seventh dotUnits validatedNo gateNo instanceToBytesNo instanceBytes headerBytes u32Bytes instanceFromBytes readInstance readFile readHeader readMagic readLabel readParts readPublics readQueries readEquations word part below witnessToBytesNo witnessBytes witnessFromBytes readWitness readSteps labelPart
+abbrev SatA : List (List ℕ) → Type 0
+SatA trace = Sat (Evaluates 1 (parametersOf 1 1 params)) (lastLedger 1 slots queries equations calls) trace
+
+-- the ledger of those calls is satisfied by the trace (2, 5)
+pub satisfied : SatA ((2 ∷ 5 ∷ []) ∷ [])
+unfolding ask _▸_ newRelationNo allocateVarsNo setVarNo setVarsNo addPermutationNo allocatePermutationNo addEquationNo pairNo setRun setVarsRun allBelow answer after compiledParts publicsOf equationAt sizeAt equationsSound slotsSound follow isUtf8 compileNo compile validatedNo gateNo compilePublics publicsSound partsOf checkNo isWitnessValidNo isEvaluation permuteNo soundParameters roundsOf rowsOf soundKinds unitConstants unitRows sameWords runRounds runRound addConstants raise timesMatrix addUnit mulUnit seventh dotUnits instanceToBytesNo instanceBytes headerBytes u32Bytes instanceFromBytes readInstance readFile readHeader readMagic readLabel readParts readPublics readQueries readEquations word part below witnessToBytesNo witnessBytes witnessFromBytes readWitness readSteps labelPart
 satisfied =
-    whole 1 slots queries equations fresh-accepted calls .gated [] publics scratch gate-accepted lentFile
-    .checks refl refl lentTrace refl refl 1 params refl 3 (omega arith) (omega arith)
+    whole 1 slots queries equations fresh-accepted calls .gated [] publics scratch gate-accepted .files lentFile
+    .checks refl refl (lentTrace (2 ∷ 5 ∷ 9 ∷ [])) refl refl 1 params refl 3 (omega arith) (omega arith)
     .yes .0 refl
 
+-- with no bytes between too
+pub satisfied-held : SatA ((2 ∷ 5 ∷ []) ∷ [])
+unfolding ask _▸_ newRelationNo allocateVarsNo setVarNo setVarsNo addPermutationNo allocatePermutationNo addEquationNo pairNo setRun setVarsRun allBelow answer after compiledParts publicsOf equationAt sizeAt equationsSound slotsSound follow isUtf8 compileNo compile validatedNo gateNo compilePublics publicsSound partsOf checkNo isWitnessValidNo isEvaluation permuteNo soundParameters roundsOf rowsOf soundKinds unitConstants unitRows sameWords runRounds runRound addConstants raise timesMatrix addUnit mulUnit seventh dotUnits
+satisfied-held =
+    whole 1 slots queries equations fresh-accepted calls .gated [] publics scratch gate-accepted
+    .checks 1 (2 ∷ 5 ∷ 9 ∷ []) (record { size = omega arith; room = omega arith; units = refl }) 1 params refl 3 (omega arith) (omega arith)
+    .yes .0 refl
+
+-- and not by (3, 640), whose check is 33: no assignment gives wire 2 both 5 and 640
+pub unsatisfied : SatA ((3 ∷ 640 ∷ []) ∷ []) → ⊥
+unfolding ask _▸_ newRelationNo allocateVarsNo setVarNo setVarsNo addPermutationNo allocatePermutationNo addEquationNo pairNo setRun setVarsRun allBelow answer after compiledParts publicsOf equationAt sizeAt equationsSound slotsSound follow isUtf8 compileNo compile validatedNo gateNo compilePublics publicsSound partsOf checkNo isWitnessValidNo isEvaluation permuteNo soundParameters roundsOf rowsOf soundKinds unitConstants unitRows sameWords runRounds runRound addConstants raise timesMatrix addUnit mulUnit seventh dotUnits instanceToBytesNo instanceBytes headerBytes u32Bytes instanceFromBytes readInstance readFile readHeader readMagic readLabel readParts readPublics readQueries readEquations word part below witnessToBytesNo witnessBytes witnessFromBytes readWitness readSteps labelPart
+unsatisfied s =
+    let z : _≡_ {A = ℕ} 33 0 = accepted-no 33
+    (whole 1 slots queries equations fresh-accepted calls .gated [] publics scratch gate-accepted .files lentFile
+    .checks refl refl (lentTrace (3 ∷ 640 ∷ [])) refl refl 1 params refl 3 (omega arith) (omega arith)
+    .yes .1 s) in
+    omega arith
+
+-- ---- an accepted allocate and an accepted mint answer the ledger's count as it was before
+abbrev taking : List Call
+taking = Allocate 2 ∷ Mint (0 ∷ []) ∷ []
+
+pub allocated : answer (begin 1 slots queries equations taking) (Allocate 2) .first ≡ 1
+unfolding ask _▸_ newRelationNo allocateVarsNo setVarNo setVarsNo addPermutationNo allocatePermutationNo addEquationNo pairNo setRun setVarsRun allBelow answer after
+allocated = whole 1 slots queries equations fresh-accepted taking .told .0 .first refl refl
+
+pub minted : answer (after (begin 1 slots queries equations taking) (Allocate 2)) (Mint (0 ∷ [])) .first ≡ 3
+unfolding ask _▸_ newRelationNo allocateVarsNo setVarNo setVarsNo addPermutationNo allocatePermutationNo addEquationNo pairNo setRun setVarsRun allBelow answer after noted
+minted = whole 1 slots queries equations fresh-accepted taking .told .1 .0 .first refl refl
+
 -- ---- document 01's starred examples, all of them, as one fact of the definitions
+-- the gate on wire 0 with 0, another wire of no value, and the equation of that wire with weight k and image 0
+abbrev looseSlots : List ℕ
+looseSlots = 0 ∷ unassigned ∷ []
+
+abbrev looseEquations : ℕ → List ℕ
+looseEquations k = 1 ∷ 1 ∷ k ∷ 0 ∷ []
+
+abbrev loose : ℕ → Compiled
+loose k = compile (relation 1 2 0 1 4) [] looseSlots [] (looseEquations k) publics scratch
+
+abbrev loosePublics : ℕ → List ℕ
+loosePublics k = compilePublics (relation 1 2 0 1 4) [] looseSlots [] (looseEquations k) publics scratch
+
+-- the check without a label, under those parameters
+abbrev check : PermutationInstance → (publics queries equations : List ℕ) → (steps : ℕ) (trace : List ℕ) → Outcome
+check ins publics queries equations steps trace = isWitnessValid ins [] publics queries equations steps trace 1 params 3
+
+-- of A
+abbrev checkA : (steps : ℕ) (trace : List ℕ) → Outcome
+checkA steps trace = check instanceA (0 ∷ 0 ∷ 2 ∷ 5 ∷ []) (1 ∷ 2 ∷ []) (1 ∷ 1 ∷ 3 ∷ 6 ∷ []) steps trace
+
+-- of an equation without terms
+abbrev termless : ℕ → Outcome
+termless image = check (instanceOf (relation 1 1 0 1 2) 1) (0 ∷ 0 ∷ []) [] (0 ∷ image ∷ []) 0 []
+
 pub record Starred : Type 0 where
   -- 2013265920 + 1 and × itself; wire 0 set to 0 and to 5; one wire, 8 slots: allocate 2^30 and 2^30 − 1
   pub calls-are : Examples
   -- weight 0 on an allocated unbound wire: gate yes, check 34; weight 1: 15
-  pub weightless : (validatedNo (loose 0) ≡ 0) × (check (loose 0) [] ≡ 34) × (validatedNo (loose 1) ≡ 15)
+  pub weightless : (loose 0 .outcome ≡ Accepted)
+      × (check (loose 0 .instance) (loosePublics 0) [] (looseEquations 0) 0 [] ≡ Refused 34)
+      × (loose 1 .outcome ≡ Refused 15)
   -- no terms, image 0: holds; image 1: 35
-  pub without-terms : (check (termless 0) [] ≡ 0) × (check (termless 1) [] ≡ 35)
+  pub without-terms : (termless 0 ≡ Accepted) × (termless 1 ≡ Refused 35)
   -- A's 72 bytes, one more byte, equal publics and one more byte; labels C0 80, ED A0 80 and F4 8F BF BF, when read
   pub labels : reads ≡ 20 ∷ 28 ∷ 27 ∷ 25 ∷ 25 ∷ 0 ∷ []
   -- w = 1, one round, kind 0, constant 2013265920, matrix 5: 2 gives 5, 3 gives 640
   pub turned : (permute (parametersOf 1 1 params) (2 ∷ []) ≡ 5 ∷ []) × (permute (parametersOf 1 1 params) (3 ∷ []) ≡ 640 ∷ [])
   -- instance A under it: trace (2,5) yes; none 31; (2,6) 32; (3,640) 33
-  pub A-is : (check instanceA ((2 ∷ 5 ∷ []) ∷ []) ≡ 0) × (check instanceA [] ≡ 31)
-      × (check instanceA ((2 ∷ 6 ∷ []) ∷ []) ≡ 32) × (check instanceA ((3 ∷ 640 ∷ []) ∷ []) ≡ 33)
+  pub A-is : (checkA 1 (2 ∷ 5 ∷ []) ≡ Accepted) × (checkA 0 [] ≡ Refused 31)
+      × (checkA 1 (2 ∷ 6 ∷ []) ≡ Refused 32) × (checkA 1 (3 ∷ 640 ∷ []) ≡ Refused 33)
 
 pub starred : Starred
-unfolding runRounds runRound addConstants raise timesMatrix addUnit mulUnit seventh dotUnits roundsOf rowsOf
+unfolding ask _▸_ allBelow compiledParts publicsOf equationAt sizeAt equationsSound slotsSound follow isUtf8 compileNo compile validatedNo gateNo compilePublics publicsSound partsOf checkNo isWitnessValidNo isEvaluation permuteNo soundParameters roundsOf rowsOf soundKinds unitConstants unitRows sameWords runRounds runRound addConstants raise timesMatrix addUnit mulUnit seventh dotUnits
 starred =
     record {
       calls-are = examples;
-      weightless = (gate-34, no-34, no-15);
-      without-terms = (yes-termless, no-35);
+      weightless = (refl, refl, refl);
+      without-terms = (refl, refl);
       labels = on-bytes .2;
       turned = (refl, refl);
-      A-is = (yes-A, no-31, no-32, no-33);
+      A-is = (refl, refl, refl, refl);
     }
+
+-- 36 comes of parts that no gate has seen
+no-36 : check (instanceOf (relation 1 1 0 0 0) 1) (1 ∷ 0 ∷ []) [] [] 0 [] ≡ Refused 36
+unfolding ask _▸_ allBelow compiledParts publicsOf equationAt sizeAt equationsSound slotsSound follow isUtf8 compileNo compile validatedNo gateNo compilePublics publicsSound partsOf checkNo isWitnessValidNo isEvaluation permuteNo soundParameters roundsOf rowsOf soundKinds unitConstants unitRows sameWords runRounds runRound addConstants raise timesMatrix addUnit mulUnit seventh dotUnits
+no-36 = refl

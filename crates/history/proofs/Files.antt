@@ -1,20 +1,18 @@
 -- An instance through its bytes, after a gate that accepted: what the write and the read still ask, that read
 -- equals written, and the check of what was read. Assumes nothing.
-use Prim.Native.Nat.{ℕ, _+_, _*_, _-_, _≤_, _<_}
-use mathlib.Core.Path.{_≡_, sym, ap, ap₂, _∙_, subst}
-use mathlib.Core.Bool.{true}
+use Prim.Native.Nat.{ℕ, _+_, _*_, _-_, _≤_}
+use mathlib.Core.Path.{_≡_, refl, sym, ap, ap₂, _∙_, subst}
 use mathlib.Core.List.{List, [], _++_}
 use native.Mathlib.Omega.{arith}
-use borrow.Author.Tests.{ltb-true, leb-true, le-leb}
+use borrow.Author.Tests.{le-leb}
 use lib.Dec.{leb}
-use lib.ListN.{length, take, drop, replicate, length-append, length-replicate}
-use lib.Seq.{take-at, take-append-seam}
-use Rattle.limits.specs.Numbers.{maxCount, maxWidth, labelEnd}
+use lib.ListN.{length, take}
+use lib.Seq.{take-append-seam}
+use Rattle.limits.specs.Numbers.{maxCount, maxWidth}
 use Rattle.limits.specs.Questions.{ask, _▸_, Question, firstNo}
 use Rattle.limits.specs.Asks.{widthAsks, storeAsks}
-use Rattle.limits.proofs.Questions.{ask-yes, firstNo-append, accepted-says}
+use Rattle.limits.proofs.Questions.{ask-yes, firstNo-append}
 use Rattle.words.specs.Pieces.{flat, wordsOf}
-use Rattle.utf8.specs.Utf8.{isUtf8}
 use Rattle.narg.specs.Bytes.{u32Bytes}
 use Rattle.narg.specs.Reader.{Got, got}
 use Rattle.allocator.specs.Slots.{Pair}
@@ -22,51 +20,44 @@ use Rattle.expr.specs.Equation.{equationsWords}
 use Rattle.expr.proofs.Held.{two-each}
 use Rattle.permutation.specs.declared.PermutationRelation.{PermutationRelation}
 use Rattle.instance.specs.declared.PermutationInstance.{PermutationInstance}
-use Rattle.instance.specs.Parts.{Parts, pairWords, heldPublics, heldQueries, heldEquations, partsOf}
+use Rattle.instance.specs.Parts.{Parts, pairWords, heldPublics, heldQueries, heldEquations}
 use Rattle.instance.specs.Validated.{validatedNo}
 use Rattle.compile.specs.Gate.{publicsOf, publicsStore, compileNo}
-use Rattle.limits.specs.Outcome.{outcomeNumber}
+use Rattle.limits.specs.Outcome.{outcomeOf}
 use Rattle.instance.proofs.Facts.{allBelow-facts, facts-validated}
 use Rattle.instance.proofs.Parts.{pairWords-length}
-use Rattle.permute.specs.Parameters.{parametersOf, soundParameters}
-use Rattle.validity.specs.Valid.{stepsOf, isWitnessValid}
 use Rattle.header.specs.Form.{version, headerBytes}
 use Rattle.encoding.specs.Form.{instanceBytes, partsBytes}
 use Rattle.decoding.specs.Read.{File, readInstance, file}
 use Rattle.decoding.specs.Sound.{SoundFile, roomAsks, orderAsks, gotAfter}
-use Rattle.encoding.specs.Answers.{instanceToBytes, instanceToBytesAsks, instanceToBytesNo}
+use Rattle.encoding.specs.Answers.{instanceToBytes, instanceToBytesNo}
 use Rattle.decoding.specs.Answers.{instanceFromBytes, instanceAnswer, publicsAfter, queriesAfter, equationsAfter, labelStart, labelPart}
 use Rattle.encoding.specs.declared.Written.{Written}
 use Rattle.decoding.specs.declared.InstanceRead.{InstanceRead}
 use Rattle.encoding.proofs.Length.{length-instanceBytes}
 use Rattle.roundtrip.proofs.Reading.{after-after, read-written}
-use Rattle.limits.proofs.Answered.{outcome-number}
 use Rattle.history.specs.Ledger.{Ledger}
-use Rattle.history.specs.Sat.{Evaluates}
 use Rattle.history.specs.Calls.{State}
-use Rattle.history.specs.Left.{publicCount, instanceLength, instanceWriteLeft, instanceReadLeft}
-use Rattle.history.specs.Demand.{Checked}
-use Rattle.history.specs.Whole.{Accepted, TraceLent, witnessWritten, witnessReadBack, traceReadBack, FileLent, instanceWritten, instanceBytesMade, instanceReadBack, labelReadBack, publicsReadBack, queriesReadBack, equationsReadBack, SameFile, Filed}
+use Rattle.history.specs.Left.{publicCount, fileLength, instanceLength, instanceWriteLeft, instanceReadLeft}
+use Rattle.history.specs.Demand.{Accepted}
+use Rattle.history.specs.Whole.{Checks, TraceLent, witnessWritten, witnessReadBack, traceReadBack, FileLent, instanceWritten, instanceBytesMade, instanceReadBack, labelReadBack, publicsReadBack, queriesReadBack, equationsReadBack, SameFile, Filed}
 use Rattle.history.proofs.Bridge.{ledgerParts}
 use Rattle.history.proofs.Keeps.{Agrees}
-use Rattle.history.proofs.Told.{past, then, accepted-no}
+use Rattle.history.proofs.Outcomes.{past, then, accepted-no}
+use Rattle.history.proofs.Accepted.{InstanceWriteLeft, instanceWriteLeft-yes, instanceReadLeft-yes}
 use Rattle.history.proofs.Gate.{queries-held, equations-held-are, public-count}
-use Rattle.history.proofs.Made.{full, ps, ins, publics-wires, publics-values, HoldsWords, Sized, queries-length, parts-held, sizes-yes, sound-yes, compiles, parts-valid, publics-room}
+use Rattle.history.proofs.Made.{full, ps, ins, publics-wires, publics-values, HoldsWords, Sized, queries-length, parts-held, sizes-yes, sound-yes, compiles, parts-valid, publics-room, gate-holds, gate-sized}
 use Rattle.history.proofs.Sound.{in-order, sound-pairs, sound-queries, sound-equations}
-use Rattle.history.proofs.Bytes.{written-bytes, padded-held, padded-length, got-yes, instance-number}
+use Rattle.history.proofs.Bytes.{written-bytes, padded-held, padded-length, got-yes, instance-outcome}
 use Rattle.history.proofs.Traces.{few, trace-read}
 use Rattle.history.proofs.Checks.{checks-are}
 
 -- ---- what is checked of one instance and label is checked of an equal one
-checked-as : (Evaluation : List ℕ → Type 0) (l : Ledger) (x y : PermutationInstance) (a b publics queries equations : List ℕ) (seen : List (List ℕ))
-    (steps : ℕ) (trace : List ℕ) (rounds : ℕ) (params : List ℕ) (scratch : ℕ) → x ≡ y → a ≡ b
-    → Checked Evaluation l (partsOf y publics queries equations) seen (outcomeNumber (isWitnessValid y b publics queries equations steps trace rounds params scratch))
-    → Checked Evaluation l (partsOf x publics queries equations) seen (outcomeNumber (isWitnessValid x a publics queries equations steps trace rounds params scratch))
-checked-as Evaluation l x y a b publics queries equations seen steps trace rounds params scratch e h c =
-    subst (λ (v : PermutationInstance). Checked Evaluation l (partsOf v publics queries equations) seen (outcomeNumber (isWitnessValid v a publics queries equations steps trace rounds params scratch)))
-    (sym e)
-    (subst (λ (v : List ℕ). Checked Evaluation l (partsOf y publics queries equations) seen (outcomeNumber (isWitnessValid y v publics queries equations steps trace rounds params scratch)))
-    (sym h) c)
+checks-as : (w : ℕ) (l : Ledger) (x y : PermutationInstance) (a b publics queries equations : List ℕ) (steps : ℕ) (trace : List ℕ)
+    → x ≡ y → a ≡ b → Checks w l y b publics queries equations steps trace → Checks w l x a publics queries equations steps trace
+checks-as w l x y a b publics queries equations steps trace e h c =
+    subst (λ (v : PermutationInstance). Checks w l v a publics queries equations steps trace) (sym e)
+    (subst (λ (v : List ℕ). Checks w l y v publics queries equations steps trace) (sym h) c)
 
 -- ---- after a gate that accepted, at the record's own width
 module _ (s : State) (l : Ledger) (i : Agrees (s .relation .width) s l)
@@ -85,54 +76,37 @@ module _ (s : State) (l : Ledger) (i : Agrees (s .relation .width) s l)
   abbrev made : List ℕ
   made = publicsStore (length publics) pairs
 
+  made-holds : HoldsWords s l i made (s .queries) (s .equations)
+  made-holds = gate-holds s l i gateLabel publics scratch gate
+
   abbrev it : PermutationInstance
   it = ins s l i
 
   abbrev parts : Parts
   parts = ledgerParts l (rel .vars) pairs
 
-  -- ---- the stores as the gate left them
-  made-holds : HoldsWords s l i made (s .queries) (s .equations)
-  made-holds = record {
-    publics-words = take-at (pairWords pairs) (replicate (length publics - 2 * length pairs) 0) (2 * length pairs) (pairWords-length pairs);
-    queries-words = queries-held w s l i;
-    equations-words = equations-held-are w s l i;
-  }
-
-  made-sized : Sized s l i made (s .queries) (s .equations)
-  made-sized =
-      let c = compiles s l i gateLabel publics scratch gate in
-      let r = publics-room s l i gateLabel publics scratch gate in
-      let n = pairWords-length pairs in
-      let m : length made ≡ length publics = simp (length-append, length-replicate) (omega arith) in
-      record {
-        publics-size = rw m (c .publics-high);
-        queries-size = c .queries-high;
-        equations-size = c .words-high;
-      }
-
   -- ---- the write
   -- what is written and what is read back
   abbrev written : Written
-  written = instanceWritten w s it made f
+  written = instanceWritten w (s .queries) (s .equations) it made f
 
   abbrev bytesMade : List ℕ
-  bytesMade = instanceBytesMade w s it made f
+  bytesMade = instanceBytesMade w (s .queries) (s .equations) it made f
 
   abbrev back : InstanceRead
-  back = instanceReadBack w s it made f
+  back = instanceReadBack w (s .queries) (s .equations) it made f
 
   abbrev labelBack : List ℕ
-  labelBack = labelReadBack w s it made f
+  labelBack = labelReadBack w (s .queries) (s .equations) it made f
 
   abbrev publicsBack : List ℕ
-  publicsBack = publicsReadBack w s it made f
+  publicsBack = publicsReadBack w (s .queries) (s .equations) it made f
 
   abbrev queriesBack : List ℕ
-  queriesBack = queriesReadBack w s it made f
+  queriesBack = queriesReadBack w (s .queries) (s .equations) it made f
 
   abbrev equationsBack : List ℕ
-  equationsBack = equationsReadBack w s it made f
+  equationsBack = equationsReadBack w (s .queries) (s .equations) it made f
 
   -- the bytes that are meant
   abbrev meant : List ℕ
@@ -151,26 +125,20 @@ module _ (s : State) (l : Ledger) (i : Agrees (s .relation .width) s l)
   bytes-length : length meant ≡ instanceLength w l (length (f .label))
   bytes-length =
       ap length meant-is ∙ length-instanceBytes version w (f .label) parts (i .inQueries .widths)
-      ∙ ap (λ (n : ℕ). 33 + length (f .label) + 8 * n + 8 * (w * length (l .queries)) + 4 * length (equationsWords (l .equations))) publics-count
+      ∙ ap (λ (n : ℕ). fileLength w (length (f .label)) n (length (l .queries)) (length (equationsWords (l .equations)))) publics-count
 
-  writes : outcomeNumber (written .outcome) ≡ firstNo (instanceWriteLeft w l (f .label) (length (f .out)))
+  write-left : writeNo ≡ firstNo (instanceWriteLeft w l (f .label) (length (f .out)))
   unfolding instanceToBytesNo instanceWriteLeft
-  writes =
-      outcome-number _
-      ∙ past _ _ _ (ask-yes 1 _ (le-leb 1 w (i .least))) (past _ _ _ (ask-yes 1 _ (le-leb w maxWidth (i .most)))
-      (sizes-yes s l i made (s .queries) (s .equations) made-holds made-sized _
+  write-left =
+      past _ _ _ (ask-yes 1 _ (le-leb 1 w (i .least))) (past _ _ _ (ask-yes 1 _ (le-leb w maxWidth (i .most)))
+      (sizes-yes s l i made (s .queries) (s .equations) made-holds (gate-sized s l i gateLabel publics scratch gate) _
       ∙ then _ _ _ (sound-yes s l i made (s .queries) (s .equations) made-holds _
       ∙ then _ _ _ (ap (λ (n : ℕ). ask 10 (leb n (length (f .out))) ▸ 0) bytes-length))))
 
   -- ---- the write accepted
   module _ (z : writeNo ≡ 0) where
-    label-size : length (f .label) < labelEnd
-    unfolding instanceToBytesNo
-    label-size = ltb-true _ _ (accepted-says (instanceToBytesAsks it (f .label) made (s .queries) (s .equations) (length (f .out))) tt z 9)
-
-    label-utf8 : isUtf8 (f .label) ≡ true
-    unfolding instanceToBytesNo
-    label-utf8 = accepted-says (instanceToBytesAsks it (f .label) made (s .queries) (s .equations) (length (f .out))) tt z 13
+    label-is-sound : InstanceWriteLeft (f .label)
+    label-is-sound = instanceWriteLeft-yes w l (f .label) (length (f .out)) (sym write-left ∙ z)
 
     sound-file : SoundFile w (f .label) parts
     sound-file =
@@ -180,7 +148,7 @@ module _ (s : State) (l : Ledger) (i : Agrees (s .relation .width) s l)
         let c = compiles s l i gateLabel publics scratch gate in
         let r = publics-room s l i gateLabel publics scratch gate in
         let q = c .queries-high in
-        let e = c .words-high in
+        let e = c .equations-high in
         let h = c .publics-high in
         let qn = queries-length s l i in
         let qf = full (wordsOf w (rel .queries)) (s .queries) (flat (l .queries)) (queries-held w s l i) qn in
@@ -189,8 +157,8 @@ module _ (s : State) (l : Ledger) (i : Agrees (s .relation .width) s l)
         let two = two-each (l .equations) in
         record {
           widthFits = omega arith;
-          labelLength = label-size;
-          labelUtf8 = label-utf8;
+          labelLength = label-is-sound .label-high;
+          labelUtf8 = label-is-sound .label-sound;
           vars = omega arith;
           publicsCount = omega arith;
           publics = sound-pairs pairs (publics-wires s l i) (publics-values s l i);
@@ -233,8 +201,8 @@ module _ (s : State) (l : Ledger) (i : Agrees (s .relation .width) s l)
         (past _ _ _ (ask-yes 27 _ (in-order 0 (take (rel .vars) (s .slots))))
         (ap₂ _▸_ (ap (λ (n : ℕ). ask 16 (leb n (f .rooms .scratch))) (i .count)) (facts-validated parts (parts-valid s l i gateLabel publics scratch gate))))))))))))
 
-    read-number : outcomeNumber (back .outcome) ≡ readNo
-    read-number = ap (λ (g : Got File). outcomeNumber (instanceAnswer w g .outcome)) got-is ∙ instance-number w readNo (file (f .label) parts)
+    read-outcome : back .outcome ≡ outcomeOf readNo
+    read-outcome = ap (λ (g : Got File). instanceAnswer w g .outcome) got-is ∙ instance-outcome w readNo (file (f .label) parts)
 
     -- ---- and the read accepted
     module _ (y : readNo ≡ 0) where
@@ -279,26 +247,25 @@ module _ (s : State) (l : Ledger) (i : Agrees (s .relation .width) s l)
       }
 
       read-sized : Sized s l i publicsBack queriesBack equationsBack
-      unfolding instanceReadLeft
       read-sized =
-          let says = accepted-says (instanceReadLeft w l (f .rooms)) tt (sym read-left ∙ y) in
+          let r = instanceReadLeft-yes w l (f .rooms) (sym read-left ∙ y) in
           let pn = pairWords-length pairs in
           let pc = publics-count in
-          let pr : 2 * publicCount l ≤ f .rooms .publics = leb-true _ _ (says 4) in
+          let pr = r .publics-room in
           let qn = queries-length s l i ∙ ap (wordsOf w) (i .inQueries .counts) in
           let p = ap (λ (g : Got File). length (publicsAfter (f .rooms .publics) g)) got-file
           ∙ padded-length (f .rooms .publics) (pairWords pairs) (omega arith) in
           let q = ap (λ (g : Got File). length (queriesAfter (f .rooms .queries) g)) got-file
-          ∙ padded-length (f .rooms .queries) (flat (l .queries)) (rw qn (leb-true _ _ (says 5))) in
+          ∙ padded-length (f .rooms .queries) (flat (l .queries)) (rw qn (r .queries-room)) in
           let e = ap (λ (g : Got File). length (equationsAfter (f .rooms .equations) g)) got-file
-          ∙ padded-length (f .rooms .equations) (equationsWords (l .equations)) (leb-true _ _ (says 6)) in
+          ∙ padded-length (f .rooms .equations) (equationsWords (l .equations)) (r .equations-room) in
           record {
-            publics-size = rw p (leb-true _ _ (says 0));
-            queries-size = rw q (leb-true _ _ (says 1));
-            equations-size = rw e (leb-true _ _ (says 2));
+            publics-size = rw p (r .publics-high);
+            queries-size = rw q (r .queries-high);
+            equations-size = rw e (r .equations-high);
           }
 
-      same-file : SameFile w s it made f
+      same-file : SameFile w (s .queries) (s .equations) it made f
       same-file = record {
         instance = instance-is;
         label = label-is;
@@ -307,36 +274,27 @@ module _ (s : State) (l : Ledger) (i : Agrees (s .relation .width) s l)
         equations = read-holds .equations-words ∙ sym (made-holds .equations-words);
       }
 
-      read-checked : (t : TraceLent) → Accepted (witnessWritten w t .outcome) → Accepted (witnessReadBack w t .outcome)
-          → (rounds : ℕ) (params : List ℕ) → soundParameters w rounds params ≡ true
-          → (scratch' : ℕ) → back .instance .vars ≤ scratch' → scratch' ≤ maxCount
-          → Checked (Evaluates w (parametersOf w rounds params)) l
-          (partsOf (back .instance) publicsBack queriesBack equationsBack)
-          (stepsOf w (witnessReadBack w t .steps) (traceReadBack w t))
-          (outcomeNumber (isWitnessValid (back .instance) labelBack
-          publicsBack queriesBack equationsBack
-          (witnessReadBack w t .steps) (traceReadBack w t) rounds params scratch'))
-      read-checked t a b rounds params sound scratch' room size =
-          checked-as (Evaluates w (parametersOf w rounds params)) l
-          _ it _ (f .label) publicsBack queriesBack equationsBack
-          (stepsOf w (witnessReadBack w t .steps) (traceReadBack w t)) (witnessReadBack w t .steps) (traceReadBack w t) rounds params scratch'
+      read-checks : (t : TraceLent) → Accepted (witnessWritten w t .outcome) → Accepted (witnessReadBack w t .outcome)
+          → Checks w l (back .instance) labelBack publicsBack queriesBack equationsBack (witnessReadBack w t .steps) (traceReadBack w t)
+      read-checks t a b =
+          checks-as w l _ it _ (f .label) publicsBack queriesBack equationsBack (witnessReadBack w t .steps) (traceReadBack w t)
           instance-is label-is
-          (checks-are s l i (parts-valid s l i gateLabel publics scratch gate) (f .label) label-size label-utf8
+          (checks-are s l i (parts-valid s l i gateLabel publics scratch gate)
+          (f .label) (label-is-sound .label-high) (label-is-sound .label-sound)
           publicsBack queriesBack equationsBack read-holds read-sized
-          (witnessReadBack w t .steps) (traceReadBack w t) (trace-read w (i .least) (i .most) t a b) rounds params sound scratch'
-          (subst (λ (x : PermutationInstance). x .vars ≤ scratch') instance-is room) size)
+          (witnessReadBack w t .steps) (traceReadBack w t) (trace-read w (i .least) (i .most) t a b))
 
   written-no : Accepted (written .outcome) → writeNo ≡ 0
   written-no a = accepted-no writeNo a
 
-  read-no : (a : Accepted (written .outcome)) → Accepted (back .outcome)
-      → readNo (written-no a) ≡ 0
-  read-no a b = sym (read-number (written-no a)) ∙ ap outcomeNumber b
+  read-no : (a : Accepted (written .outcome)) → Accepted (back .outcome) → readNo (written-no a) ≡ 0
+  read-no a b = accepted-no _ (sym (read-outcome (written-no a)) ∙ b)
 
-  pub filed : Filed w s it made f l
+  pub filed : Filed w (s .queries) (s .equations) it made f l
+  unfolding instanceToBytesNo
   filed = record {
-    writes = writes;
-    reads = λ a. read-number (written-no a) ∙ read-left (written-no a);
+    writes = record { by-questions = refl; by-ledger = ap outcomeOf write-left };
+    reads = λ a. read-outcome (written-no a) ∙ ap outcomeOf (read-left (written-no a));
     same = λ a b. same-file (written-no a) (read-no a b);
-    checks = λ a b. read-checked (written-no a) (read-no a b);
+    checks = λ a b. read-checks (written-no a) (read-no a b);
   }

@@ -28,15 +28,15 @@ use Rattle.instance.specs.Validated.{termwiseAsks, validatedNo}
 use Rattle.compile.specs.Gate.{publicsFrom, publicsOf, compiledParts, compileNo}
 use Rattle.instance.proofs.Facts.{facts-allBelow, SoundSlot, facts-slotsSound}
 use Rattle.compile.proofs.Rising.{publicsOf-below}
-use Rattle.history.specs.Ledger.{Ledger, known}
+use Rattle.history.specs.Ledger.{Ledger}
 use Rattle.history.specs.Calls.{State}
-use Rattle.history.specs.Left.{numberOf, publicCount, compileLeft}
+use Rattle.history.specs.Left.{numberOf, publicCount, validatedLeft, compileLeft}
 use Rattle.history.specs.Demand.{lengthsOf}
 use Rattle.history.proofs.Bridge.{ledgerParts}
 use Rattle.history.proofs.Publics.{look-domain}
 use Rattle.history.proofs.Judged.{bound-is}
 use Rattle.history.proofs.Keeps.{Agrees}
-use Rattle.history.proofs.Told.{past, then}
+use Rattle.history.proofs.Outcomes.{past, then}
 
 -- the first words of a store that begins with these
 begins-take : (words store : List ℕ) (n : ℕ) → n ≡ length words → Begins words store → take n store ≡ words
@@ -132,8 +132,7 @@ module _ (w : ℕ) (s : State) (l : Ledger) (i : Agrees w s l) where
   unfolding publicsOf
   wires-below = publicsOf-below rel (s .slots)
 
-  validated-left : validatedNo (compiledParts rel (s .slots) (s .queries) (s .equations))
-      ≡ ask 13 (allBelow (l .count) (flat (l .queries))) ▸ firstNo (termwiseAsks (l .count) (known l) (l .equations))
+  pub validated-left : validatedNo (compiledParts rel (s .slots) (s .queries) (s .equations)) ≡ firstNo (validatedLeft l)
   unfolding validatedNo
   validated-left =
       let o = i .inSlots in

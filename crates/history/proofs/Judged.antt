@@ -7,6 +7,7 @@ use mathlib.Core.Bool.{Bool, true, false, _||_, or-false}
 use mathlib.Core.Logic.{_⊎_, inl, inr, _↔_}
 use mathlib.Core.List.{List}
 use lib.ListN.{length, take}
+use Rattle.limits.specs.Outcome.{outcomeOf}
 use Rattle.words.specs.Store.{All}
 use Rattle.words.specs.Pieces.{flat}
 use Rattle.words.proofs.Lists.{all-map}
@@ -64,5 +65,5 @@ module _ (w : ℕ) (ledger : Ledger) (n : ℕ) (slots : List ℕ) (o : HoldsSlot
   pub checked-by : Valid (ledgerParts ledger n publics)
       → (ev : List ℕ → Bool) (trace : List (List ℕ)) → IsTrace w trace
       → (Evaluation : List ℕ → Type 0) → All (λ s. ev s ≡ true) trace ↔ All Evaluation trace
-      → Checked Evaluation ledger (ledgerParts ledger n publics) trace (checkNo ev (ledgerParts ledger n publics) trace)
+      → Checked Evaluation ledger (ledgerParts ledger n publics) trace (outcomeOf (checkNo ev (ledgerParts ledger n publics) trace))
   checked-by v ev trace tr Evaluation same-steps = checked ev w ledger n publics (carries v) trace tr Evaluation same-steps

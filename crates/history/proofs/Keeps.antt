@@ -1,15 +1,19 @@
 -- Each call keeps record and stores in step with the ledger, so every list of calls does: what the ledger notes
 -- of a call and its answer is what the relation's own laws say of it. Assumes nothing.
-use Prim.Native.Nat.{ℕ}
-use mathlib.Core.Path.{_≡_}
+use Prim.Native.Nat.{ℕ, zero, suc}
+use mathlib.Core.Path.{_≡_, refl, subst}
 use mathlib.Core.List.{List, [], _∷_}
+use lib.ListN.{length}
+use Rattle.limits.specs.Questions.{pick, onYes}
+use Rattle.limits.specs.Outcome.{outcomeOf, outcomeNumber, isAccepted}
 use Rattle.expr.specs.Weighted.{termsOf}
-use Rattle.limits.specs.Outcome.{outcomeNumber}
-use Rattle.permutation.specs.Answers.{newRelation}
+use Rattle.permutation.specs.Answers.{firstOf, firstNumber, newRelation}
+use Rattle.permutation.specs.Numbers.{allocateVarsNo, setVarNo, addPermutationNo, allocatePermutationNo, addEquationNo}
 use Rattle.permutation.specs.State.{Holds}
+use Rattle.permutation.specs.declared.PermutationRelation.{PermutationRelation}
 use Rattle.permutation.proofs.Keeps.{new-holds, allocateVars-keeps, setVar-keeps, setVars-keeps, addPermutation-keeps, allocatePermutation-keeps, addEquation-keeps}
 use Rattle.history.specs.Ledger.{Ledger}
-use Rattle.history.specs.Calls.{Call, Allocate, Set, SetList, Record, Mint, Equate, State, answer, after, fresh, firstLedger, noted, log, final, ledgerOf}
+use Rattle.history.specs.Calls.{Call, Allocate, Set, SetList, Record, Mint, Equate, State, answer, after, fresh, firstOutcome, ledger, firstLedger, noted, log, final, ledgerOf}
 
 -- record and stores hold what the ledger says, at the width given to fresh
 abbrev pub Agrees : ℕ → State → Ledger → Type 0
@@ -20,14 +24,52 @@ pub fresh-agrees : (w : ℕ) (slots queries equations : List ℕ) → outcomeNum
     → Agrees w (fresh w slots queries equations) firstLedger
 fresh-agrees w slots queries equations z = new-holds w slots queries equations z
 
-pub keeps : (w : ℕ) (s : State) (l : Ledger) → Agrees w s l → (c : Call) → Agrees w (after s c) (noted w l c (answer s c))
-unfolding after noted answer
-keeps w s l i (Allocate n) = allocateVars-keeps w _ _ _ _ _ _ _ _ i n
-keeps w s l i (Set p) = setVar-keeps w _ _ _ _ _ _ _ _ i p
-keeps w s l i (SetList vars values) = setVars-keeps w _ _ _ _ _ _ _ _ i vars values
-keeps w s l i (Record input output) = addPermutation-keeps w _ _ _ _ _ _ _ _ i input output
-keeps w s l i (Mint input) = allocatePermutation-keeps w _ _ _ _ _ _ _ _ i input
-keeps w s l i (Equate terms image) = addEquation-keeps w _ _ _ _ _ _ _ _ i (termsOf terms) image
+-- ---- a ledger by the parts that a number changes, and whole by the outcome that the number makes
+on-outcome : (k : ℕ) {A : Type 0} (f : A → Ledger) (new old : A)
+    → f (onYes (outcomeNumber (outcomeOf k)) new old) ≡ pick (isAccepted (outcomeOf k)) (f new) (f old)
+on-outcome zero f new old = refl
+on-outcome (suc k) f new old = refl
+
+on-first : (k v : ℕ) {A : Type 0} (f : A → Ledger) (new old : A)
+    → f (onYes (firstNumber (firstOf k v)) new old) ≡ pick (isAccepted (firstOutcome (firstOf k v))) (f new) (f old)
+on-first zero v f new old = refl
+on-first (suc k) v f new old = refl
+
+-- two parts
+on-both : (k v : ℕ) {A B : Type 0} (f : A → B → Ledger) (new old : A) (more less : B)
+    → f (onYes (firstNumber (firstOf k v)) new old) (onYes (firstNumber (firstOf k v)) more less)
+    ≡ pick (isAccepted (firstOutcome (firstOf k v))) (f new more) (f old less)
+on-both zero v f new old more less = refl
+on-both (suc k) v f new old more less = refl
+
+module _ (w : ℕ) (s : State) (l : Ledger) (i : Agrees w s l) where
+  abbrev rel : PermutationRelation
+  rel = s .relation
+
+  pub keeps : (c : Call) → Agrees w (after s c) (noted w l c (answer s c))
+  unfolding after noted answer
+  keeps (Allocate n) =
+      subst (Agrees w (after s (Allocate n)))
+      (on-first (allocateVarsNo rel (length (s .slots)) n) (rel .vars) (λ m. ledger m (l .sets) (l .queries) (l .equations)) _ _)
+      (allocateVars-keeps w _ _ _ _ _ _ _ _ i n)
+  keeps (Set p) =
+      subst (Agrees w (after s (Set p)))
+      (on-outcome (setVarNo rel (s .slots) p) (λ m. ledger (l .count) m (l .queries) (l .equations)) _ _)
+      (setVar-keeps w _ _ _ _ _ _ _ _ i p)
+  keeps (SetList vars values) = setVars-keeps w _ _ _ _ _ _ _ _ i vars values
+  keeps (Record input output) =
+      subst (Agrees w (after s (Record input output)))
+      (on-outcome (addPermutationNo rel (length (s .queries)) input output) (λ m. ledger (l .count) (l .sets) m (l .equations)) _ _)
+      (addPermutation-keeps w _ _ _ _ _ _ _ _ i input output)
+  keeps (Mint input) =
+      subst (Agrees w (after s (Mint input)))
+      (on-both (allocatePermutationNo rel (length (s .slots)) (length (s .queries)) input) (rel .vars)
+      (λ m q. ledger m (l .sets) q (l .equations)) _ _ _ _)
+      (allocatePermutation-keeps w _ _ _ _ _ _ _ _ i input)
+  keeps (Equate terms image) =
+      subst (Agrees w (after s (Equate terms image)))
+      (on-outcome (addEquationNo rel (length (s .equations)) (termsOf terms) image) (λ m. ledger (l .count) (l .sets) (l .queries) m) _ _)
+      (addEquation-keeps w _ _ _ _ _ _ _ _ i (termsOf terms) image)
 
 -- every list of calls
 pub keeps-all : (w : ℕ) (cs : List Call) (s : State) (l : Ledger) → Agrees w s l → Agrees w (final s cs) (ledgerOf w l (log s cs))

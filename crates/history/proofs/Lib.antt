@@ -1,3 +1,5 @@
+pub mod Outcomes
+pub mod Accepted
 pub mod Sums
 pub mod Carry
 pub mod Walk

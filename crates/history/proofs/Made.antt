@@ -7,7 +7,8 @@ use mathlib.Core.List.{List, [], append-nil}
 use native.Mathlib.Omega.{arith}
 use borrow.Author.Tests.{le-leb}
 use lib.Dec.{leb}
-use lib.ListN.{length, take, length-take}
+use lib.ListN.{length, take, replicate, length-take, length-append, length-replicate}
+use lib.Seq.{take-at}
 use Rattle.limits.specs.Numbers.{prime, maxCount}
 use Rattle.limits.specs.Questions.{ask, _▸_}
 use Rattle.limits.proofs.Questions.{ask-yes, onYes-yes}
@@ -24,16 +25,17 @@ use Rattle.instance.specs.Parts.{pairVars, pairValues, pairWords, pairsAt, held
 use Rattle.instance.specs.Held.{publicsSound, equationsSound}
 use Rattle.compile.specs.Gate.{publicsFrom, publicsOf, instanceOf, publicsStore, compileNo, compile, compilePublics}
 use Rattle.instance.proofs.Parts.{pairWords-length, pairsAt-pairWords}
-use Rattle.instance.proofs.Facts.{facts-allBelow, Valid}
-use Rattle.compile.proofs.Facts.{Compiles, compile-facts}
+use Rattle.instance.proofs.Facts.{facts-allBelow, Valid, validated-facts}
 use Rattle.compile.proofs.Rising.{publicsOf-values}
 use Rattle.history.specs.Ledger.{Ledger}
 use Rattle.history.specs.Calls.{State}
+use Rattle.history.specs.Demand.{lengthsOf}
 use Rattle.history.specs.Whole.{compiled, publicsMade}
 use Rattle.history.proofs.Bridge.{ledgerParts}
 use Rattle.history.proofs.Keeps.{Agrees}
-use Rattle.history.proofs.Told.{past}
-use Rattle.history.proofs.Gate.{wires-below, queries-held, equations-held-are, queries-are, equations-are, parts-are, equations-sound, slots-are-sound}
+use Rattle.history.proofs.Outcomes.{past}
+use Rattle.history.proofs.Accepted.{CompileLeft, compileLeft-yes}
+use Rattle.history.proofs.Gate.{wires-below, validated-left, public-count, compile-left, queries-held, equations-held-are, queries-are, equations-are, parts-are, equations-sound, slots-are-sound}
 
 -- ---- publics as words
 pairs-words : (ps : List Pair) → pairsAt (length ps) (pairWords ps) ≡ ps
@@ -138,13 +140,29 @@ module _ (s : State) (l : Ledger) (i : Agrees (s .relation .width) s l) where
     unfolding compilePublics publicsOf
     made-is = onYes-yes _ _ _ gate
 
-    -- what the gate's yes says
-    pub compiles : Compiles rel label (s .slots) (s .queries) (s .equations) (length publics) (length scratch)
-    compiles = compile-facts rel label (s .slots) (s .queries) (s .equations) publics scratch gate
+    -- what the gate's yes says, by the ledger: however the gate comes to its number
+    pub compiles : CompileLeft (lengthsOf s) l label (length publics)
+    compiles = compileLeft-yes _ _ _ _ _ (sym (compile-left (rel .width) s l i label (length publics) (length scratch)) ∙ gate)
 
     pub parts-valid : Valid (ledgerParts l (rel .vars) ps)
-    parts-valid = subst Valid (parts-are (rel .width) s l i) (compiles .valid)
+    parts-valid = subst Valid (parts-are (rel .width) s l i) (validated-facts _ (validated-left (rel .width) s l i ∙ compiles .valid))
 
     pub publics-room : 2 * length ps ≤ length publics
     unfolding publicsOf
-    publics-room = compiles .room
+    publics-room = let n = public-count (rel .width) s l i in let r = compiles .room in rw n r
+
+    -- the stores as the gate left them
+    pub gate-holds : HoldsWords made (s .queries) (s .equations)
+    gate-holds = record {
+      publics-words = take-at (pairWords ps) (replicate (length publics - 2 * length ps) 0) (2 * length ps) (pairWords-length ps);
+      queries-words = queries-held (rel .width) s l i;
+      equations-words = equations-held-are (rel .width) s l i;
+    }
+
+    pub gate-sized : Sized made (s .queries) (s .equations)
+    gate-sized =
+        let c = compiles in
+        let r = publics-room in
+        let n = pairWords-length ps in
+        let m : length made ≡ length publics = simp (length-append, length-replicate) (omega arith) in
+        record { publics-size = rw m (c .publics-high); queries-size = c .queries-high; equations-size = c .equations-high }

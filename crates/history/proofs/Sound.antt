@@ -9,7 +9,7 @@ use borrow.Author.Tests.{ltb-true, lt-ltb}
 use lib.Dec.{eqb, ltb}
 use lib.ListN.{length, length-append}
 use Rattle.limits.specs.Numbers.{prime, maxCount, unassigned}
-use Rattle.limits.specs.Questions.{pick, ask}
+use Rattle.limits.specs.Questions.{pick}
 use Rattle.words.specs.Store.{All, allBelow}
 use Rattle.words.specs.Pieces.{flat}
 use Rattle.allocator.specs.Slots.{Pair, pair}

@@ -12,6 +12,7 @@ use native.Mathlib.Omega.{arith}
 use borrow.Author.Tests.{lt-ltb}
 use lib.Dec.{eqb}
 use Rattle.limits.specs.Questions.{ask, _▸_}
+use Rattle.limits.specs.Outcome.{outcomeOf}
 use Rattle.limits.proofs.Questions.{join, ask-yes}
 use Rattle.words.specs.Store.{All}
 use Rattle.words.specs.Pieces.{flat}
@@ -20,29 +21,39 @@ use Rattle.allocator.specs.Values.{Values, isSome, put, putAll}
 use Rattle.expr.specs.Equation.{Term, Equation}
 use Rattle.instance.specs.Parts.{pairVars}
 use Rattle.validity.specs.Check.{publicsNo, cellsNo, stepsNo, termsNo, equationNo, equationsNo, sumFrom}
-use Rattle.history.specs.Demand.{Range, At34, in-this, later}
+use Rattle.history.specs.Demand.{Among, At34, in-this, later}
 use Rattle.history.proofs.Shapes.{all-left, all-right, below-pairs}
 
 -- ---- numbers
-pub range-then : (lo hi a b : ℕ) → Range lo hi a → Range lo hi b → Range lo hi (a ▸ b)
+-- 0, or a number from lo to hi
+abbrev pub Within : ℕ → ℕ → ℕ → Type 0
+Within lo hi a = (a ≡ 0) ⊎ ((lo ≤ a) × (a ≤ hi))
+
+-- the outcome of such a number
+pub among-by : (lo hi a : ℕ) → Within lo hi a → Among lo hi (outcomeOf a)
+among-by lo hi zero r = tt
+among-by lo hi (suc k) (inl e) = absurd (let z : ⊥ = omega arith in z)
+among-by lo hi (suc k) (inr r) = r
+
+pub within-then : (lo hi a b : ℕ) → Within lo hi a → Within lo hi b → Within lo hi (a ▸ b)
 unfolding _▸_
-range-then lo hi zero b r s = s
-range-then lo hi (suc k) b r s = r
+within-then lo hi zero b r s = s
+within-then lo hi (suc k) b r s = r
 
-pub range-ask : (lo hi k : ℕ) (b : Bool) → lo ≤ k → k ≤ hi → Range lo hi (ask k b)
+pub within-ask : (lo hi k : ℕ) (b : Bool) → lo ≤ k → k ≤ hi → Within lo hi (ask k b)
 unfolding ask
-range-ask lo hi k true p q = inl refl
-range-ask lo hi k false p q = inr (p, q)
+within-ask lo hi k true p q = inl refl
+within-ask lo hi k false p q = inr (p, q)
 
-pub range-zero : (lo hi a : ℕ) → a ≡ 0 → Range lo hi a
-range-zero lo hi a e = inl e
+pub within-zero : (lo hi a : ℕ) → a ≡ 0 → Within lo hi a
+within-zero lo hi a e = inl e
 
-pub widen : (lo hi l h a : ℕ) → l ≤ lo → hi ≤ h → Range lo hi a → Range l h a
+pub widen : (lo hi l h a : ℕ) → l ≤ lo → hi ≤ h → Within lo hi a → Within l h a
 widen lo hi l h a p q (inl e) = inl e
 widen lo hi l h a p q (inr r) = inr (omega arith)
 
--- a number outside of the range is not ask-yes
-pub outside : (lo hi a k : ℕ) → Range lo hi a → a ≡ suc k → (suc k < lo) ⊎ (hi < suc k) → ⊥
+-- a number outside of the range is not answered
+pub outside : (lo hi a k : ℕ) → Within lo hi a → a ≡ suc k → (suc k < lo) ⊎ (hi < suc k) → ⊥
 outside lo hi a k (inl z) e (inl h) = omega arith
 outside lo hi a k (inl z) e (inr h) = omega arith
 outside lo hi a k (inr z) e (inl h) = omega arith
@@ -58,32 +69,32 @@ pub publics-yes : (n : ℕ) (ps : List Pair) → All (λ x. x < n) (pairVars ps)
 publics-yes n [] a = refl
 publics-yes n (p ∷ ps) a = join _ _ (ask-yes 36 _ (lt-ltb (p .var) n (a .0))) (publics-yes n ps (a .1))
 
-cells-range : (n : ℕ) (g : Values) (ps : List Pair) → All (λ (p : Pair). p .var < n) ps → Range 32 33 (cellsNo n g ps)
-cells-range n g [] a = inl refl
-cells-range n g (p ∷ ps) a =
-    range-then 32 33 _ _ (range-zero 32 33 _ (ask-yes 36 _ (lt-ltb (p .var) n (a .0))))
-    (range-then 32 33 _ _ (range-ask 32 33 33 _ (omega arith) (omega arith)) (cells-range n (put p g) ps (a .1)))
+cells-within : (n : ℕ) (g : Values) (ps : List Pair) → All (λ (p : Pair). p .var < n) ps → Within 32 33 (cellsNo n g ps)
+cells-within n g [] a = inl refl
+cells-within n g (p ∷ ps) a =
+    within-then 32 33 _ _ (within-zero 32 33 _ (ask-yes 36 _ (lt-ltb (p .var) n (a .0))))
+    (within-then 32 33 _ _ (within-ask 32 33 33 _ (omega arith) (omega arith)) (cells-within n (put p g) ps (a .1)))
 
-pub steps-range : (ev : List ℕ → Bool) (n : ℕ) (g : Values) (qs ss : List (List ℕ)) → All (λ x. x < n) (flat qs) → Range 32 33 (stepsNo ev n g qs ss)
-steps-range ev n g [] ss a = inl refl
-steps-range ev n g (q ∷ qs) [] a = inl refl
-steps-range ev n g (q ∷ qs) (s ∷ ss) a =
-    range-then 32 33 _ _ (range-ask 32 33 32 _ (omega arith) (omega arith))
-    (range-then 32 33 _ _ (cells-range n g (pairs q s) (below-pairs _ q s (all-left _ q (flat qs) a)))
-    (steps-range ev n (putAll g (pairs q s)) qs ss (all-right _ q (flat qs) a)))
+pub steps-within : (ev : List ℕ → Bool) (n : ℕ) (g : Values) (qs ss : List (List ℕ)) → All (λ x. x < n) (flat qs) → Within 32 33 (stepsNo ev n g qs ss)
+steps-within ev n g [] ss a = inl refl
+steps-within ev n g (q ∷ qs) [] a = inl refl
+steps-within ev n g (q ∷ qs) (s ∷ ss) a =
+    within-then 32 33 _ _ (within-ask 32 33 32 _ (omega arith) (omega arith))
+    (within-then 32 33 _ _ (cells-within n g (pairs q s) (below-pairs _ q s (all-left _ q (flat qs) a)))
+    (steps-within ev n (putAll g (pairs q s)) qs ss (all-right _ q (flat qs) a)))
 
-terms-range : (g : Values) (ts : List Term) → Range 34 34 (termsNo g ts)
-terms-range g [] = inl refl
-terms-range g (t ∷ ts) = range-then 34 34 _ _ (range-ask 34 34 34 _ (omega arith) (omega arith)) (terms-range g ts)
+terms-within : (g : Values) (ts : List Term) → Within 34 34 (termsNo g ts)
+terms-within g [] = inl refl
+terms-within g (t ∷ ts) = within-then 34 34 _ _ (within-ask 34 34 34 _ (omega arith) (omega arith)) (terms-within g ts)
 
-pub equations-range : (g : Values) (es : List Equation) → Range 34 35 (equationsNo g es)
-equations-range g [] = inl refl
-equations-range g (e ∷ es) =
-    range-then 34 35 _ _
-    (range-then 34 35 _ _ (widen 34 34 34 35 _ (omega arith) (omega arith) (terms-range g (e .terms))) (range-ask 34 35 35 _ (omega arith) (omega arith)))
-    (equations-range g es)
+pub equations-within : (g : Values) (es : List Equation) → Within 34 35 (equationsNo g es)
+equations-within g [] = inl refl
+equations-within g (e ∷ es) =
+    within-then 34 35 _ _
+    (within-then 34 35 _ _ (widen 34 34 34 35 _ (omega arith) (omega arith) (terms-within g (e .terms))) (within-ask 34 35 35 _ (omega arith) (omega arith)))
+    (equations-within g es)
 
--- ---- where 34 is ask-yes
+-- ---- where 34 is answered
 none-by : (o : Option ℕ) → ask 34 (isSome o) ≡ 34 → o ≡ none
 unfolding ask
 none-by none e = refl
@@ -118,7 +129,7 @@ terms-34 g (t ∷ ts) e = go (λ z. terms-34 g ts z) (either _ _ 33 e)
 equation-34 : (g : Values) (e : Equation) → equationNo g e ≡ 34 → TermAt g (e .terms)
 equation-34 g e z =
     ⊎-elim (terms-34 g (e .terms))
-    (λ q. absurd (outside 35 35 _ 33 (range-ask 35 35 35 (eqb (sumFrom 0 g (e .terms)) (e .image)) (omega arith) (omega arith)) (q .1) (inl (omega arith))))
+    (λ q. absurd (outside 35 35 _ 33 (within-ask 35 35 35 (eqb (sumFrom 0 g (e .terms)) (e .image)) (omega arith) (omega arith)) (q .1) (inl (omega arith))))
     (either _ _ 33 z)
 
 pub equations-34 : (g : Values) (es : List Equation) → equationsNo g es ≡ 34 → (t : Term) × At34 g es t

@@ -1,48 +1,40 @@
--- Along a list of calls: each answers the first no of its questions, which is the first no of those that
+-- Along a list of calls: each answers by the first no of its questions, which is the first no of those that
 -- ledger and lengths leave; and an accepted allocate or mint answers the ledger's count. Assumes nothing.
 use Prim.Native.Nat.{ℕ, zero, suc, _+_}
 use mathlib.Core.Path.{_≡_, refl, sym, ap, ap₂, _∙_}
-use mathlib.Core.Bool.{Bool, true, false}
+use mathlib.Core.Bool.{true}
 use mathlib.Core.List.{List, [], _∷_, _++_}
 use lib.Dec.{eqb}
 use lib.ListN.{length, set}
 use Rattle.limits.specs.Questions.{ask, _▸_, question, firstNo, onYes}
-use Rattle.limits.proofs.Questions.{goes-on, ▸-zero, firstNo-append}
+use Rattle.limits.proofs.Questions.{▸-zero, firstNo-append}
 use Rattle.allocator.specs.Slots.{Pair, pairs, pairAsks, pairNo, ran, SetRun, setRun}
 use Rattle.expr.specs.Weighted.{termsOf}
 use Rattle.limits.specs.declared.Outcome.the-variants as outcome
+use Rattle.permutation.specs.declared.PermutationRelation.{PermutationRelation}
+use Rattle.permutation.specs.declared.First.{First}
+use Rattle.permutation.specs.declared.First.the-variants as first
 use Rattle.permutation.specs.Relation.{setVarsAsks}
 use Rattle.permutation.specs.Numbers.{allocateVarsNo, setVarNo, setVarsNo, addPermutationNo, allocatePermutationNo, addEquationNo}
 use Rattle.limits.specs.Outcome.{outcomeOf}
-use Rattle.permutation.specs.Answers.{setVarsRun}
-use Rattle.limits.proofs.Answered.{outcome-number}
-use Rattle.permutation.proofs.Answered.{first-number}
+use Rattle.permutation.specs.Answers.{firstOf, firstNumber, allocateVars, setVarsRun, allocatePermutation}
 use Rattle.permutation.proofs.Keeps.{allocateVars-first, allocatePermutation-first}
 use Rattle.permutation.proofs.Left.{allocateVars-left, setVar-left, setVars-left, addPermutation-left, allocatePermutation-left, addEquation-left}
 use Rattle.history.specs.Ledger.{Ledger}
-use Rattle.history.specs.Calls.{Call, Allocate, Set, SetList, Record, Mint, Equate, State, pairsAsks, asks, answer, after, firstVar, noted}
+use Rattle.history.specs.Calls.{Call, Allocate, Set, SetList, Record, Mint, Equate, State, pairsAsks, asks, answer, after, firstOutcome, firstVar, noted}
 use Rattle.history.specs.Left.{left}
-use Rattle.history.specs.Demand.{lengthsOf, takesVars, Told, AllTold}
+use Rattle.history.specs.Demand.{Accepted, lengthsOf, takesVars, Told, AllTold}
 use Rattle.history.proofs.Lengths.{lengths-kept}
 use Rattle.history.proofs.Keeps.{Agrees, keeps}
 
--- ---- the first no of two
--- a question that says yes does not count
-pub past : (a b c : ℕ) → a ≡ 0 → b ≡ c → a ▸ b ≡ c
-past a b c z e = goes-on a b z ∙ e
+-- ---- an allocation's outcome
+first-outcome : (k v : ℕ) → firstOutcome (firstOf k v) ≡ outcomeOf k
+first-outcome zero v = refl
+first-outcome (suc k) v = refl
 
-pub then : (a b c : ℕ) → b ≡ c → a ▸ b ≡ a ▸ c
-then a b c e = ap (λ (n : ℕ). a ▸ n) e
-
-pub after-says : (k : ℕ) (b : Bool) (x y : ℕ) → (b ≡ true → x ≡ y) → ask (suc k) b ▸ x ≡ ask (suc k) b ▸ y
-unfolding ask _▸_
-after-says k true x y f = f refl
-after-says k false x y f = refl
-
--- an accepted outcome is the number 0
-pub accepted-no : (k : ℕ) → outcomeOf k ≡ outcome.Accepted → k ≡ 0
-accepted-no zero e = refl
-accepted-no (suc k) e = cc
+first-no : (f : First) → Accepted (firstOutcome f) → firstNumber f ≡ 0
+first-no (first.Var x) a = refl
+first-no (first.Refused k) a = cc
 
 -- ---- a set list's number
 run-number : (n : ℕ) (slots : List ℕ) (ps : List Pair) → setRun n slots ps .number ≡ firstNo (pairsAsks n slots ps)
@@ -64,47 +56,58 @@ unfolding _▸_
 list-number zero m r slots = refl
 list-number (suc k) m r slots = refl
 
--- each call answers the first no of its questions
-number-is : (s : State) (c : Call) → answer s c .number ≡ firstNo (asks s c)
+-- each call answers by the first no of its questions
+by-questions : (s : State) (c : Call) → answer s c .outcome ≡ outcomeOf (firstNo (asks s c))
 unfolding answer asks allocateVarsNo setVarNo setVarsNo setVarsRun addPermutationNo allocatePermutationNo addEquationNo
-number-is s (Allocate n) = first-number _ _
-number-is s (Set p) = outcome-number _
-number-is s (SetList vars values) =
+by-questions s (Allocate n) = first-outcome (allocateVarsNo (s .relation) (length (s .slots)) n) (s .relation .vars)
+by-questions s (Set p) = refl
+by-questions s (SetList vars values) =
     let n = s .relation .vars in
     let before = setVarsAsks (s .relation) (length (s .slots)) vars values in
     let these = pairsAsks n (s .slots) (pairs vars values) in
     let nine = question 9 (eqb (length vars) (length values)) ∷ [] in
-    outcome-number _
-    ∙ list-number (firstNo before) (ask 9 (eqb (length vars) (length values))) (setRun n (s .slots) (pairs vars values)) (s .slots)
+    ap outcomeOf
+    (list-number (firstNo before) (ask 9 (eqb (length vars) (length values))) (setRun n (s .slots) (pairs vars values)) (s .slots)
     ∙ ap (λ (k : ℕ). firstNo before ▸ k)
     (ap₂ _▸_ (run-number n (s .slots) (pairs vars values)) (sym (▸-zero _)) ∙ sym (firstNo-append these nine))
-    ∙ sym (firstNo-append before (these ++ nine))
-number-is s (Record input output) = outcome-number _
-number-is s (Mint input) = first-number _ _
-number-is s (Equate terms image) = outcome-number _
+    ∙ sym (firstNo-append before (these ++ nine)))
+by-questions s (Record input output) = refl
+by-questions s (Mint input) =
+    first-outcome (allocatePermutationNo (s .relation) (length (s .slots)) (length (s .queries)) input) (s .relation .vars)
+by-questions s (Equate terms image) = refl
 
 -- ---- what ledger and lengths leave open
 module _ (w : ℕ) (s : State) (l : Ledger) (i : Agrees w s l) where
-  by-ledger-is : (c : Call) → answer s c .number ≡ left w (lengthsOf s) l c
-  unfolding answer left
-  by-ledger-is (Allocate n) = first-number _ _ ∙ allocateVars-left w _ _ _ _ _ _ _ _ i n
-  by-ledger-is (Set p) = outcome-number _ ∙ setVar-left w _ _ _ _ _ _ _ _ i p
-  by-ledger-is (SetList vars values) = outcome-number _ ∙ setVars-left w _ _ _ _ _ _ _ _ i vars values
-  by-ledger-is (Record input output) = outcome-number _ ∙ addPermutation-left w _ _ _ _ _ _ _ _ i input output
-  by-ledger-is (Mint input) = first-number _ _ ∙ allocatePermutation-left w _ _ _ _ _ _ _ _ i input
-  by-ledger-is (Equate terms image) = outcome-number _ ∙ addEquation-left w _ _ _ _ _ _ _ _ i (termsOf terms) image
+  abbrev rel : PermutationRelation
+  rel = s .relation
 
-  first-is : (c : Call) → takesVars c ≡ true → answer s c .number ≡ 0 → answer s c .first ≡ l .count
+  by-ledger : (c : Call) → answer s c .outcome ≡ outcomeOf (left w (lengthsOf s) l c)
+  unfolding answer left
+  by-ledger (Allocate n) =
+      first-outcome (allocateVarsNo rel (length (s .slots)) n) (rel .vars) ∙ ap outcomeOf (allocateVars-left w _ _ _ _ _ _ _ _ i n)
+  by-ledger (Set p) = ap outcomeOf (setVar-left w _ _ _ _ _ _ _ _ i p)
+  by-ledger (SetList vars values) = ap outcomeOf (setVars-left w _ _ _ _ _ _ _ _ i vars values)
+  by-ledger (Record input output) = ap outcomeOf (addPermutation-left w _ _ _ _ _ _ _ _ i input output)
+  by-ledger (Mint input) =
+      first-outcome (allocatePermutationNo rel (length (s .slots)) (length (s .queries)) input) (rel .vars)
+      ∙ ap outcomeOf (allocatePermutation-left w _ _ _ _ _ _ _ _ i input)
+  by-ledger (Equate terms image) = ap outcomeOf (addEquation-left w _ _ _ _ _ _ _ _ i (termsOf terms) image)
+
+  first-is : (c : Call) → takesVars c ≡ true → Accepted (answer s c .outcome) → answer s c .first ≡ l .count
   unfolding answer
-  first-is (Allocate n) t z = ap firstVar (allocateVars-first w _ _ _ _ _ _ _ _ i n z)
-  first-is (Set p) t z = cc
-  first-is (SetList vars values) t z = cc
-  first-is (Record input output) t z = cc
-  first-is (Mint input) t z = ap firstVar (allocatePermutation-first w _ _ _ _ _ _ _ _ i input z)
-  first-is (Equate terms image) t z = cc
+  first-is (Allocate n) t a = ap firstVar (allocateVars-first w _ _ _ _ _ _ _ _ i n (first-no (allocateVars rel (s .slots) n .first) a))
+  first-is (Set p) t a = cc
+  first-is (SetList vars values) t a = cc
+  first-is (Record input output) t a = cc
+  first-is (Mint input) t a = ap firstVar (allocatePermutation-first w _ _ _ _ _ _ _ _ i input (first-no (allocatePermutation rel (s .slots) (s .queries) input .first) a))
+  first-is (Equate terms image) t a = cc
 
   told : (c : Call) → Told w s l c
-  told c = record { number = number-is s c; by-ledger = by-ledger-is c; lengths = lengths-kept s c; first = first-is c }
+  told c = record {
+    answers = record { by-questions = by-questions s c; by-ledger = by-ledger c };
+    lengths = lengths-kept s c;
+    first = first-is c;
+  }
 
 -- every list of calls
 pub told-all : (w : ℕ) (cs : List Call) (s : State) (l : Ledger) → Agrees w s l → AllTold w s l cs

@@ -1,6 +1,6 @@
 -- A trace through its bytes: what the write and the read still ask, and that read equals written.
 -- Assumes nothing.
-use Prim.Native.Nat.{ℕ, zero, suc, _+_, _*_, _≤_, _<_}
+use Prim.Native.Nat.{ℕ, zero, suc, _+_, _≤_, _<_}
 use mathlib.Core.Path.{_≡_, refl, sym, ap, _∙_, subst}
 use mathlib.Core.List.{List, [], _∷_, _++_}
 use native.Mathlib.Omega.{arith}
@@ -11,27 +11,28 @@ use lib.Seq.{length-take-le}
 use Rattle.limits.specs.Numbers.{prime, maxCount}
 use Rattle.limits.specs.Questions.{ask, _▸_, firstNo}
 use Rattle.limits.specs.Asks.{widthAsks, storeAsks}
-use Rattle.limits.proofs.Questions.{ask-yes, accepted-says}
+use Rattle.limits.proofs.Questions.{ask-yes}
 use Rattle.words.specs.Store.{All, allBelow}
 use Rattle.words.specs.Pieces.{flat, pieces, wordsOf}
 use Rattle.narg.specs.Bytes.{wordEnd}
 use Rattle.narg.specs.Reader.{Got, got}
-use Rattle.limits.specs.Outcome.{outcomeNumber}
+use Rattle.limits.specs.Outcome.{outcomeOf}
 use Rattle.instance.proofs.Parts.{flat-held}
 use Rattle.validity.specs.Valid.{stepsOf}
 use Rattle.header.specs.Form.{version}
 use Rattle.decoding.specs.Read.{readWitness}
 use Rattle.decoding.specs.Sound.{SoundPiece, SoundSteps, gotAfter}
-use Rattle.encoding.specs.Answers.{witnessToBytes, witnessToBytesAsks, witnessToBytesNo}
+use Rattle.encoding.specs.Answers.{witnessToBytes, witnessToBytesNo}
 use Rattle.decoding.specs.Answers.{witnessFromBytes, witnessAnswer, traceAfter}
 use Rattle.encoding.proofs.Length.{length-witnessBytes}
 use Rattle.roundtrip.proofs.Reading.{after-after, read-witness-written}
-use Rattle.limits.proofs.Answered.{outcome-number}
-use Rattle.history.specs.Left.{witnessWriteLeft, witnessReadLeft}
-use Rattle.history.specs.Whole.{Accepted, TraceLent, witnessWritten, witnessBytesMade, witnessReadBack, traceReadBack, Traced}
-use Rattle.history.proofs.Told.{past, then, after-says, accepted-no}
-use Rattle.history.proofs.Checks.{TraceHeld, steps-lengths, is-trace}
-use Rattle.history.proofs.Bytes.{written-bytes, padded-held, padded-length, got-yes, witness-number, then-last}
+use Rattle.history.specs.Left.{traceLength, witnessWriteLeft, witnessReadLeft}
+use Rattle.history.specs.Demand.{Accepted}
+use Rattle.history.specs.Whole.{TraceHeld, TraceLent, witnessWritten, witnessBytesMade, witnessReadBack, traceReadBack, Traced}
+use Rattle.history.proofs.Outcomes.{past, then, after-says, then-last, accepted-no}
+use Rattle.history.proofs.Accepted.{witnessWriteLeft-yes, witnessReadLeft-yes}
+use Rattle.history.proofs.Checks.{steps-lengths, is-trace}
+use Rattle.history.proofs.Bytes.{written-bytes, padded-held, padded-length, got-yes, witness-outcome}
 
 length-pieces : (k n : ℕ) (l : List ℕ) → length (pieces k n l) ≡ n
 length-pieces k zero l = refl
@@ -56,26 +57,22 @@ module _ (w : ℕ) (least : 1 ≤ w) (most : w ≤ 24) (t : TraceLent) where
   count : length steps ≡ t .steps
   count = length-pieces (w + w) (t .steps) (take (wordsOf w (t .steps)) (t .trace))
 
-  bytes-length : wordsOf w (t .steps) ≤ length (t .trace) → length (witnessToBytes w (t .steps) (t .trace)) ≡ 17 + 8 * (w * t .steps)
+  bytes-length : wordsOf w (t .steps) ≤ length (t .trace) → length (witnessToBytes w (t .steps) (t .trace)) ≡ traceLength w (t .steps)
   bytes-length h =
       length-witnessBytes version w steps (steps-lengths w (t .steps) (t .trace) h)
-      ∙ ap (λ (n : ℕ). 17 + 8 * (w * n)) count
+      ∙ ap (traceLength w) count
 
-  writes : outcomeNumber (witnessWritten w t .outcome) ≡ firstNo (witnessWriteLeft w (t .steps) (t .trace) (length (t .out)))
+  write-left : writeNo ≡ firstNo (witnessWriteLeft w (t .steps) (t .trace) (length (t .out)))
   unfolding witnessToBytesNo witnessWriteLeft
-  writes =
-      outcome-number _
-      ∙ past _ _ _ (ask-yes 1 _ (le-leb 1 w least)) (past _ _ _ (ask-yes 1 _ (le-leb w 24 most))
+  write-left =
+      past _ _ _ (ask-yes 1 _ (le-leb 1 w least)) (past _ _ _ (ask-yes 1 _ (le-leb w 24 most))
       (then _ _ _ (after-says 1 (leb (wordsOf w (t .steps)) (length (t .trace))) _ _
       (λ h. then _ _ _ (ap (λ (n : ℕ). ask 10 (leb n (length (t .out))) ▸ 0) (bytes-length (leb-true _ _ h)))))))
 
   -- ---- the write accepted
   module _ (z : writeNo ≡ 0) where
-    pub trace-held : TraceHeld w (t .steps) (t .trace)
-    unfolding witnessToBytesNo
-    trace-held =
-        let says = accepted-says (witnessToBytesAsks w (t .steps) (t .trace) (length (t .out))) tt z in
-        record { size = leb-true _ _ (says 2); room = leb-true _ _ (says 3); units = says 4 }
+    trace-held : TraceHeld w (t .steps) (t .trace)
+    trace-held = witnessWriteLeft-yes w (t .steps) (t .trace) (length (t .out)) (sym write-left ∙ z)
 
     sound-steps : SoundSteps w steps
     sound-steps =
@@ -107,8 +104,8 @@ module _ (w : ℕ) (least : 1 ≤ w) (most : w ≤ 24) (t : TraceLent) where
         ∙ then-last _ _
         ∙ ap (λ (n : ℕ). ask 2 (leb (t .room) maxCount) ▸ (ask 10 (leb (wordsOf w n) (t .room)) ▸ 0)) count
 
-    read-number : outcomeNumber (witnessReadBack w t .outcome) ≡ readNo
-    read-number = ap (λ (g : Got (List (List ℕ))). outcomeNumber (witnessAnswer g .outcome)) got-is ∙ witness-number readNo steps
+    read-outcome : witnessReadBack w t .outcome ≡ outcomeOf readNo
+    read-outcome = ap (λ (g : Got (List (List ℕ))). witnessAnswer g .outcome) got-is ∙ witness-outcome readNo steps
 
     -- ---- and the read
     module _ (y : readNo ≡ 0) where
@@ -132,18 +129,15 @@ module _ (w : ℕ) (least : 1 ≤ w) (most : w ≤ 24) (t : TraceLent) where
 
       -- 2 and 11 let what was read through
       pub read-held : TraceHeld w (witnessReadBack w t .steps) (traceReadBack w t)
-      unfolding witnessReadLeft
       read-held =
-          let says = accepted-says (witnessReadLeft w (t .steps) (t .room)) tt (sym read-left ∙ y) in
-          let a : t .room ≤ maxCount = leb-true _ _ (says 0) in
-          let b : wordsOf w (t .steps) ≤ t .room = leb-true _ _ (says 1) in
+          let r = witnessReadLeft-yes w (t .steps) (t .room) (sym read-left ∙ y) in
           let n : length (traceReadBack w t) ≡ t .room =
           ap (λ (g : Got (List (List ℕ))). length (traceAfter (t .room) g)) got-steps
-          ∙ padded-length (t .room) (flat steps) (rw words-length b) in
+          ∙ padded-length (t .room) (flat steps) (rw words-length (r .trace-room)) in
           subst (λ (k : ℕ). TraceHeld w k (traceReadBack w t)) (sym steps-are)
           (record {
-            size = rw n a;
-            room = rw n b;
+            size = rw n (r .trace-high);
+            room = rw n (r .trace-room);
             units = ap (allBelow prime) words-are ∙ trace-held .units;
           })
 
@@ -151,12 +145,13 @@ module _ (w : ℕ) (least : 1 ≤ w) (most : w ≤ 24) (t : TraceLent) where
   written-no a = accepted-no writeNo a
 
   read-no : (a : Accepted (witnessWritten w t .outcome)) → Accepted (witnessReadBack w t .outcome) → readNo (written-no a) ≡ 0
-  read-no a b = sym (read-number (written-no a)) ∙ ap outcomeNumber b
+  read-no a b = accepted-no _ (sym (read-outcome (written-no a)) ∙ b)
 
   pub traced : Traced w t
+  unfolding witnessToBytesNo
   traced = record {
-    writes = writes;
-    reads = λ a. read-number (written-no a) ∙ read-left (written-no a);
+    writes = record { by-questions = refl; by-ledger = ap outcomeOf write-left };
+    reads = λ a. read-outcome (written-no a) ∙ ap outcomeOf (read-left (written-no a));
     same-steps = λ a b. steps-are (written-no a) (read-no a b);
     same-words = λ a b. words-are (written-no a) (read-no a b);
   }

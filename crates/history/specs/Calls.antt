@@ -4,17 +4,18 @@ use Prim.Native.Nat.{ℕ, _+_}
 use mathlib.Core.List.{List, [], _∷_, _++_}
 use lib.Dec.{eqb}
 use lib.ListN.{length, take, set}
-use Rattle.limits.specs.Questions.{Question, question, onYes}
+use Rattle.limits.specs.Questions.{Question, question, pick}
+use Rattle.limits.specs.Outcome.{isAccepted}
+use Rattle.limits.specs.declared.Outcome.{Outcome}
+use Rattle.limits.specs.declared.Outcome.the-variants as outcome
 use Rattle.allocator.specs.Slots.{Pair, pair, pairs, pairAsks}
 use Rattle.allocator.specs.Values.{joins}
 use Rattle.expr.specs.Equation.{Equation, equation}
 use Rattle.expr.specs.Weighted.{termsOf}
 use Rattle.expr.specs.declared.Weighted.{Weighted}
 use Rattle.permutation.specs.Relation.{allocateVarsAsks, setVarAsks, setVarsAsks, addPermutationAsks, allocatePermutationAsks, addEquationAsks}
-use Rattle.limits.specs.Outcome.{outcomeNumber}
-use Rattle.permutation.specs.Answers.{firstNumber, newRelation, newSlots, allocateVars, allocateVarsSlots, setVar, setVarSlots, setVars, setVarsSlots, addPermutation, addPermutationQueries, allocatePermutation, allocatePermutationSlots, allocatePermutationQueries, addEquation, addEquationEquations, upFrom}
+use Rattle.permutation.specs.Answers.{newRelation, newSlots, allocateVars, allocateVarsSlots, setVar, setVarSlots, setVars, setVarsSlots, addPermutation, addPermutationQueries, allocatePermutation, allocatePermutationSlots, allocatePermutationQueries, addEquation, addEquationEquations, upFrom}
 use Rattle.permutation.specs.declared.PermutationRelation.{PermutationRelation}
-use Rattle.limits.specs.declared.Outcome.{Outcome}
 use Rattle.permutation.specs.declared.First.{First}
 use Rattle.permutation.specs.declared.First.the-variants as first
 use Rattle.permutation.specs.declared.SetVars.{SetVars}
@@ -58,29 +59,38 @@ asks s (Record input output) = addPermutationAsks (s .relation) (length (s .quer
 asks s (Mint input) = allocatePermutationAsks (s .relation) (length (s .slots)) (length (s .queries)) input
 asks s (Equate terms image) = addEquationAsks (s .relation) (length (s .equations)) (termsOf terms) image
 
--- ---- answers: document 01's number, the first new wire, and how many pairs were accepted
+-- ---- answers: accepted or refused with document 01's number, the first new wire, and how many pairs were accepted
 -- where a call has no such value it is 0
 pub record Answer : Type 0 where
-  pub number : ℕ
+  pub outcome : Outcome
   pub first : ℕ
   pub accepted : ℕ
 
--- each enum's number and values
+-- by an answer: the first where it is accepted, else the second
+abbrev pub onAccepted : {A : Type 0} → Answer → A → A → A
+onAccepted a new old = pick (isAccepted (a .outcome)) new old
+
+-- each enum's outcome and values
 abbrev pub ofOutcome : Outcome → Answer
-ofOutcome o = record { number = outcomeNumber o; first = 0; accepted = 0 }
+ofOutcome o = record { outcome = o; first = 0; accepted = 0 }
+
+-- an allocation is accepted where it answers a wire
+abbrev pub firstOutcome : First → Outcome
+firstOutcome (first.Var x) = outcome.Accepted
+firstOutcome (first.Refused k) = outcome.Refused k
 
 -- the first new wire, 0 after a refusal
 abbrev pub firstVar : First → ℕ
 firstVar (first.Var x) = x
 firstVar (first.Refused k) = 0
 
--- an allocation's answer: the number and the first new wire
+-- an allocation's answer: the outcome and the first new wire
 abbrev pub ofFirst : First → Answer
-ofFirst f = record { number = firstNumber f; first = firstVar f; accepted = 0 }
+ofFirst f = record { outcome = firstOutcome f; first = firstVar f; accepted = 0 }
 
--- a set list's answer: the number and how many pairs were accepted
+-- a set list's answer: the outcome and how many pairs were accepted
 abbrev pub ofSetVars : SetVars → Answer
-ofSetVars r = record { number = outcomeNumber (r .outcome); first = 0; accepted = r .accepted }
+ofSetVars r = record { outcome = r .outcome; first = 0; accepted = r .accepted }
 
 -- what each call answers on the state that it gets
 unfoldable pub answer : State → Call → Answer
@@ -125,20 +135,19 @@ ledger count sets queries equations =
 abbrev pub firstLedger : Ledger
 firstLedger = ledger 1 (pair 0 0 ∷ []) [] []
 
--- what a call and its answer add, at the width given to fresh; a refused call alters nothing, but of a set
--- list as many of the first pairs join as were accepted
+-- what a call and its answer make of the ledger, at the width given to fresh: a refused call alters nothing, but of
+-- a set list as many of the first pairs join as were accepted
 unfoldable pub noted : ℕ → Ledger → Call → Answer → Ledger
-noted w l (Allocate n) a = ledger (onYes (a .number) (l .count + n) (l .count)) (l .sets) (l .queries) (l .equations)
-noted w l (Set p) a = ledger (l .count) (onYes (a .number) (p ∷ l .sets) (l .sets)) (l .queries) (l .equations)
+noted w l (Allocate n) a = onAccepted a (ledger (l .count + n) (l .sets) (l .queries) (l .equations)) l
+noted w l (Set p) a = onAccepted a (ledger (l .count) (p ∷ l .sets) (l .queries) (l .equations)) l
 noted w l (SetList vars values) a =
     ledger (l .count) (joins (l .sets) (take (a .accepted) (pairs vars values))) (l .queries) (l .equations)
 noted w l (Record input output) a =
-    ledger (l .count) (l .sets) (onYes (a .number) (l .queries ++ ((input ++ output) ∷ [])) (l .queries)) (l .equations)
+    onAccepted a (ledger (l .count) (l .sets) (l .queries ++ ((input ++ output) ∷ [])) (l .equations)) l
 noted w l (Mint input) a =
-    ledger (onYes (a .number) (l .count + w) (l .count)) (l .sets)
-    (onYes (a .number) (l .queries ++ ((input ++ upFrom (l .count) w) ∷ [])) (l .queries)) (l .equations)
+    onAccepted a (ledger (l .count + w) (l .sets) (l .queries ++ ((input ++ upFrom (l .count) w) ∷ [])) (l .equations)) l
 noted w l (Equate terms image) a =
-    ledger (l .count) (l .sets) (l .queries) (onYes (a .number) (l .equations ++ (equation (termsOf terms) image ∷ [])) (l .equations))
+    onAccepted a (ledger (l .count) (l .sets) (l .queries) (l .equations ++ (equation (termsOf terms) image ∷ []))) l
 
 -- ---- a list of calls: what was called and answered, what is left at the end, and the ledger of it
 -- one call, and what it was answered

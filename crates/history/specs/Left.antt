@@ -50,7 +50,12 @@ numberOf test i (suc n) = pick (test i) 1 0 + numberOf test (suc i) n
 abbrev pub publicCount : Ledger → ℕ
 publicCount l = numberOf (has (pairVars (l .sets))) 0 (l .count)
 
--- 2 only of sizes, 11 only of the label, 10, 16, 13, and then 14 and 15; 1 and 12 are never answered
+-- 13, and then 14 and 15 term by term; 12 is never answered
+abbrev pub validatedLeft : Ledger → List Question
+validatedLeft l =
+    question 13 (allBelow (l .count) (flat (l .queries))) ∷ termwiseAsks (l .count) (known l) (l .equations)
+
+-- 2 only of sizes, 11 only of the label, 10, 16, and 13 to 15; 1 is never answered
 unfoldable pub compileLeft : Lengths → Ledger → (label : List ℕ) → (publics scratch : ℕ) → List Question
 compileLeft lengths l label publics scratch =
     storeAsks (lengths .queries) ++ (storeAsks (lengths .equations)
@@ -58,14 +63,20 @@ compileLeft lengths l label publics scratch =
     ++ (question 11 (isUtf8 label)
     ∷ question 10 (leb (2 * publicCount l) publics)
     ∷ question 16 (leb (l .count) scratch)
-    ∷ question 13 (allBelow (l .count) (flat (l .queries)))
-    ∷ termwiseAsks (l .count) (known l) (l .equations))))))
+    ∷ validatedLeft l)))))
 
 -- ---- after an accepted gate
--- the bytes of an SFRI of the ledger's parts with a label of n bytes
+-- the bytes of an SFRI: the header's 13 and five counts of 4, the label, and so many publics, queries and words
+abbrev pub fileLength : (w label publics queries words : ℕ) → ℕ
+fileLength w label publics queries words = 33 + label + 8 * publics + 8 * (w * queries) + 4 * words
+
+-- of the ledger's parts with a label of n bytes
 abbrev pub instanceLength : ℕ → Ledger → ℕ → ℕ
-instanceLength w l n =
-    33 + n + 8 * publicCount l + 8 * (w * length (l .queries)) + 4 * length (equationsWords (l .equations))
+instanceLength w l n = fileLength w n (publicCount l) (length (l .queries)) (length (equationsWords (l .equations)))
+
+-- the bytes of an SFRW: the header's 13, one count of 4, and the steps
+abbrev pub traceLength : (w steps : ℕ) → ℕ
+traceLength w steps = 17 + 8 * (w * steps)
 
 -- SFRI written: 2 and 11 only of the label, 10
 unfoldable pub instanceWriteLeft : ℕ → Ledger → (label : List ℕ) → (out : ℕ) → List Question
@@ -89,7 +100,7 @@ witnessWriteLeft w steps trace out =
     storeAsks (length trace)
     ++ (question 2 (leb (wordsOf w steps) (length trace))
     ∷ question 11 (allBelow prime (take (wordsOf w steps) trace))
-    ∷ question 10 (leb (17 + 8 * (w * steps)) out)
+    ∷ question 10 (leb (traceLength w steps) out)
     ∷ [])
 
 -- SFRW read: 2 of the store's size, 10

@@ -1,39 +1,38 @@
 -- Demand 3, the one claim: about what an accepted fresh leaves, any list of calls after it, the gate, both byte
--- forms written and read, and the check of what was read.
+-- forms written and read, and the check of what was read, or of what the gate made with no bytes between.
 --
---   (1) each call answers the first of its questions that says no, and an accepted allocate or mint the ledger's
---       count as it was before (`told`)
---   (2) which questions the gate, the writes and the reads can still refuse with: by the ledger and the sizes of
---       what is lent alone (`gates`, `writes`, `reads`)
+--   (1) each call accepts where no question says no, else it answers the first that does, and an accepted
+--       allocate or mint answers the ledger's count as it was before (`told`)
+--   (2) so do the gate and the writes, by 01's own lists of questions; and which of them, and of the reads', can
+--       still say no is told by the ledger and the sizes of what is lent alone (`gates`, `writes`, `reads`)
 --   (3) what was read is what was written: width and counts, label bytes, held words, steps (`same`)
---   (4) the check of what was read answers 0 or 31 to 35, and 0 exactly where the ledger at the gate has an
+--   (4) the check accepts or answers 31 to 35, and it accepts exactly where the ledger at the gate has an
 --       assignment as document 01 demands (`checks`)
 --
 -- Nothing is assumed but that fresh accepted: any width, any words in the stores, any list of calls with refused
 -- ones among them, any label (another at the write than at the gate too), trace, sizes and scratch. The ledger is
--- fed calls and answers and never sees a state; the check is of what was read back; an assignment is there for
--- known wires and for no other; what a step is comes from the permutation's definition. Every answer and every
--- store here is the definition that the open function's contract cites. Assumes nothing.
+-- fed calls and answers and never sees a state; an assignment is there for known wires and for no other; what a
+-- step is comes from the permutation's definition. An outcome is accepted or refused, not only a number. Every
+-- answer and every store here is the definition that the open function's contract cites. Assumes nothing.
 use Prim.Native.Nat.{ℕ, _≤_}
 use mathlib.Core.Path.{_≡_}
 use mathlib.Core.Bool.{true}
 use mathlib.Core.List.{List}
 use lib.ListN.{length, take}
-use Rattle.limits.specs.Numbers.{maxCount}
-use Rattle.limits.specs.Questions.{firstNo}
+use Rattle.limits.specs.Numbers.{prime, maxCount}
+use Rattle.limits.specs.Questions.{Question, firstNo}
+use Rattle.limits.specs.Outcome.{outcomeOf}
+use Rattle.words.specs.Store.{allBelow}
 use Rattle.words.specs.Pieces.{wordsOf}
 use Rattle.narg.specs.Reader.{Got}
-use Rattle.limits.specs.declared.Outcome.{Outcome}
-use Rattle.limits.specs.declared.Outcome.the-variants as outcome
-use Rattle.limits.specs.Outcome.{outcomeNumber}
 use Rattle.permute.specs.Parameters.{parametersOf, soundParameters}
 use Rattle.instance.specs.Parts.{heldPublics, heldQueries, heldEquations, partsOf}
 use Rattle.instance.specs.declared.PermutationInstance.{PermutationInstance}
-use Rattle.compile.specs.Gate.{compile, compilePublics}
+use Rattle.compile.specs.Gate.{compileAsks, compile, compilePublics}
 use Rattle.compile.specs.declared.Compiled.{Compiled}
 use Rattle.validity.specs.Valid.{stepsOf, isWitnessValid}
 use Rattle.decoding.specs.Read.{Rooms, File}
-use Rattle.encoding.specs.Answers.{writtenOf, writtenOut, instanceToBytes, instanceToBytesNo, witnessToBytes, witnessToBytesNo}
+use Rattle.encoding.specs.Answers.{writtenOf, writtenOut, instanceToBytes, instanceToBytesAsks, instanceToBytesNo, witnessToBytes, witnessToBytesAsks, witnessToBytesNo}
 use Rattle.decoding.specs.Answers.{instanceFromBytes, witnessFromBytes, instanceAnswer, publicsAfter, queriesAfter, equationsAfter, witnessAnswer, traceAfter, labelPart}
 use Rattle.encoding.specs.declared.Written.{Written}
 use Rattle.decoding.specs.declared.InstanceRead.{InstanceRead}
@@ -42,11 +41,23 @@ use Rattle.history.specs.Ledger.{Ledger}
 use Rattle.history.specs.Sat.{Evaluates}
 use Rattle.history.specs.Calls.{Call, State, fresh, firstLedger, log, final, ledgerOf}
 use Rattle.history.specs.Left.{compileLeft, instanceWriteLeft, instanceReadLeft, witnessWriteLeft, witnessReadLeft}
-use Rattle.history.specs.Demand.{lengthsOf, AllTold, Checked}
+use Rattle.history.specs.Demand.{Accepted, Answers, lengthsOf, AllTold, Checked}
 
--- accepted: the outcome says so
-abbrev pub Accepted : Outcome → Type 0
-Accepted o = o ≡ outcome.Accepted
+-- ---- the check
+-- a trace store that 2 and 11 let through: it holds the steps, and they are units
+pub record TraceHeld (w steps : ℕ) (trace : List ℕ) : Type 0 where
+  pub size : length trace ≤ maxCount
+  pub room : wordsOf w steps ≤ length trace
+  pub units : allBelow prime (take (wordsOf w steps) trace) ≡ true
+
+-- (4) of held parts and a trace: for every sheet that 17 lets through, and every scratch that 2 and 16 do
+abbrev pub Checks : (w : ℕ) → Ledger → PermutationInstance → (label publics queries equations : List ℕ)
+    → (steps : ℕ) (trace : List ℕ) → Type 0
+Checks w l ins label publics queries equations steps trace =
+    (rounds : ℕ) (params : List ℕ) → soundParameters w rounds params ≡ true
+    → (scratch : ℕ) → ins .vars ≤ scratch → scratch ≤ maxCount
+    → Checked (Evaluates w (parametersOf w rounds params)) l (partsOf ins publics queries equations) (stepsOf w steps trace)
+    (isWitnessValid ins label publics queries equations steps trace rounds params scratch)
 
 -- ---- a trace through its bytes
 -- lent: a step count, the trace store, the output, and the store that is read into
@@ -83,8 +94,9 @@ module _ (w : ℕ) (t : TraceLent) where
 
   -- (2), (3) of SFRW
   pub record Traced : Type 0 where
-    pub writes : outcomeNumber (witnessWritten .outcome) ≡ firstNo (witnessWriteLeft w (t .steps) (t .trace) (length (t .out)))
-    pub reads : Accepted (witnessWritten .outcome) → outcomeNumber (witnessReadBack .outcome) ≡ firstNo (witnessReadLeft w (t .steps) (t .room))
+    pub writes : Answers (witnessWritten .outcome) (firstNo (witnessToBytesAsks w (t .steps) (t .trace) (length (t .out))))
+        (firstNo (witnessWriteLeft w (t .steps) (t .trace) (length (t .out))))
+    pub reads : Accepted (witnessWritten .outcome) → witnessReadBack .outcome ≡ outcomeOf (firstNo (witnessReadLeft w (t .steps) (t .room)))
     -- read equals written in step count and held words
     pub same-steps : Accepted (witnessWritten .outcome) → Accepted (witnessReadBack .outcome) → witnessReadBack .steps ≡ t .steps
     pub same-words : Accepted (witnessWritten .outcome) → Accepted (witnessReadBack .outcome)
@@ -97,23 +109,16 @@ pub record FileLent : Type 0 where
   pub out : List ℕ
   pub rooms : Rooms
 
--- the gate's answer, and the publics that it makes
-abbrev pub compiled : State → (label publics scratch : List ℕ) → Compiled
-compiled s label publics scratch = compile (s .relation) label (s .slots) (s .queries) (s .equations) publics scratch
-
--- the publics afterwards
-abbrev pub publicsMade : State → (label publics scratch : List ℕ) → List ℕ
-publicsMade s label publics scratch = compilePublics (s .relation) label (s .slots) (s .queries) (s .equations) publics scratch
-
--- `ins` and `made`: the instance and the publics that the gate made
-module _ (w : ℕ) (s : State) (ins : PermutationInstance) (made : List ℕ) (f : FileLent) where
+-- `asked` and `stated`: the stores of queries and equations as they are at the write; `ins` and `made`: the instance
+-- and the publics that the gate made
+module _ (w : ℕ) (asked stated : List ℕ) (ins : PermutationInstance) (made : List ℕ) (f : FileLent) where
   -- the number of the write
   abbrev instanceNo : ℕ
-  instanceNo = instanceToBytesNo ins (f .label) made (s .queries) (s .equations) (length (f .out))
+  instanceNo = instanceToBytesNo ins (f .label) made asked stated (length (f .out))
 
   -- the bytes that an accepted write writes
   abbrev instanceBytesMeant : List ℕ
-  instanceBytesMeant = instanceToBytes ins (f .label) made (s .queries) (s .equations)
+  instanceBytesMeant = instanceToBytes ins (f .label) made asked stated
 
   -- SFRI written: the answer, and exactly the bytes that it counts
   abbrev pub instanceWritten : Written
@@ -152,25 +157,41 @@ module _ (w : ℕ) (s : State) (ins : PermutationInstance) (made : List ℕ) (f 
     pub instance : instanceReadBack .instance ≡ ins
     pub label : labelReadBack ≡ f .label
     pub publics : heldPublics ins publicsReadBack ≡ heldPublics ins made
-    pub queries : heldQueries ins queriesReadBack ≡ heldQueries ins (s .queries)
-    pub equations : heldEquations ins equationsReadBack ≡ heldEquations ins (s .equations)
+    pub queries : heldQueries ins queriesReadBack ≡ heldQueries ins asked
+    pub equations : heldEquations ins equationsReadBack ≡ heldEquations ins stated
 
   -- (2) to (4) of SFRI, beside the ledger
   pub record Filed (l : Ledger) : Type 0 where
-    pub writes : outcomeNumber (instanceWritten .outcome) ≡ firstNo (instanceWriteLeft w l (f .label) (length (f .out)))
-    pub reads : Accepted (instanceWritten .outcome) → outcomeNumber (instanceReadBack .outcome) ≡ firstNo (instanceReadLeft w l (f .rooms))
+    pub writes : Answers (instanceWritten .outcome) (firstNo (instanceToBytesAsks ins (f .label) made asked stated (length (f .out))))
+        (firstNo (instanceWriteLeft w l (f .label) (length (f .out))))
+    pub reads : Accepted (instanceWritten .outcome) → instanceReadBack .outcome ≡ outcomeOf (firstNo (instanceReadLeft w l (f .rooms)))
     pub same : Accepted (instanceWritten .outcome) → Accepted (instanceReadBack .outcome) → SameFile
-    -- the check of what was read, for every trace through its bytes, every sheet that 17 lets through, and
-    -- every scratch that 2 and 16 do
+    -- the check of what was read, for every trace through its bytes
     pub checks : Accepted (instanceWritten .outcome) → Accepted (instanceReadBack .outcome)
         → (t : TraceLent) → Accepted (witnessWritten w t .outcome) → Accepted (witnessReadBack w t .outcome)
-        → (rounds : ℕ) (params : List ℕ) → soundParameters w rounds params ≡ true
-        → (scratch : ℕ) → instanceReadBack .instance .vars ≤ scratch → scratch ≤ maxCount
-        → Checked (Evaluates w (parametersOf w rounds params)) l
-        (partsOf (instanceReadBack .instance) publicsReadBack queriesReadBack equationsReadBack)
-        (stepsOf w (witnessReadBack w t .steps) (traceReadBack w t))
-        (outcomeNumber (isWitnessValid (instanceReadBack .instance) labelReadBack publicsReadBack queriesReadBack equationsReadBack
-        (witnessReadBack w t .steps) (traceReadBack w t) rounds params scratch))
+        → Checks w l (instanceReadBack .instance) labelReadBack publicsReadBack queriesReadBack equationsReadBack
+        (witnessReadBack w t .steps) (traceReadBack w t)
+
+-- (2) to (4) after a gate that accepted this label
+pub record Gated (w : ℕ) (queries equations : List ℕ) (ins : PermutationInstance) (made label : List ℕ) (l : Ledger) : Type 0 where
+  -- the check of what the gate made, with no bytes between
+  pub checks : (steps : ℕ) (trace : List ℕ) → TraceHeld w steps trace → Checks w l ins label made queries equations steps trace
+  -- through the bytes; the label that is written may be another than the gate's
+  pub files : (f : FileLent) → Filed w queries equations ins made f l
+
+-- ---- the gate
+-- its questions on a state
+abbrev pub compiledAsks : State → (label publics scratch : List ℕ) → List Question
+compiledAsks s label publics scratch =
+    compileAsks (s .relation) label (s .slots) (s .queries) (s .equations) (length publics) (length scratch)
+
+-- its answer
+abbrev pub compiled : State → (label publics scratch : List ℕ) → Compiled
+compiled s label publics scratch = compile (s .relation) label (s .slots) (s .queries) (s .equations) publics scratch
+
+-- the publics afterwards
+abbrev pub publicsMade : State → (label publics scratch : List ℕ) → List ℕ
+publicsMade s label publics scratch = compilePublics (s .relation) label (s .slots) (s .queries) (s .equations) publics scratch
 
 -- ---- the whole
 module _ (w : ℕ) (slots queries equations : List ℕ) (cs : List Call) where
@@ -190,12 +211,13 @@ module _ (w : ℕ) (slots queries equations : List ℕ) (cs : List Call) where
   pub record Whole : Type 0 where
     -- (1) along the list
     pub told : AllTold w begin firstLedger cs
-    -- (2) the gate answers by the ledger and the sizes, those of the stores being what they were at first
+    -- (2) the gate, where the sizes of the three stores are what they were at first
     pub gates : (label publics scratch : List ℕ)
-        → outcomeNumber (compiled last label publics scratch .outcome)
-        ≡ firstNo (compileLeft (lengthsOf begin) lastLedger label (length publics) (length scratch))
-    -- (2) to (4) after a gate that accepts; the label that is written may be another than the gate's
+        → Answers (compiled last label publics scratch .outcome) (firstNo (compiledAsks last label publics scratch))
+        (firstNo (compileLeft (lengthsOf begin) lastLedger label (length publics) (length scratch)))
+    -- (2) to (4) after a gate that accepts
     pub gated : (label publics scratch : List ℕ) → Accepted (compiled last label publics scratch .outcome)
-        → (f : FileLent) → Filed w last (compiled last label publics scratch .instance) (publicsMade last label publics scratch) f lastLedger
+        → Gated w (last .queries) (last .equations) (compiled last label publics scratch .instance)
+        (publicsMade last label publics scratch) label lastLedger
     -- (2), (3) of a trace
     pub traced : (t : TraceLent) → Traced w t
