@@ -12,8 +12,9 @@
 -- Nothing is assumed but that fresh accepted: any width, any words in the stores, any list of calls with refused
 -- ones among them, any label (another at the write than at the gate too), trace, sizes and scratch. The ledger is
 -- fed calls and answers and never sees a state; an assignment is there for known wires and for no other; what a
--- step is comes from the permutation's definition. An outcome is accepted or refused, not only a number. Every
--- answer and every store here is the definition that the open function's contract cites. Assumes nothing.
+-- step is comes from the permutation's definition. An outcome is accepted or refused, not only a number. What gate,
+-- byte forms and check answer and leave here are the definitions that the open functions' contracts cite, and each
+-- call of the list is made by code that answers and leaves what the list has there (crate `calls`). Assumes nothing.
 use Prim.Native.Nat.{ℕ, _≤_}
 use mathlib.Core.Path.{_≡_}
 use mathlib.Core.Bool.{true}

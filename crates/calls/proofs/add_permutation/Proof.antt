@@ -1,0 +1,22 @@
+-- `calls::add_permutation` meets its contract: what `permutation::add_permutation` ensures is what the list has.
+-- Assumes nothing.
+use denote.Ref.{now}
+use Rattle.calls.proofs.Laws.{recorded}
+use borrow.Author.Needs.{needs}
+use Rattle.calls.proofs.add_permutation.Statement.{statement}
+use Rattle.calls.proofs.add_permutation.Tie as tie
+
+add-permutation-requires : tie.Need-add-permutation-requires
+add-permutation-requires c κs = search needs
+
+same-length : tie.Need-same-length
+same-length c = search needs
+
+returns : tie.Need-returns
+returns c =
+    let a = c .before .before .before .before .before .before .before .args in
+    let made = c .before .before .add-permutation .ensures in
+    recorded (a .rel) (now (a .queries)) (now (a .input)) (now (a .output)) _ _ (made .0) (made .1)
+
+pub add-permutation-spec : {M : Type 1} → statement M
+add-permutation-spec = tie.close (tie.spec add-permutation-requires same-length returns)

@@ -1,0 +1,26 @@
+-- `calls::allocate_permutation` meets its contract: what `permutation::allocate_permutation` ensures is what the list has.
+-- Assumes nothing.
+use denote.Ref.{now}
+use Rattle.calls.proofs.Laws.{minted}
+use borrow.Author.Needs.{needs}
+use Rattle.calls.proofs.allocate_permutation.Statement.{statement}
+use Rattle.calls.proofs.allocate_permutation.Tie as tie
+
+allocate-permutation-requires : tie.Need-allocate-permutation-requires
+allocate-permutation-requires c κs = search needs
+
+same-length : tie.Need-same-length
+same-length c = search needs
+
+same-length-2 : tie.Need-same-length-2
+same-length-2 c = search needs
+
+returns : tie.Need-returns
+returns c =
+    let a = c .before .before .before .before .before .before .before .before .before .before .args in
+    let made = c .before .before .before .before .allocate-permutation .ensures in
+    minted (a .rel) (now (a .slots)) (now (a .queries)) (now (a .input)) _ _ _ (made .0) (made .1) (made .2)
+
+pub allocate-permutation-spec : {M : Type 1} → statement M
+allocate-permutation-spec =
+    tie.close (tie.spec allocate-permutation-requires same-length same-length-2 returns)

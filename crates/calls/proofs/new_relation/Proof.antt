@@ -1,0 +1,22 @@
+-- `calls::new_relation` meets its contract: what `permutation::new_relation` ensures is what the list has.
+-- Assumes nothing.
+use denote.Ref.{now}
+use Rattle.calls.proofs.Laws.{started}
+use borrow.Author.Needs.{needs}
+use Rattle.calls.proofs.new_relation.Statement.{statement}
+use Rattle.calls.proofs.new_relation.Tie as tie
+
+new-relation-requires : tie.Need-new-relation-requires
+new-relation-requires c κs = search needs
+
+same-length : tie.Need-same-length
+same-length c = search needs
+
+returns : tie.Need-returns
+returns c =
+    let a = c .before .before .before .before .before .args in
+    let made = c .before .before .new-relation .ensures in
+    started (a .width) (now (a .slots)) _ _ (made .0) (made .1)
+
+pub new-relation-spec : {M : Type 1} → statement M
+new-relation-spec = tie.close (tie.spec new-relation-requires same-length returns)

@@ -1,0 +1,64 @@
+-- What code says that makes one call of demand 3's list, and what the theorem says of calls made in turn.
+-- Assumes nothing.
+use Prim.Native.Nat.{ℕ}
+use mathlib.Core.Path.{_≡_}
+use mathlib.Core.List.{List, [], _∷_, map}
+use Rattle.limits.specs.declared.Outcome.{Outcome}
+use Rattle.permutation.specs.Answers.{newRelation}
+use Rattle.permutation.specs.declared.PermutationRelation.{PermutationRelation}
+use Rattle.permutation.specs.declared.Recorded.{Recorded}
+use Rattle.history.specs.Calls.{Call, State, state, Answer, answer, after, fresh, firstLedger, Entry, ledgerOf}
+use Rattle.history.specs.Whole.{last, lastLedger, Whole}
+
+-- ---- one call
+-- the call on the state s answers a and leaves t, as the theorem's list has it
+pub record Performs (s : State) (c : Call) (a : Answer) (t : State) : Type 0 where
+  pub answers : answer s c ≡ a
+  pub leaves : after s c ≡ t
+
+-- one that is lent the slots, whatever queries and equations hold
+abbrev pub OnSlots : PermutationRelation → (slots : List ℕ) → Call → Answer → PermutationRelation → (slots : List ℕ) → Type 0
+OnSlots rel slots c a rel′ slots′ =
+    (queries equations : List ℕ) → Performs (state rel slots queries equations) c a (state rel′ slots′ queries equations)
+
+-- the queries
+abbrev pub OnQueries : PermutationRelation → (queries : List ℕ) → Call → Answer → PermutationRelation → (queries : List ℕ) → Type 0
+OnQueries rel queries c a rel′ queries′ =
+    (slots equations : List ℕ) → Performs (state rel slots queries equations) c a (state rel′ slots queries′ equations)
+
+-- both
+abbrev pub OnSlotsQueries : PermutationRelation → (slots queries : List ℕ) → Call → Answer → PermutationRelation → (slots queries : List ℕ) → Type 0
+OnSlotsQueries rel slots queries c a rel′ slots′ queries′ =
+    (equations : List ℕ) → Performs (state rel slots queries equations) c a (state rel′ slots′ queries′ equations)
+
+-- the equations
+abbrev pub OnEquations : PermutationRelation → (equations : List ℕ) → Call → Answer → PermutationRelation → (equations : List ℕ) → Type 0
+OnEquations rel equations c a rel′ equations′ =
+    (slots queries : List ℕ) → Performs (state rel slots queries equations) c a (state rel′ slots queries equations′)
+
+-- ---- fresh
+-- fresh of width w on these stores answers o and leaves t
+pub record Starts (w : ℕ) (slots queries equations : List ℕ) (o : Outcome) (t : State) : Type 0 where
+  pub answers : newRelation w slots .outcome ≡ o
+  pub leaves : fresh w slots queries equations ≡ t
+
+-- it is lent the slots
+abbrev pub StartsSlots : ℕ → (slots : List ℕ) → Recorded → (slots : List ℕ) → Type 0
+StartsSlots w slots r slots′ =
+    (queries equations : List ℕ) → Starts w slots queries equations (r .outcome) (state (r .relation) slots′ queries equations)
+
+-- ---- calls made in turn
+-- from s to t, each on what the one before it left, with what each answered
+abbrev pub Performed : State → List Entry → State → Type 0
+Performed s [] t = s ≡ t
+Performed s (e ∷ es) t = (u : State) × Performs s (e .called) (e .answered) u × Performed u es t
+
+-- the calls of the entries
+abbrev pub callsOf : List Entry → List Call
+callsOf es = map (λ (e : Entry). e .called) es
+
+-- the theorem speaks of them: of these calls, the state that they came to, and the ledger of what they answered
+pub record Run (w : ℕ) (slots queries equations : List ℕ) (es : List Entry) (t : State) : Type 0 where
+  pub whole : Whole w slots queries equations (callsOf es)
+  pub last-is : last w slots queries equations (callsOf es) ≡ t
+  pub ledger-is : lastLedger w slots queries equations (callsOf es) ≡ ledgerOf w firstLedger es

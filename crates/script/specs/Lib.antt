@@ -1,3 +1,0 @@
-pub mod Script
-pub mod Place
-pub mod Encoded
