@@ -61,7 +61,7 @@ static uint32_t batch(const uint32_t weights[2])
     accepted(read.number);
     steps = sfr_witness_from_bytes(1, sfrw, witness.len, LENT(trace));
     accepted(steps.number);
-    return sfr_is_witness_valid(read.instance, sfri + SFR_LABEL_AT, read.label_len, LENT(publics), LENT(queries),
+    return sfr_is_witness_valid(read.instance, sfri + read.label.at, read.label.len, LENT(publics), LENT(queries),
                                 LENT(equations), steps.trace.steps, LENT(trace), 1, LENT(params), LENT(scratch));
 }
 

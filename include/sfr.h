@@ -62,7 +62,6 @@ extern "C" {
 
 #define SFR_PRIME UINT32_C(2013265921)      /* p */
 #define SFR_UNASSIGNED UINT32_C(4294967295) /* F */
-#define SFR_LABEL_AT 17                     /* the byte of an SFRI file at which its label begins */
 
 /* ---- Units, UTF-8, and words in bytes. ---- */
 
@@ -276,11 +275,17 @@ typedef struct {
     sfr_instance instance;
 } sfr_instance_answer;
 
-/* The label is the very part bytes[17..17+label_len) of the input. Zeros, and no label, after a refusal. */
+/* A part of lent bytes: len of them, from byte at on. */
+typedef struct {
+    size_t at;
+    size_t len;
+} sfr_span;
+
+/* The label is the very part of the input that label tells. Zeros, and no label, after a refusal. */
 typedef struct {
     uint32_t number;
     sfr_instance instance;
-    size_t label_len;
+    sfr_span label;
 } sfr_instance_read;
 
 /* Which of its two parts a heading is: the name where named, else the label; and that part's length. */

@@ -104,8 +104,8 @@ pub fn instance_from_bytes(
 /// refusal, nor where these bytes don't hold it. No questions.
 #[must_use]
 pub fn label<'a>(bytes: &'a [u8], read: &InstanceRead) -> &'a [u8] {
-    let from = bytes.get(17..);
-    let part = from.and_then(|bytes| bytes.get(..read.label_len));
+    let from = bytes.get(read.label.at..);
+    let part = from.and_then(|bytes| bytes.get(..read.label.len));
     part.unwrap_or(&bytes[..0])
 }
 

@@ -165,6 +165,16 @@ pub struct InstanceAnswer {
     pub instance: Instance,
 }
 
+/// Where a part of lent bytes lies.
+#[repr(C)]
+#[derive(Clone, Copy, Debug, PartialEq, Eq)]
+pub struct Span {
+    /// Its first byte.
+    pub at: usize,
+    /// How many bytes it has.
+    pub len: usize,
+}
+
 /// The answer of an SFRI read. [`label`](crate::label) gives the label.
 #[repr(C)]
 #[derive(Clone, Copy, Debug, PartialEq, Eq)]
@@ -174,8 +184,8 @@ pub struct InstanceRead {
     pub number: u32,
     /// The instance; zeros after a refusal.
     pub instance: Instance,
-    /// The label's length; 0 after a refusal.
-    pub label_len: usize,
+    /// Where the label lies in the bytes read; zeros after a refusal.
+    pub label: Span,
 }
 
 /// Which of its two parts a heading is, for [`heading`](crate::heading) alone.

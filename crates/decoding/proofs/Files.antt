@@ -5,25 +5,22 @@ use mathlib.Core.Path.{_≡_, refl, sym, ap, _∙_, subst}
 use mathlib.Core.Bool.{Bool, true, false, _&&_}
 use mathlib.Core.List.{List, [], _∷_, _++_, append-nil}
 use native.Mathlib.Omega.{arith}
-use native.Mathlib.Nat.{add-sub-cancel-left}
-use borrow.Author.Tests.{lt-ltb, le-ltb, le-leb, lt-leb, leb-true}
+use borrow.Author.Tests.{lt-ltb, le-ltb, leb-true}
 use lib.Dec.{ltb}
-use lib.ListN.{length, take, drop, getD, replicate, length-drop}
-use lib.Seq.{drop-drop, take-at, length-take-le}
+use lib.ListN.{length, take, drop, getD, replicate}
+use lib.Seq.{take-at}
 use Rattle.limits.specs.Numbers.{maxCount}
 use Rattle.limits.specs.Questions.{firstNo}
 use Rattle.limits.proofs.Questions.{onYes-yes, onYes-no, accepted-says}
 use Rattle.words.specs.Store.{putWords, All}
 use Rattle.words.specs.Pieces.{wordsOf, flat}
 use Rattle.words.proofs.Held.{flat-length, pieces-flat}
-use Rattle.utf8.specs.Utf8.{isUtf8}
 use Rattle.narg.specs.Reader.{Got, got, stop, word, wire, times, items}
 use Rattle.narg.specs.Cursor.{readU32}
 use Rattle.narg.specs.declared.Cursor.{Cursor}
 use Rattle.narg.specs.declared.Word.the-variants.{Read as ReadWord, Short}
-use Rattle.narg.proofs.Fields.{part-short, part-long}
 use Rattle.narg.proofs.Lists.{passed, items-all, times-count}
-use Rattle.narg.proofs.At.{readU32-read, readU32-stop, word-next}
+use Rattle.narg.proofs.At.{readU32-stop, word-next}
 use Rattle.allocator.specs.Slots.{Pair, pair}
 use Rattle.expr.specs.Equation.{Equation, equationsWords}
 use Rattle.expr.proofs.Held.{equations-words}
@@ -35,49 +32,14 @@ use Rattle.instance.proofs.Parts.{pairsAt-take, pairsAt-pairWords, pairWords-le
 use Rattle.limits.specs.declared.Outcome.the-variants.{Accepted, Refused}
 use Rattle.header.specs.Form.{letterI, version}
 use Rattle.header.specs.Read.{readHeader}
-use Rattle.decoding.specs.Read.{Rooms, File, file, readLabel, readPublics, readQueries, readEquations, readParts, increasing, pieceSize, readFile, readInstance}
-use Rattle.decoding.specs.Answers.{readAsks, instanceFromBytes, instanceRead, refusedInstance, instanceAnswer, publicsAfter, queriesAfter, equationsAfter, labelStart, labelPart, labelPlace}
-use Rattle.decoding.specs.Given.{rooms, Holds, PartsGiven, ToldParts, FileGiven, ToldFile, After}
+use Rattle.decoding.specs.Read.{Rooms, rooms, File, file, readLabel, readPublics, readQueries, readEquations, readParts, increasing, pieceSize, readFile, readInstance}
+use Rattle.decoding.specs.Answers.{readAsks, instanceFromBytes, instanceRead, refusedInstance, instanceAnswer, publicsAfter, queriesAfter, equationsAfter, labelStart, span}
+use Rattle.decoding.specs.Given.{Holds, PartsGiven, ToldParts, FileGiven, ToldFile, After}
 use Rattle.decoding.specs.Told.{Listed}
 use Rattle.decoding.specs.declared.FileRead.{FileRead}
 use Rattle.decoding.specs.declared.FileRead.the-variants.{Read as FileGot, Refused as FileRefused}
 use Rattle.decoding.specs.declared.InstanceRead.{InstanceRead}
 use Rattle.decoding.proofs.Steps.{ended-left, ended-yes, put-padded}
-
--- ---- the label
-module _ (s : List ℕ) (at : ℕ) where
-  pub label-short : readU32 s at ≡ Short → readLabel (drop at s) ≡ stop 20
-  unfolding readLabel
-  label-short e = rw (readU32-stop s at e)
-
-  module _ (n : ℕ) (c : Cursor) (ew : readU32 s at ≡ ReadWord n c) where
-    pub label-start : c .at ≤ length s
-    label-start = let w = readU32-read s at n c ew in let f = w .fits in let p = w .past in omega arith
-
-    pub label-cut : length s - c .at < n → readLabel (drop at s) ≡ stop 20
-    unfolding readLabel
-    label-cut h = rw (word-next s at n c ew, part-short n (drop (c .at) s) (rw length-drop h))
-
-    -- the part that is lent to the scan
-    abbrev lent : List ℕ
-    lent = take ((c .at + n) - c .at) (drop (c .at) s)
-
-    lent-is : lent ≡ take n (drop (c .at) s)
-    lent-is = ap (λ (k : ℕ). take k (drop (c .at) s)) (add-sub-cancel-left (c .at) n)
-
-    module _ (h : n ≤ length s - c .at) where
-      pub label-bad : isUtf8 lent ≡ false → readLabel (drop at s) ≡ stop 25
-      unfolding readLabel
-      label-bad u = rw (word-next s at n c ew, part-long n (drop (c .at) s) (rw length-drop h), ← lent-is, u)
-
-      pub label-yes : isUtf8 lent ≡ true → readLabel (drop at s) ≡ got (take n (drop (c .at) s)) (drop (c .at + n) s)
-      unfolding readLabel
-      label-yes u =
-          rw (word-next s at n c ew, part-long n (drop (c .at) s) (rw length-drop h), ← lent-is, u)
-          (ap (λ (l : List ℕ). got lent l) (drop-drop n (c .at) s))
-
-      pub label-length : n ≡ length (take n (drop (c .at) s))
-      label-length = sym (length-take-le n (drop (c .at) s) (rw length-drop h))
 
 -- ---- the order of the publics
 few : (n : ℕ) (s : List ℕ) → n ≤ 1 → increasing (pairsAt n s) ≡ true
@@ -338,12 +300,12 @@ module _ (width : ℕ) (g : Got File) (p₀ p q₀ q e₀ e s₀ s : List ℕ) w
 
   pub after-got : (f : File) (rest : List ℕ) → g ≡ got f rest → (ins : PermutationInstance) (n : ℕ) → Holds width (f .parts) ins p₀ p q₀ q e₀ e → n ≡ length (f .label)
       → s ≡ replicate (length s₀) 0
-      → (record { outcome = Accepted; instance = ins; label = n } ≡ instanceAnswer width g) × After g p₀ p q₀ q e₀ e s₀ s
+      → (record { outcome = Accepted; instance = ins; label = span labelStart n } ≡ instanceAnswer width g) × After g p₀ p q₀ q e₀ e s₀ s
   unfolding After
   after-got f rest x ins n h l z =
       rw x (
-        ap (λ (i : PermutationInstance). record { outcome = Accepted; instance = i; label = n }) (h .is)
-            ∙ ap (λ (m : ℕ). record { outcome = Accepted; instance = instanceRead width (f .parts); label = m }) l,
+        ap (λ (i : PermutationInstance). record { outcome = Accepted; instance = i; label = span labelStart n }) (h .is)
+            ∙ ap (λ (m : ℕ). record { outcome = Accepted; instance = instanceRead width (f .parts); label = span labelStart m }) l,
         record { publics = h .publics; queries = h .queries; equations = h .equations; scratch = z },
       )
 
@@ -413,21 +375,3 @@ module _ (width : ℕ) (g : Got File) (r : InstanceRead) (p q e s p₀ p₁ q₀
       go : (y : Got File) → g ≡ y → Left width g r p q e (replicate (length p) 0) (replicate (length q) 0) (replicate (length e) 0)
       go (got f rest) i = absurd (not-accepted k (sym o ∙ ap (λ (y : InstanceRead). y .outcome) (a ∙ ap (instanceAnswer width) i)))
       go (stop j) i = record { answer = a; publics = rw i; queries = rw i; equations = rw i }
-
--- ---- the label of a read
-module _ (s : List ℕ) (len : ℕ) where
-  pub label-none : length s < labelStart + len → [] ≡ labelPart s len
-  unfolding labelPart
-  label-none h = simp (lt-leb (labelStart + len) (length s) h)
-
-  pub label-some : labelStart + len ≤ length s → take ((labelStart + len) - labelStart) (drop labelStart s) ≡ labelPart s len
-  unfolding labelPart
-  label-some h = simp (le-leb (labelStart + len) (length s) h) (ap (λ (k : ℕ). take k (drop labelStart s)) (add-sub-cancel-left labelStart len))
-
-  pub place-none : (p : ℕ × ℕ) → length s < labelStart + len → p ≡ labelPlace s len p
-  unfolding labelPlace
-  place-none p h = simp (lt-leb (labelStart + len) (length s) h)
-
-  pub place-some : (p : ℕ × ℕ) → labelStart + len ≤ length s → (p .0, labelStart + p .1) ≡ labelPlace s len p
-  unfolding labelPlace
-  place-some p h = simp (le-leb (labelStart + len) (length s) h)

@@ -1,9 +1,10 @@
 -- What the calls that read answer, and what they leave of the lent stores. Assumes nothing.
 use Prim.Native.Nat.{ℕ, _+_, _-_}
+use mathlib.Core.Path.{_≡_}
 use mathlib.Core.List.{List, [], _++_}
-use lib.Dec.{leb}
-use lib.ListN.{length, take, drop, replicate}
-use Rattle.limits.specs.Questions.{pick, Question, firstNo}
+use lib.ListN.{length, replicate}
+use denote.Ref.{RefT, now}
+use Rattle.limits.specs.Questions.{Question, firstNo}
 use Rattle.limits.specs.Asks.{widthAsks, storeAsks}
 use Rattle.words.specs.Pieces.{flat}
 use Rattle.narg.specs.Reader.{Got, got, stop}
@@ -13,9 +14,11 @@ use Rattle.instance.specs.Parts.{Parts, pairWords}
 use Rattle.instance.specs.Looks.{noInstance}
 use Rattle.instance.specs.declared.PermutationInstance.{PermutationInstance}
 use Rattle.header.specs.Form.{version}
-use Rattle.decoding.specs.Read.{Rooms, File, readInstance, readWitness}
+use Rattle.decoding.specs.Read.{Rooms, rooms, File, readInstance, readWitness}
 use Rattle.decoding.specs.Sound.{gotAfter}
+use Rattle.decoding.specs.declared.Span.{Span}
 use Rattle.decoding.specs.declared.InstanceRead.{InstanceRead}
+use Rattle.decoding.specs.declared.InstanceFile.{InstanceFile}
 use Rattle.decoding.specs.declared.WitnessRead.{WitnessRead}
 
 -- ---- 1 and 2 first, then the bytes field by field
@@ -50,15 +53,41 @@ instanceRead width parts =
 abbrev pub padded : ℕ → List ℕ → List ℕ
 padded len words = words ++ replicate (len - length words) 0
 
--- the answer of a refused read
-abbrev pub refusedInstance : ℕ → InstanceRead
-refusedInstance k = record { outcome = Refused k; instance = noInstance; label = 0 }
+-- where a label lies in SFRI: behind the header and the label's length, 13 and 4 bytes
+abbrev pub labelStart : ℕ
+labelStart = 17
 
--- answers: a refused read has a record of zeros and an empty label, and its stores are all 0
+-- where a part of the bytes lies
+abbrev pub span : (at len : ℕ) → Span
+span at len = record { at = at; len = len }
+
+-- the answer of an accepted read: the record, and where the label lies
+abbrev pub acceptedInstance : ℕ → File → InstanceRead
+acceptedInstance width file =
+    record {
+      outcome = Accepted;
+      instance = instanceRead width (file .parts);
+      label = span labelStart (length (file .label));
+    }
+
+-- the answer of a refused read: zeros, so that its label is empty
+abbrev pub refusedInstance : ℕ → InstanceRead
+refusedInstance k = record { outcome = Refused k; instance = noInstance; label = span 0 0 }
+
+-- the answer
 abbrev pub instanceAnswer : ℕ → Got File → InstanceRead
-instanceAnswer width (got file rest) =
-    record { outcome = Accepted; instance = instanceRead width (file .parts); label = length (file .label) }
+instanceAnswer width (got file rest) = acceptedInstance width file
 instanceAnswer width (stop k) = refusedInstance k
+
+-- the label that was read, empty where the read refuses
+abbrev pub labelRead : Got File → List ℕ
+labelRead (got file rest) = file .label
+labelRead (stop k) = []
+
+-- and where that part lies, from where the bytes lie: the block and the byte in it; of a refused read, at their start
+abbrev pub labelPlace : Got File → ℕ × ℕ → ℕ × ℕ
+labelPlace (got file rest) place = (place .0, labelStart + place .1)
+labelPlace (stop k) place = place
 
 -- the store of publics after a read: the pairs that were read, then 0
 abbrev pub publicsAfter : ℕ → Got File → List ℕ
@@ -85,15 +114,43 @@ abbrev pub traceAfter : ℕ → Got (List (List ℕ)) → List ℕ
 traceAfter len (got steps rest) = padded len (flat steps)
 traceAfter len (stop k) = replicate len 0
 
--- ---- the label of a read: the part of the input that holds it, from byte 17 on; none where it runs past the end
--- header and label length are 13 and 4 bytes
-abbrev pub labelStart : ℕ
-labelStart = 17
+-- ---- an SFRI read: its answer, and what it leaves of what it was lent
+-- what the three stores and the scratch hold
+pub record Stores : Type 0 where
+  pub publics : List ℕ
+  pub queries : List ℕ
+  pub equations : List ℕ
+  pub scratch : List ℕ
 
--- the bytes of the label
-unfoldable pub labelPart : List ℕ → ℕ → List ℕ
-labelPart bytes len = pick (leb (labelStart + len) (length bytes)) (take len (drop labelStart bytes)) []
+-- these, put together
+abbrev pub stores : (publics queries equations scratch : List ℕ) → Stores
+stores publics queries equations scratch =
+    record { publics = publics; queries = queries; equations = equations; scratch = scratch }
 
--- and where that part lies, from where the bytes lie: the block and the byte in it
-unfoldable pub labelPlace : List ℕ → ℕ → ℕ × ℕ → ℕ × ℕ
-labelPlace bytes len place = pick (leb (labelStart + len) (length bytes)) (place .0, labelStart + place .1) place
+-- how many words each has
+abbrev pub roomsOf : Stores → Rooms
+roomsOf s = rooms (length (s .publics)) (length (s .queries)) (length (s .equations)) (length (s .scratch))
+
+-- the three stores as the read leaves them, and scratch all 0
+pub record StoresAfter (g : Got File) (before after : Stores) : Type 0 where
+  pub publics : after .publics ≡ publicsAfter (length (before .publics)) g
+  pub queries : after .queries ≡ queriesAfter (length (before .queries)) g
+  pub equations : after .equations ≡ equationsAfter (length (before .equations)) g
+  pub scratch : after .scratch ≡ replicate (length (before .scratch)) 0
+
+-- what a read of these bytes gets with these stores lent
+abbrev pub instanceGot : (width : ℕ) (bytes : List ℕ) → Stores → Got File
+instanceGot width bytes before = instanceFromBytes width bytes (roomsOf before)
+
+-- the read that answers by numbers, whatever form its answer has
+pub record InstanceReads {A : Type 0} (answerOf : Got File → A) (width : ℕ) (bytes : List ℕ) (before after : Stores) (r : A) : Type 0 where
+  pub answer : r ≡ answerOf (instanceGot width bytes before)
+  pub left : StoresAfter (instanceGot width bytes before) before after
+
+-- the read that answers with the label itself: its bytes, and its place in the bytes lent
+pub record FileReads (width : ℕ) (bytes : RefT (List ℕ)) (before after : Stores) (r : InstanceFile) : Type 0 where
+  pub outcome : r .outcome ≡ instanceAnswer width (instanceGot width (now bytes) before) .outcome
+  pub instance : r .instance ≡ instanceAnswer width (instanceGot width (now bytes) before) .instance
+  pub label : now (r .label) ≡ labelRead (instanceGot width (now bytes) before)
+  pub place : r .label .ptr ≡ labelPlace (instanceGot width (now bytes) before) (bytes .ptr)
+  pub left : StoresAfter (instanceGot width (now bytes) before) before after

@@ -11,15 +11,10 @@ use Rattle.narg.specs.declared.Cursor.{Cursor}
 use Rattle.expr.specs.Equation.{equationsWords}
 use Rattle.instance.specs.Parts.{Parts, pairWords}
 use Rattle.instance.specs.declared.PermutationInstance.{PermutationInstance}
-use Rattle.decoding.specs.Read.{Rooms, File}
+use Rattle.decoding.specs.Read.{File}
 use Rattle.decoding.specs.Answers.{instanceRead}
 use Rattle.decoding.specs.declared.FileRead.{FileRead}
 use Rattle.decoding.specs.declared.FileRead.the-variants.{Read, Refused}
-
--- the lengths of four stores, put together
-abbrev pub rooms : (publics queries equations scratch : ℕ) → Rooms
-rooms publics queries equations scratch =
-    record { publics = publics; queries = queries; equations = equations; scratch = scratch }
 
 -- the number of a refusal, or 0
 abbrev pub fileNumberOf : FileRead → ℕ

@@ -54,6 +54,11 @@ pub record Rooms : Type 0 where
   pub equations : ℕ
   pub scratch : ℕ
 
+-- these, put together
+abbrev pub rooms : (publics queries equations scratch : ℕ) → Rooms
+rooms publics queries equations scratch =
+    record { publics = publics; queries = queries; equations = equations; scratch = scratch }
+
 -- how many publics, and these
 unfoldable pub readPublics : ℕ → Reader (List Pair)
 readPublics room = word >>= λ n. items readPair pairSize room 0 n

@@ -8,14 +8,18 @@ use lib.Dec.{leb}
 use lib.ListN.{length, drop}
 use Rattle.words.specs.Store.{putWords}
 use Rattle.narg.specs.Reader.{Got, got, stop, _>>=_, need}
+use Rattle.narg.specs.Cursor.{cursor, readU32}
 use Rattle.narg.specs.declared.Cursor.{Cursor}
+use Rattle.narg.specs.declared.Word.{Word}
+use Rattle.narg.specs.declared.Word.the-variants.{Read as ReadWord, Short}
 use Rattle.narg.specs.declared.Item.{Item}
 use Rattle.narg.specs.declared.Item.the-variants.{Read as ReadItem, Refused as RefusedItem}
+use Rattle.reader.specs.At.{partAt}
 use Rattle.allocator.specs.Slots.{Pair, pair}
 use Rattle.expr.specs.Equation.{Term, Equation, termWords, equationWords}
 use Rattle.header.specs.declared.Field.{Field}
 use Rattle.header.specs.declared.Field.the-variants.{Read, Refused}
-use Rattle.decoding.specs.Read.{readEquation, sizeOf}
+use Rattle.decoding.specs.Read.{readLabel, readEquation, sizeOf}
 
 -- a refused item as a refused field
 abbrev pub refusedOf : Item → Field
@@ -33,6 +37,23 @@ pub record Given {A : Type 0} (g : Got A) (numberOf : A → ℕ) (bytes : List �
 unfoldable pub Told : {A : Type 0} → Got A → (A → ℕ) → (bytes : List ℕ) → Field → Type 0
 Told g numberOf bytes (Read n words next) = Given g numberOf bytes n next
 Told g numberOf bytes (Refused k) = g ≡ stop k
+
+-- ---- the label, by its length and the part that a reader takes behind it
+-- where a label begins that is that long
+abbrev pub labelFirst : Word → Cursor
+labelFirst (ReadWord n next) = next
+labelFirst Short = cursor 0
+
+-- how long it is
+abbrev pub labelCount : Word → ℕ
+labelCount (ReadWord n next) = n
+labelCount Short = 0
+
+-- an answer tells what the reader of a label gets, of whatever bytes these are the length and the part
+abbrev pub ToldLabel : Word → List ℕ → Field → Type 0
+ToldLabel w part r =
+    (s : List ℕ) (at : ℕ) → w ≡ readU32 s at → part ≡ partAt s (labelFirst w .at) (labelCount w)
+    → Told (readLabel (drop at s)) (λ l. length l) s r
 
 -- ---- a list of items: their count and how many words they take, written from the start of a store on
 -- what was read: items that the reader gets too, stored at the front, the rest as it was

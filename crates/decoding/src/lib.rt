@@ -16,15 +16,28 @@ mod sfri;
 mod sfrw;
 
 pub use sfri::instance_from_bytes;
-pub use sfri::label;
+pub use sfri::instance_from_bytes_at;
 pub use sfrw::witness_from_bytes;
 
-// What a read of an instance answers: its record and the length of its label, which starts at byte 17; zeros
-// where it was refused.
+// Where a part of the bytes lies.
+#[repr(C)]
+pub struct Span {
+    pub at: usize,
+    pub len: usize,
+}
+
+// What a read of an instance answers: its record, and where its label lies; zeros where it was refused.
 pub struct InstanceRead {
     pub outcome: Outcome,
     pub instance: PermutationInstance,
-    pub label: usize,
+    pub label: Span,
+}
+
+// The same with the label itself: the part of the bytes that holds it.
+pub struct InstanceFile<'a> {
+    pub outcome: Outcome,
+    pub instance: PermutationInstance,
+    pub label: &'a [u8],
 }
 
 // What a read of a witness answers: the number of steps, 0 where it was refused.

@@ -4,15 +4,15 @@
 // A reader here may leave anything in its stores where it refuses.
 
 ghost use mathlib.Core.Path.{_≡_};
-ghost use Prim.Native.Nat.{_*_, _≤_};
+ghost use Prim.Native.Nat.{_+_, _*_, _^_, _≤_, _<_};
 ghost use lib.ListN.{length, drop};
 ghost use Rattle.limits.specs.Numbers.{maxCount};
 ghost use Rattle.words.specs.Pieces.{flat};
 ghost use Rattle.expr.specs.Equation.{equationsWords};
 ghost use Rattle.instance.specs.Parts.{pairWords, pairsAt};
-ghost use Rattle.decoding.specs.Read.{readLabel, readPublics, readQueries, readEquations, readParts, increasing};
-ghost use Rattle.decoding.specs.Told.{Told, ToldList};
-ghost use Rattle.decoding.specs.Given.{rooms, ToldParts};
+ghost use Rattle.decoding.specs.Read.{rooms, readLabel, readPublics, readQueries, readEquations, readParts, increasing};
+ghost use Rattle.decoding.specs.Told.{Told, ToldList, labelFirst, labelCount, ToldLabel};
+ghost use Rattle.decoding.specs.Given.{ToldParts};
 use crate::FileRead;
 use crate::items::read_equations;
 use crate::items::read_pairs;
@@ -24,24 +24,59 @@ use limits::MAX_COUNT;
 use narg::Cursor;
 use narg::Word;
 
-// The label: its length, and as many bytes that are UTF-8. Questions 20, 20, 25.
+// ---- the label
+
+// Where a label begins that is that long.
+fn label_first(len: Word) -> Cursor
+    ensures { λ r. ⌜ r ≡ labelFirst len ⌝ }
+{
+    match len {
+        Word::Read(_, next) => next,
+        Word::Short => Cursor { at: 0 },
+    }
+}
+
+// How long it is.
+fn label_count(len: Word) -> usize
+    ensures { λ r. ⌜ r ≡ labelCount len ⌝ }
+{
+    match len {
+        Word::Read(n, _) => n as usize,
+        Word::Short => 0,
+    }
+}
+
+// What a label's length and the part behind it answer, whatever bytes they are of. Questions 20, 20, 25.
+fn label_answer(len: Word, part: &[u8]) -> Field
+    requires { ⌜ labelFirst len .at + length (now part) < 2 ^ 64 ⌝ }
+    ensures { λ r. ⌜ ToldLabel len (now (part .entry)) r ⌝ }
+{
+    let Word::Read(n, first) = len else {
+        return Field::Refused(20);
+    };
+    let count = n as usize;
+    if part.len() < count {
+        return Field::Refused(20);
+    }
+    if !utf8::is_utf8(part) {
+        return Field::Refused(25);
+    }
+    let end = first.at + count;
+    Field::Read(n, 0, Cursor { at: end })
+}
+
+// The label, through a reader: its length, and as many bytes that are UTF-8. Questions 20, 20, 25.
 pub(crate) fn read_label(bytes: &[u8], c: Cursor) -> Field
     ensures { λ r. ⌜ Told (readLabel (drop (c .at) (now (bytes .entry)))) (λ l. length l) (now (bytes .entry)) r ⌝ }
 {
-    let Word::Read(n, after) = narg::read_u32(bytes, c) else {
-        return Field::Refused(20);
-    };
-    let start = after.at;
-    let len = n as usize;
-    if bytes.len() - start < len {
-        return Field::Refused(20);
-    }
-    let end = start + len;
-    if !utf8::is_utf8(&bytes[start..end]) {
-        return Field::Refused(25);
-    }
-    Field::Read(n, 0, Cursor { at: end })
+    let start = reader::moved(reader::new(bytes), c);
+    let len = reader::read_u32(start);
+    let behind = reader::moved(start, label_first(len));
+    let part = reader::take(behind, label_count(len));
+    label_answer(len, part)
 }
+
+// ---- the wire count and the lists
 
 // The public count and the pairs.
 fn read_publics(bytes: &[u8], c: Cursor, publics: &mut [u32]) -> Field

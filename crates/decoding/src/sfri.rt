@@ -6,11 +6,13 @@ ghost use lib.ListN.{length, replicate};
 ghost use Rattle.limits.specs.Numbers.{maxCount};
 ghost use Rattle.limits.specs.Questions.{firstNo};
 ghost use Rattle.header.specs.Form.{version};
-ghost use Rattle.decoding.specs.Read.{readFile, readInstance};
-ghost use Rattle.decoding.specs.Answers.{readAsks, instanceFromBytes, refusedInstance, instanceAnswer, publicsAfter, queriesAfter, equationsAfter, labelPart, labelPlace};
-ghost use Rattle.decoding.specs.Given.{rooms, ToldFile, After};
+ghost use Rattle.decoding.specs.Read.{rooms, readFile, readInstance};
+ghost use Rattle.decoding.specs.Answers.{readAsks, refusedInstance, instanceAnswer, stores, InstanceReads, FileReads};
+ghost use Rattle.decoding.specs.Given.{ToldFile, After};
 use crate::FileRead;
+use crate::InstanceFile;
 use crate::InstanceRead;
+use crate::Span;
 use crate::file_number;
 use crate::parts::increasing;
 use crate::parts::read_label;
@@ -21,6 +23,10 @@ use header::field_number;
 use header::read_header;
 use instance::PermutationInstance;
 use limits::Outcome;
+use narg::Cursor;
+
+// Where the label of an accepted read begins: behind the header and the label's length, 13 and 4 bytes.
+const LABEL_AT: usize = 17;
 
 // Header, label, parts, and 27.
 fn read_file(
@@ -67,7 +73,7 @@ fn refused(no: u32) -> InstanceRead
             words: 0,
             publics: 0,
         },
-        label: 0,
+        label: Span { at: 0, len: 0 },
     }
 }
 
@@ -99,7 +105,10 @@ fn read_instance(
     InstanceRead {
         outcome: Outcome::Accepted,
         instance: ins,
-        label: len as usize,
+        label: Span {
+            at: LABEL_AT,
+            len: len as usize,
+        },
     }
 }
 
@@ -126,8 +135,9 @@ fn clear_all(publics: &mut [u32], queries: &mut [u32], equations: &mut [u32], sc
 }
 
 // SFRI of that width into lent stores: each part, then 0 to its store's end; all 0 where it refuses. Questions 1, 2,
-// then field by field 20 to 25, 3, 4 and 10, then 27, 16, 12 to 15, last 28. Scratch is all 0 afterwards.
-pub fn instance_from_bytes(
+// then field by field 20 to 25, 3, 4 and 10, then 27, 16, 12 to 15, last 28. Scratch is all 0 afterwards. The label is
+// told by its place and length.
+pub fn instance_from_bytes_at(
     width: u32,
     bytes: &[u8],
     publics: &mut [u32],
@@ -135,11 +145,9 @@ pub fn instance_from_bytes(
     equations: &mut [u32],
     scratch: &mut [u32],
 ) -> InstanceRead
-    ensures { λ r. ⌜ (r ≡ instanceAnswer width (instanceFromBytes width (now (bytes .entry)) (rooms (length (now (publics .entry))) (length (now (queries .entry))) (length (now (equations .entry))) (length (now (scratch .entry))))))
-        × (now (publics .exit) ≡ publicsAfter (length (now (publics .entry))) (instanceFromBytes width (now (bytes .entry)) (rooms (length (now (publics .entry))) (length (now (queries .entry))) (length (now (equations .entry))) (length (now (scratch .entry))))))
-        × (now (queries .exit) ≡ queriesAfter (length (now (queries .entry))) (instanceFromBytes width (now (bytes .entry)) (rooms (length (now (publics .entry))) (length (now (queries .entry))) (length (now (equations .entry))) (length (now (scratch .entry))))))
-        × (now (equations .exit) ≡ equationsAfter (length (now (equations .entry))) (instanceFromBytes width (now (bytes .entry)) (rooms (length (now (publics .entry))) (length (now (queries .entry))) (length (now (equations .entry))) (length (now (scratch .entry))))))
-        × (now (scratch .exit) ≡ replicate (length (now (scratch .entry))) 0) ⌝ }
+    ensures { λ r. ⌜ InstanceReads (instanceAnswer width) width (now (bytes .entry))
+        (stores (now (publics .entry)) (now (queries .entry)) (now (equations .entry)) (now (scratch .entry)))
+        (stores (now (publics .exit)) (now (queries .exit)) (now (equations .exit)) (now (scratch .exit))) r ⌝ }
 {
     clear(publics, queries, equations);
     let no = asked_read(
@@ -173,17 +181,25 @@ fn asked_read(width: u32, publics: usize, queries: usize, equations: usize, scra
     limits::asked_store(d, scratch)
 }
 
-// The label of a read: that very part of the bytes, from byte 17 on; where it would run past the end, none.
-pub fn label<'a>(bytes: &'a [u8], read: InstanceRead) -> &'a [u8]
-    ensures { λ r. ⌜ (now r ≡ labelPart (now (bytes .entry)) (read .label)) × (r .ptr ≡ labelPlace (now (bytes .entry)) (read .label) (bytes .entry .ptr)) ⌝ }
+// The same read, with the label as that very part of the bytes, taken through a reader; after a refusal it is empty.
+pub fn instance_from_bytes<'a>(
+    width: u32,
+    bytes: &'a [u8],
+    publics: &mut [u32],
+    queries: &mut [u32],
+    equations: &mut [u32],
+    scratch: &mut [u32],
+) -> InstanceFile<'a>
+    ensures { λ r. ⌜ FileReads width (bytes .entry)
+        (stores (now (publics .entry)) (now (queries .entry)) (now (equations .entry)) (now (scratch .entry)))
+        (stores (now (publics .exit)) (now (queries .exit)) (now (equations .exit)) (now (scratch .exit))) r ⌝ }
 {
-    let len = read.label;
-    if bytes.len() < 17 {
-        return &bytes[..0];
+    let read = instance_from_bytes_at(width, bytes, publics, queries, equations, scratch);
+    let start = reader::moved(reader::new(bytes), Cursor { at: read.label.at });
+    let label = reader::take(start, read.label.len);
+    InstanceFile {
+        outcome: read.outcome,
+        instance: read.instance,
+        label,
     }
-    if bytes.len() - 17 < len {
-        return &bytes[..0];
-    }
-    let end = 17 + len;
-    &bytes[17..end]
 }

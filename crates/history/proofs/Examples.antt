@@ -35,7 +35,7 @@ use Rattle.encoding.specs.Form.{instanceBytes, witnessBytes}
 use Rattle.header.specs.Read.{readMagic, readHeader}
 use Rattle.decoding.specs.Read.{readLabel, readPublics, readQueries, readEquations, readParts, readInstance, readFile, readSteps, readWitness}
 use Rattle.encoding.specs.Answers.{instanceToBytesNo, witnessToBytesNo}
-use Rattle.decoding.specs.Answers.{instanceFromBytes, witnessFromBytes, labelPart}
+use Rattle.decoding.specs.Answers.{instanceFromBytes, witnessFromBytes}
 use Rattle.roundtrip.proofs.Examples.{outcomes as reads, examples as on-bytes}
 use Rattle.permutation.proofs.Examples.{Examples, examples}
 use Rattle.history.specs.Sat.{Sat, Evaluates}
@@ -121,7 +121,7 @@ SatA trace = Sat (Evaluates 1 (parametersOf 1 1 params)) (lastLedger 1 slots que
 
 -- the ledger of those calls is satisfied by the trace (2, 5)
 pub satisfied : SatA ((2 ∷ 5 ∷ []) ∷ [])
-unfolding ask _▸_ newRelationNo allocateVarsNo setVarNo setVarsNo addPermutationNo allocatePermutationNo addEquationNo pairNo setRun setVarsRun allBelow answer after compiledParts publicsOf equationAt sizeAt equationsSound slotsSound follow isUtf8 compileNo compile validatedNo gateNo compilePublics publicsSound partsOf checkNo isWitnessValidNo isEvaluation permuteNo soundParameters roundsOf rowsOf soundKinds unitConstants unitRows sameWords runRounds runRound addConstants raise timesMatrix addUnit mulUnit seventh dotUnits instanceToBytesNo instanceBytes headerBytes u32Bytes instanceFromBytes readInstance readFile readHeader readMagic readLabel readParts readPublics readQueries readEquations word part below witnessToBytesNo witnessBytes witnessFromBytes readWitness readSteps labelPart
+unfolding ask _▸_ newRelationNo allocateVarsNo setVarNo setVarsNo addPermutationNo allocatePermutationNo addEquationNo pairNo setRun setVarsRun allBelow answer after compiledParts publicsOf equationAt sizeAt equationsSound slotsSound follow isUtf8 compileNo compile validatedNo gateNo compilePublics publicsSound partsOf checkNo isWitnessValidNo isEvaluation permuteNo soundParameters roundsOf rowsOf soundKinds unitConstants unitRows sameWords runRounds runRound addConstants raise timesMatrix addUnit mulUnit seventh dotUnits instanceToBytesNo instanceBytes headerBytes u32Bytes instanceFromBytes readInstance readFile readHeader readMagic readLabel readParts readPublics readQueries readEquations word part below witnessToBytesNo witnessBytes witnessFromBytes readWitness readSteps
 satisfied =
     whole 1 slots queries equations fresh-accepted calls .gated [] publics scratch gate-accepted .files lentFile
     .checks refl refl (lentTrace (2 ∷ 5 ∷ 9 ∷ [])) refl refl 1 params refl 3 (omega arith) (omega arith)
@@ -137,7 +137,7 @@ satisfied-held =
 
 -- and not by (3, 640), whose check is 33: no assignment gives wire 2 both 5 and 640
 pub unsatisfied : SatA ((3 ∷ 640 ∷ []) ∷ []) → ⊥
-unfolding ask _▸_ newRelationNo allocateVarsNo setVarNo setVarsNo addPermutationNo allocatePermutationNo addEquationNo pairNo setRun setVarsRun allBelow answer after compiledParts publicsOf equationAt sizeAt equationsSound slotsSound follow isUtf8 compileNo compile validatedNo gateNo compilePublics publicsSound partsOf checkNo isWitnessValidNo isEvaluation permuteNo soundParameters roundsOf rowsOf soundKinds unitConstants unitRows sameWords runRounds runRound addConstants raise timesMatrix addUnit mulUnit seventh dotUnits instanceToBytesNo instanceBytes headerBytes u32Bytes instanceFromBytes readInstance readFile readHeader readMagic readLabel readParts readPublics readQueries readEquations word part below witnessToBytesNo witnessBytes witnessFromBytes readWitness readSteps labelPart
+unfolding ask _▸_ newRelationNo allocateVarsNo setVarNo setVarsNo addPermutationNo allocatePermutationNo addEquationNo pairNo setRun setVarsRun allBelow answer after compiledParts publicsOf equationAt sizeAt equationsSound slotsSound follow isUtf8 compileNo compile validatedNo gateNo compilePublics publicsSound partsOf checkNo isWitnessValidNo isEvaluation permuteNo soundParameters roundsOf rowsOf soundKinds unitConstants unitRows sameWords runRounds runRound addConstants raise timesMatrix addUnit mulUnit seventh dotUnits instanceToBytesNo instanceBytes headerBytes u32Bytes instanceFromBytes readInstance readFile readHeader readMagic readLabel readParts readPublics readQueries readEquations word part below witnessToBytesNo witnessBytes witnessFromBytes readWitness readSteps
 unsatisfied s =
     let z : _≡_ {A = ℕ} 33 0 = accepted-no 33
     (whole 1 slots queries equations fresh-accepted calls .gated [] publics scratch gate-accepted .files lentFile

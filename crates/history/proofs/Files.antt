@@ -7,13 +7,11 @@ use native.Mathlib.Omega.{arith}
 use borrow.Author.Tests.{le-leb}
 use lib.Dec.{leb}
 use lib.ListN.{length, take}
-use lib.Seq.{take-append-seam}
 use Rattle.limits.specs.Numbers.{maxCount, maxWidth}
 use Rattle.limits.specs.Questions.{ask, _▸_, Question, firstNo}
 use Rattle.limits.specs.Asks.{widthAsks, storeAsks}
 use Rattle.limits.proofs.Questions.{ask-yes, firstNo-append}
 use Rattle.words.specs.Pieces.{flat, wordsOf}
-use Rattle.narg.specs.Bytes.{u32Bytes}
 use Rattle.narg.specs.Reader.{Got, got}
 use Rattle.allocator.specs.Slots.{Pair}
 use Rattle.expr.specs.Equation.{equationsWords}
@@ -26,12 +24,12 @@ use Rattle.compile.specs.Gate.{publicsOf, publicsStore, compileNo}
 use Rattle.limits.specs.Outcome.{outcomeOf}
 use Rattle.instance.proofs.Facts.{allBelow-facts, facts-validated}
 use Rattle.instance.proofs.Parts.{pairWords-length}
-use Rattle.header.specs.Form.{version, headerBytes}
-use Rattle.encoding.specs.Form.{instanceBytes, partsBytes}
+use Rattle.header.specs.Form.{version}
+use Rattle.encoding.specs.Form.{instanceBytes}
 use Rattle.decoding.specs.Read.{File, readInstance, file}
 use Rattle.decoding.specs.Sound.{SoundFile, roomAsks, orderAsks, gotAfter}
 use Rattle.encoding.specs.Answers.{instanceToBytes, instanceToBytesNo}
-use Rattle.decoding.specs.Answers.{instanceFromBytes, instanceAnswer, publicsAfter, queriesAfter, equationsAfter, labelStart, labelPart}
+use Rattle.decoding.specs.Answers.{instanceFromBytes, instanceAnswer, publicsAfter, queriesAfter, equationsAfter, labelRead}
 use Rattle.encoding.specs.declared.Written.{Written}
 use Rattle.decoding.specs.declared.InstanceRead.{InstanceRead}
 use Rattle.encoding.proofs.Length.{length-instanceBytes}
@@ -221,17 +219,8 @@ module _ (s : State) (l : Ledger) (i : Agrees (s .relation .width) s l)
             publics = length pairs;
           })
 
-      label-held : labelPart (instanceBytes version w (f .label) parts) (length (f .label)) ≡ f .label
-      unfolding labelPart instanceBytes headerBytes u32Bytes
-      label-held =
-          let n = length-instanceBytes version w (f .label) parts (i .inQueries .widths) in
-          let h : labelStart + length (f .label) ≤ length (instanceBytes version w (f .label) parts) = omega (arith, n) in
-          rw (le-leb _ _ h) (take-append-seam (f .label) (partsBytes parts))
-
       label-is : labelBack ≡ f .label
-      label-is =
-          ap₂ (λ (g : Got File) (b : List ℕ). labelPart b (instanceAnswer w g .label)) got-file bytes-are
-          ∙ label-held
+      label-is = ap labelRead got-file
 
       read-holds : HoldsWords s l i publicsBack queriesBack equationsBack
       read-holds = record {

@@ -34,7 +34,7 @@ use Rattle.compile.specs.declared.Compiled.{Compiled}
 use Rattle.validity.specs.Valid.{stepsOf, isWitnessValid}
 use Rattle.decoding.specs.Read.{Rooms, File}
 use Rattle.encoding.specs.Answers.{writtenOf, writtenOut, instanceToBytes, instanceToBytesAsks, instanceToBytesNo, witnessToBytes, witnessToBytesAsks, witnessToBytesNo}
-use Rattle.decoding.specs.Answers.{instanceFromBytes, witnessFromBytes, instanceAnswer, publicsAfter, queriesAfter, equationsAfter, witnessAnswer, traceAfter, labelPart}
+use Rattle.decoding.specs.Answers.{instanceFromBytes, witnessFromBytes, instanceAnswer, publicsAfter, queriesAfter, equationsAfter, witnessAnswer, traceAfter, labelRead}
 use Rattle.encoding.specs.declared.Written.{Written}
 use Rattle.decoding.specs.declared.InstanceRead.{InstanceRead}
 use Rattle.decoding.specs.declared.WitnessRead.{WitnessRead}
@@ -137,9 +137,9 @@ module _ (w : ℕ) (asked stated : List ℕ) (ins : PermutationInstance) (made :
   abbrev pub instanceReadBack : InstanceRead
   instanceReadBack = instanceAnswer w instanceGot
 
-  -- the label: that part of the bytes
+  -- the label
   abbrev pub labelReadBack : List ℕ
-  labelReadBack = labelPart instanceBytesMade (instanceReadBack .label)
+  labelReadBack = labelRead instanceGot
 
   -- the publics, afterwards
   abbrev pub publicsReadBack : List ℕ

@@ -248,11 +248,13 @@ fn call_held(op: u32, sample: &[u8], c: Cursor) -> Seen {
 
 // The number, the record, the label's length and its bytes.
 fn same_read(sample: &[u8], next: Cursor, bytes: &[u8], answer: InstanceRead) -> Seen {
-    let label = decoding::label(bytes, answer);
+    let span = answer.label;
+    let len = low(span.len);
     let outcome = answer.outcome;
     let now = same_outcome(sample, next, outcome);
     let now = same_instance(sample, now, answer.instance);
-    same_bytes(sample, same(sample, now, low(answer.label)), label)
+    let label = bytes_at(bytes, Cursor { at: span.at }, len);
+    same_bytes(sample, same(sample, now, len), label)
 }
 
 // The words of four stores.
@@ -281,7 +283,14 @@ fn read(
     equations: &mut [u32],
     scratch: &mut [u32],
 ) -> Seen {
-    let answer = decoding::instance_from_bytes(width, bytes, publics, queries, equations, scratch);
+    let answer = decoding::instance_from_bytes_at(
+        width,
+        bytes,
+        publics,
+        queries,
+        equations,
+        scratch,
+    );
     let seen = same_read(sample, c, bytes, answer);
     same_stores(sample, seen, publics, queries, equations, scratch)
 }

@@ -7,11 +7,9 @@ use mathlib.Core.Path.{_≡_, refl, sym, ap, _∙_}
 use mathlib.Core.Bool.{Bool, true, false, _&&_}
 use mathlib.Core.Logic.{_↔_}
 use mathlib.Core.List.{List, [], _∷_, _++_, append-assoc, append-nil}
-use native.Mathlib.Omega.{arith}
-use borrow.Author.Tests.{eqb-true, le-leb}
+use borrow.Author.Tests.{eqb-true}
 use lib.Dec.{eqb, leb}
-use lib.ListN.{length, take, drop, length-append}
-use lib.Seq.{take-append-seam, drop-at}
+use lib.ListN.{length}
 use Rattle.limits.specs.Numbers.{prime, maxCount}
 use Rattle.limits.specs.Questions.{ask, firstNo}
 use Rattle.words.specs.Store.{All}
@@ -19,7 +17,7 @@ use Rattle.words.specs.Pieces.{wordsOf}
 use Rattle.utf8.specs.Utf8.{isUtf8}
 use Rattle.narg.specs.Bytes.{wordEnd, IsBytes, u32Bytes}
 use Rattle.narg.specs.Reader.{got, Reader, _>>=_, _>>_, give, need, number, byte, word, part, wire, unit, times, items, each}
-use Rattle.narg.proofs.Fields.{length-u32Bytes, never, isBytes-rest, word-back, part-back, part-length}
+use Rattle.narg.proofs.Fields.{never, isBytes-rest, word-back, part-back, part-length}
 use Rattle.narg.proofs.Lists.{passed, need-got, items-cons, items-back}
 use Rattle.allocator.specs.Slots.{Pair}
 use Rattle.expr.specs.Equation.{Equation}
@@ -30,9 +28,7 @@ use Rattle.encoding.specs.Form.{labelBytes, pairBytes, pieceBytes, equationByte
 use Rattle.header.specs.Read.{readMagic, readHeader}
 use Rattle.decoding.specs.Read.{Rooms, File, readLabel, readPair, readEquation, pairSize, pieceSize, sizeOf, readPublics, readQueries, readEquations, readParts, readSteps, increasing, file, readFile, ended, readInstance, readWitness}
 use Rattle.decoding.specs.Sound.{SoundPair, SoundEquation, SoundPiece, SoundFile, SoundSteps, roomAsks, orderAsks, gotAfter}
-use Rattle.decoding.specs.Answers.{labelPart}
 use Rattle.roundtrip.proofs.Fields.{word-below, pair-back, pair-sound, equation-back, equation-sound, piece-back, piece-sound}
-use Rattle.encoding.proofs.Length.{length-header}
 use Rattle.header.proofs.Got.{took, asked, need-last, got-is, HeaderGot, header-got}
 use Rattle.roundtrip.proofs.Reading.{read-written, read-witness-written}
 
@@ -350,20 +346,3 @@ reads-witness-exactly version width room bytes steps h = (
       ∙ read-witness-written version width room steps (f .sound)
       ∙ ap (λ (k : ℕ). gotAfter k (got steps [])) (f .passes),
 )
-
--- ---- the label of an accepted read is the part of the bytes that is handed back
-pub read-label : (version width : ℕ) (rooms : Rooms) (bytes label : List ℕ) (parts : Parts) (rest : List ℕ) → IsBytes bytes
-    → readInstance version width rooms bytes ≡ got (file label parts) rest → labelPart bytes (length label) ≡ label
-unfolding labelPart instanceBytes
-read-label version width rooms bytes label parts rest h e =
-    let w = written-read version width rooms bytes label parts rest h e .written in
-    let front = headerBytes letterI version width ++ u32Bytes (length label) in
-    let lf : length front ≡ 17 =
-    length-append (headerBytes letterI version width) (u32Bytes (length label)) ∙ simp (length-header, length-u32Bytes) in
-    let s : bytes ≡ front ++ (label ++ partsBytes parts) = sym w ∙ simp append-assoc in
-    let lb = ap length s ∙ length-append front (label ++ partsBytes parts) in
-    let ll = length-append label (partsBytes parts) in
-    rw (le-leb (17 + length label) (length bytes) (omega arith))
-    (ap (λ (b : List ℕ). take (length label) (drop 17 b)) s
-    ∙ ap (take (length label)) (drop-at front (label ++ partsBytes parts) 17 lf)
-    ∙ take-append-seam label (partsBytes parts))

@@ -16,8 +16,7 @@ use Rattle.instance.specs.Validated.{gateNo}
 use Rattle.header.specs.Form.{version, headerBytes}
 use Rattle.encoding.specs.Form.{instanceBytes}
 use Rattle.header.specs.Read.{readMagic, readHeader}
-use Rattle.decoding.specs.Read.{File, file, readLabel, readPublics, readQueries, readEquations, readParts, readFile, readInstance}
-use Rattle.decoding.specs.Given.{rooms}
+use Rattle.decoding.specs.Read.{rooms, File, file, readLabel, readPublics, readQueries, readEquations, readParts, readFile, readInstance}
 
 -- instance A of document 01, with any publics: width 1, 3 wires, query 1 to 2, equation 3 · wire 1 = 6
 abbrev withPublics : List Pair → Parts

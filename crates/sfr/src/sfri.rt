@@ -1,23 +1,23 @@
 // The byte form of an instance, for C.
 
 ghost use mathlib.Core.Path.{_≡_};
-ghost use lib.ListN.{length, replicate};
-ghost use Rattle.decoding.specs.Given.{rooms};
+ghost use lib.ListN.{length};
 ghost use Rattle.encoding.specs.Answers.{writtenOf, writtenOut, instanceToBytesNo, instanceToBytes};
-ghost use Rattle.decoding.specs.Answers.{instanceFromBytes, instanceAnswer, publicsAfter, queriesAfter, equationsAfter};
+ghost use Rattle.decoding.specs.Answers.{stores, InstanceReads};
 ghost use Rattle.sfr.specs.Trace.{writtenAnswer};
 ghost use Rattle.sfr.specs.Sfri.{readAnswer};
 use crate::relation::outcome_no;
 use crate::trace::SfrWritten;
 use crate::trace::written_answer;
+use decoding::Span;
 use instance::PermutationInstance;
 
-// What was read: the label is that many bytes of the input from byte 17 on.
+// What was read: the record, and where in the input the label lies.
 #[repr(C)]
 pub struct SfrInstanceRead {
     pub number: u32,
     pub instance: PermutationInstance,
-    pub label: usize,
+    pub label: Span,
 }
 
 // The instance's bytes, SFRI, into the output.
@@ -46,18 +46,17 @@ pub extern "C" fn sfr_instance_from_bytes(
     equations: &mut [u32],
     scratch: &mut [u32],
 ) -> SfrInstanceRead
-    ensures { λ r. ⌜ (r ≡ readAnswer (instanceAnswer width (instanceFromBytes width (now (bytes .entry)) (rooms (length (now (publics .entry))) (length (now (queries .entry))) (length (now (equations .entry))) (length (now (scratch .entry)))))))
-        × (now (publics .exit) ≡ publicsAfter (length (now (publics .entry))) (instanceFromBytes width (now (bytes .entry)) (rooms (length (now (publics .entry))) (length (now (queries .entry))) (length (now (equations .entry))) (length (now (scratch .entry))))))
-        × (now (queries .exit) ≡ queriesAfter (length (now (queries .entry))) (instanceFromBytes width (now (bytes .entry)) (rooms (length (now (publics .entry))) (length (now (queries .entry))) (length (now (equations .entry))) (length (now (scratch .entry))))))
-        × (now (equations .exit) ≡ equationsAfter (length (now (equations .entry))) (instanceFromBytes width (now (bytes .entry)) (rooms (length (now (publics .entry))) (length (now (queries .entry))) (length (now (equations .entry))) (length (now (scratch .entry))))))
-        × (now (scratch .exit) ≡ replicate (length (now (scratch .entry))) 0) ⌝ }
+    ensures { λ r. ⌜ InstanceReads (readAnswer width) width (now (bytes .entry))
+        (stores (now (publics .entry)) (now (queries .entry)) (now (equations .entry)) (now (scratch .entry)))
+        (stores (now (publics .exit)) (now (queries .exit)) (now (equations .exit)) (now (scratch .exit))) r ⌝ }
 {
-    let read = decoding::instance_from_bytes(width, bytes, publics, queries, equations, scratch);
+    let read = decoding::instance_from_bytes_at(width, bytes, publics, queries, equations, scratch);
     let o = read.outcome;
     let instance = read.instance;
+    let label = read.label;
     SfrInstanceRead {
         number: outcome_no(o),
         instance,
-        label: read.label,
+        label,
     }
 }

@@ -214,11 +214,8 @@ fn read(rng: &mut Rng, held: &Held, bytes: &[u8], seen: &mut Seen, log: &Log) ->
     let [publics, queries, equations, scratch] = &mut expected;
     let reading = reading::instance_from_bytes(width, bytes, publics, queries, equations, scratch);
     seen.answered("read SFRI", reading.number);
-    // The library tells the label's length, and the interface that it lies at byte 17.
-    let label = match library.number {
-        0 => bytes.get(17..17 + library.label_len),
-        _ => bytes.get(..library.label_len),
-    };
+    let span = library.label;
+    let label = bytes.get(span.at..span.at + span.len);
     let answer = (
         library.number,
         from_library(library.instance),

@@ -47,10 +47,7 @@ fn read(width: u32, bytes: &[u8]) -> (u32, Held) {
         &mut equations,
         scratch,
     );
-    let label = match answer.number {
-        0 => bytes[17..17 + answer.label_len].to_vec(),
-        _ => Vec::new(),
-    };
+    let label = sfr::label(bytes, &answer).to_vec();
     let held = Held {
         ins: from_library(answer.instance),
         label,

@@ -1,6 +1,5 @@
 -- `parts::read_parts` meets its contract: the wire count and the three lists, one after the other.
 -- Assumes nothing.
-use Prim.Native.Nat.{_-_}
 use mathlib.Core.Path.{refl, sym, ap, _∙_}
 use Rattle.header.specs.Answers.{fieldNumber}
 use Rattle.decoding.proofs.Files.{parts-short, publics-stop, queries-stop, equations-stop, parts-given, tell-parts-stop, tell-parts}

@@ -1,6 +1,5 @@
 -- `sfri::asked_read` meets its contract: the chain of calls is the list of questions.
 -- Assumes nothing.
-use Prim.Native.Nat.{_-_}
 use Rattle.limits.proofs.Questions.{▸-assoc, zero-▸, ▸-zero}
 use borrow.Author.Needs.{needs}
 use Rattle.decoding.proofs.sfri.asked_read.Statement.{statement}

@@ -1,6 +1,5 @@
 -- `sfri::read_file` meets its contract: header, label, parts, and 27 of the pairs that the store holds.
 -- Assumes nothing.
-use Prim.Native.Nat.{_-_}
 use mathlib.Core.Path.{refl, ap, _∙_}
 use native.Mathlib.Omega.{arith}
 use borrow.Author.Tests.{not-true, not-false}

@@ -1,6 +1,5 @@
 -- `sfri::read_instance` meets its contract: the file, the gate on the parts that the stores hold, and 28.
 -- Assumes nothing.
-use Prim.Native.Nat.{_-_}
 use mathlib.Core.Path.{sym, ap, _∙_}
 use denote.Ref.{now}
 use lib.ListN.{length}
@@ -79,7 +78,7 @@ refused-requires-3 : tie.Need-refused-requires-3
 refused-requires-3 c κs = search needs
 
 same-length-8 : tie.Need-same-length-8
-same-length-8 c = search needs
+same-length-8 c = c .before .before .before .before .before .before .before .before .before .before .before .before .before .before .before .before .before .before .before .before .read-file .kept .1 .1 .0
 
 same-length-9 : tie.Need-same-length-9
 same-length-9 c = search needs

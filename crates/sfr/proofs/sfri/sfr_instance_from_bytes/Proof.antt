@@ -1,13 +1,13 @@
 -- `sfr::sfri::sfr_instance_from_bytes` meets its contract: what the call answers, as a struct.
 -- Assumes nothing.
 use mathlib.Core.Path.{ap}
-use Rattle.sfr.specs.Sfri.{readAnswer}
+use Rattle.sfr.specs.Sfri.{readOf}
 use borrow.Author.Needs.{needs}
 use Rattle.sfr.proofs.sfri.sfr_instance_from_bytes.Statement.{statement}
 use Rattle.sfr.proofs.sfri.sfr_instance_from_bytes.Tie as tie
 
-instance-from-bytes-requires : tie.Need-instance-from-bytes-requires
-instance-from-bytes-requires c κs = search needs
+instance-from-bytes-at-requires : tie.Need-instance-from-bytes-at-requires
+instance-from-bytes-at-requires c κs = search needs
 
 outcome-no-requires : tie.Need-outcome-no-requires
 outcome-no-requires c κs = search needs
@@ -26,14 +26,14 @@ same-length-4 c = search needs
 
 returns : tie.Need-returns
 returns c =
-    let r = c .before .before .before .before .before .before .before .before .before .before .instance-from-bytes in
-    (rw (c .outcome-no .ensures) (ap readAnswer (r .ensures .0)), r .ensures .1, r .ensures .2, r .ensures .3, r .ensures .4)
+    let r = c .before .before .before .before .before .before .before .before .before .before .before .instance-from-bytes-at in
+    record { answer = rw (c .outcome-no .ensures) (ap readOf (r .ensures .answer)); left = r .ensures .left }
 
 pub sfr-instance-from-bytes-spec : {M : Type 1} → statement M
 sfr-instance-from-bytes-spec =
     tie.close
     (tie.spec
-    instance-from-bytes-requires
+    instance-from-bytes-at-requires
     outcome-no-requires
     same-length
     same-length-2
