@@ -10,7 +10,7 @@ use lib.ListN.{length, getD, set, take, drop, drop-of-length-le}
 use lib.Seq.{drop-cons, take-suc-set, drop-set-lt, take-all}
 use Rattle.limits.specs.Numbers.{prime}
 use Rattle.limits.specs.Questions.{ask, _▸_, question, firstNo}
-use Rattle.limits.proofs.Questions.{▸-zero, onYes-yes, onYes-no, firstNo-append}
+use Rattle.limits.proofs.Questions.{zero-▸, ▸-zero, onYes-yes, onYes-no, firstNo-append}
 use Rattle.expr.specs.Equation.{termsAsks}
 use Rattle.expr.specs.Weighted.{termsOf, scaledBy, scaleNo, scaled, scaledTerms}
 use Rattle.expr.specs.declared.Weighted.{Weighted}
@@ -18,12 +18,12 @@ use Rattle.expr.specs.declared.Scaled.the-variants.{Accepted, Refused}
 
 -- ---- the answer
 -- the terms' number, then question 4 of the factor
-pub scale-asked : (ts : List Weighted) (factor asked n : ℕ) → asked ≡ firstNo (termsAsks (termsOf ts)) → n ≡ asked ▸ ask 4 (ltb factor prime)
+pub scale-asked : (ts : List Weighted) (factor asked n : ℕ) → asked ≡ 0 ▸ firstNo (termsAsks (termsOf ts)) → n ≡ asked ▸ ask 4 (ltb factor prime)
     → n ≡ scaleNo ts factor
 unfolding scaleNo
 scale-asked ts factor asked n e e′ =
     e′
-    ∙ ap (λ (k : ℕ). k ▸ ask 4 (ltb factor prime)) e
+    ∙ ap (λ (k : ℕ). k ▸ ask 4 (ltb factor prime)) (e ∙ zero-▸ (firstNo (termsAsks (termsOf ts))))
     ∙ ap (λ (k : ℕ). firstNo (termsAsks (termsOf ts)) ▸ k) (sym (▸-zero (ask 4 (ltb factor prime))))
     ∙ sym (firstNo-append (termsAsks (termsOf ts)) (question 4 (ltb factor prime) ∷ []))
 

@@ -1,6 +1,6 @@
 -- Terms lent as records, taken one by one: how many they are, what the questions answer when one more is
 -- asked, and what is left to store when one more is stored. Assumes nothing.
-use Prim.Native.Nat.{ℕ, suc, _+_, _*_, _≤_, _<_, _^_}
+use Prim.Native.Nat.{ℕ, zero, suc, _+_, _*_, _≤_, _<_, _^_}
 use mathlib.Core.Path.{_≡_, refl, sym, ap, _∙_}
 use mathlib.Core.Bool.{Bool, true, false, _&&_}
 use mathlib.Core.List.{List, [], _∷_}
@@ -10,8 +10,8 @@ use lib.Dec.{ltb}
 use lib.ListN.{length, getD, set, drop, drop-of-length-le, length-set}
 use lib.Seq.{sets, drop-cons}
 use Rattle.limits.specs.Numbers.{prime, maxCount}
-use Rattle.limits.specs.Questions.{pick, ask, _▸_, firstNo}
-use Rattle.limits.proofs.Questions.{▸-zero, ▸-assoc, zero-▸}
+use Rattle.limits.specs.Questions.{pick, ask, _▸_, firstNo, onYes}
+use Rattle.limits.proofs.Questions.{stays, ▸-zero, ▸-assoc, zero-▸}
 use Rattle.words.specs.Store.{allBelow}
 use Rattle.expr.specs.Equation.{termVars, termWeights, termWords, termsAsks}
 use Rattle.expr.specs.Weighted.{termsOf, askedTerm}
@@ -61,9 +61,15 @@ asked-from (t ∷ ts) k =
     asked-from ts (askedTerm k t)
     ∙ first-asked k (ltb (t .var .0) maxCount) (ltb (t .weight .0) prime) (allBelow maxCount (termVars (termsOf ts))) (allBelow prime (termWeights (termsOf ts)))
 
--- from no no before, it is the number of the first question that says no
-pub asked-terms : (ts : List Weighted) → asked ts 0 ≡ firstNo (termsAsks (termsOf ts))
-asked-terms ts = asked-from ts 0 ∙ simp (zero-▸, ▸-zero)
+-- the walk begins within the list
+pub from-within : (k n : ℕ) → onYes k 0 n ≤ n
+from-within zero n = omega arith
+from-within (suc k) n = omega arith
+
+-- after a no nothing is walked, and it stays; else it is the number of the first question that says no
+pub asked-after : (ts : List Weighted) (k : ℕ) → asked (drop (onYes k 0 (length ts)) ts) k ≡ k ▸ firstNo (termsAsks (termsOf ts))
+asked-after ts zero = asked-from ts 0 ∙ simp (zero-▸, ▸-zero)
+asked-after ts (suc k) = asked-all ts (length ts) (suc k) (omega arith) ∙ sym (stays (suc k) _ (λ z. absurd (omega arith)))
 
 -- ---- the words
 -- term i of those whose words start at place `at`

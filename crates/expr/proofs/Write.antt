@@ -11,6 +11,7 @@ use borrow.Author.Tests.{le-leb, lt-leb, lt-ltb, le-ltb, leb-true, leb-false, lt
 use lib.Dec.{leb, ltb}
 use lib.ListN.{length, set}
 use lib.Seq.{sets, set-comm}
+use Rattle.limits.specs.Numbers.{wordEnd}
 use Rattle.words.specs.Store.{putWords}
 use Rattle.words.proofs.Written.{fit-put, sets-put}
 use Rattle.expr.specs.Equation.{Term, Equation, equation, termWords, equationWords, equationSize, fitEquation}
@@ -49,35 +50,35 @@ words-stored ts image out at =
 
 -- ---- the whole
 module _ (at : ℕ) (e : Equation) (out : List ℕ) where
-  pub fit-equation : length (e .terms) < 4294967296 → at + equationSize (length (e .terms)) ≤ length out
+  pub fit-equation : length (e .terms) < wordEnd → at + equationSize (length (e .terms)) ≤ length out
       → fitEquation at e out ≡ putWords at (equationWords e) out
   fit-equation w h =
       let n = length-equation e in
       let k : at + length (equationWords e) ≤ length out = rw n h in
-      simp (lt-ltb (length (e .terms)) 4294967296 w) (fit-put at (equationWords e) out k)
+      simp (lt-ltb (length (e .terms)) wordEnd w) (fit-put at (equationWords e) out k)
 
-  pub fit-stored : length (e .terms) < 4294967296 → at + equationSize (length (e .terms)) ≤ length out
+  pub fit-stored : length (e .terms) < wordEnd → at + equationSize (length (e .terms)) ≤ length out
       → sets out at (equationWords e) ≡ fitEquation at e out
   fit-stored w h =
       let n = length-equation e in
       let k : at + length (equationWords e) ≤ length out = rw n h in
       sets-put at (equationWords e) out k ∙ sym (fit-equation w h)
 
-  pub no-word : 4294967296 ≤ length (e .terms) → out ≡ fitEquation at e out
-  no-word w = simp (le-ltb (length (e .terms)) 4294967296 w)
+  pub no-word : wordEnd ≤ length (e .terms) → out ≡ fitEquation at e out
+  no-word w = simp (le-ltb (length (e .terms)) wordEnd w)
 
-  pub no-room : length (e .terms) < 4294967296 → length out < at + equationSize (length (e .terms)) → out ≡ fitEquation at e out
+  pub no-room : length (e .terms) < wordEnd → length out < at + equationSize (length (e .terms)) → out ≡ fitEquation at e out
   no-room w h =
       let n = length-equation e in
       let k : length out < at + length (equationWords e) = rw n h in
-      simp (lt-ltb (length (e .terms)) 4294967296 w, lt-leb (at + length (equationWords e)) (length out) k)
+      simp (lt-ltb (length (e .terms)) wordEnd w, lt-leb (at + length (equationWords e)) (length out) k)
 
 -- ---- by the test
 abbrev pub fits : ℕ → ℕ → ℕ → Bool
-fits at n len = ltb n 4294967296 && leb (at + equationSize n) len
+fits at n len = ltb n wordEnd && leb (at + equationSize n) len
 
 pub fits-within : (at n len : ℕ) → fits at n len ≡ true → at + equationSize n ≤ len
-fits-within at n len h = leb-true (at + equationSize n) len (go (ltb n 4294967296) h)
+fits-within at n len h = leb-true (at + equationSize n) len (go (ltb n wordEnd) h)
   where
     go : (a : Bool) → (a && leb (at + equationSize n) len) ≡ true → leb (at + equationSize n) len ≡ true
     go true h = h
@@ -86,22 +87,22 @@ fits-within at n len h = leb-true (at + equationSize n) len (go (ltb n 429496729
 module _ (at : ℕ) (ts : List Term) (image : ℕ) (out : List ℕ) where
   pub stored-where-fits : fits at (length ts) (length out) ≡ true
       → sets (set (set out at (length ts)) (at + 1 + 2 * length ts) image) (at + 1) (termWords ts) ≡ fitEquation at (equation ts image) out
-  stored-where-fits h = go (ltb (length ts) 4294967296) (leb (at + equationSize (length ts)) (length out)) refl refl h
+  stored-where-fits h = go (ltb (length ts) wordEnd) (leb (at + equationSize (length ts)) (length out)) refl refl h
     where
-      go : (a b : Bool) → ltb (length ts) 4294967296 ≡ a → leb (at + equationSize (length ts)) (length out) ≡ b → (a && b) ≡ true
+      go : (a b : Bool) → ltb (length ts) wordEnd ≡ a → leb (at + equationSize (length ts)) (length out) ≡ b → (a && b) ≡ true
           → sets (set (set out at (length ts)) (at + 1 + 2 * length ts) image) (at + 1) (termWords ts) ≡ fitEquation at (equation ts image) out
       go true true e f h =
           words-stored ts image out at
-          ∙ fit-stored at (equation ts image) out (ltb-true (length ts) 4294967296 e) (leb-true (at + equationSize (length ts)) (length out) f)
+          ∙ fit-stored at (equation ts image) out (ltb-true (length ts) wordEnd e) (leb-true (at + equationSize (length ts)) (length out) f)
       go true false e f h = cc
       go false b e f h = cc
 
   pub same-where-not : fits at (length ts) (length out) ≡ false → out ≡ fitEquation at (equation ts image) out
-  same-where-not h = go (ltb (length ts) 4294967296) (leb (at + equationSize (length ts)) (length out)) refl refl h
+  same-where-not h = go (ltb (length ts) wordEnd) (leb (at + equationSize (length ts)) (length out)) refl refl h
     where
-      go : (a b : Bool) → ltb (length ts) 4294967296 ≡ a → leb (at + equationSize (length ts)) (length out) ≡ b → (a && b) ≡ false
+      go : (a b : Bool) → ltb (length ts) wordEnd ≡ a → leb (at + equationSize (length ts)) (length out) ≡ b → (a && b) ≡ false
           → out ≡ fitEquation at (equation ts image) out
       go true true e f h = cc
       go true false e f h =
-          no-room at (equation ts image) out (ltb-true (length ts) 4294967296 e) (leb-false (at + equationSize (length ts)) (length out) f)
-      go false b e f h = no-word at (equation ts image) out (ltb-false (length ts) 4294967296 e)
+          no-room at (equation ts image) out (ltb-true (length ts) wordEnd e) (leb-false (at + equationSize (length ts)) (length out) f)
+      go false b e f h = no-word at (equation ts image) out (ltb-false (length ts) wordEnd e)

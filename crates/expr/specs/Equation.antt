@@ -5,7 +5,7 @@ use mathlib.Core.Bool.{Bool, true, _&&_}
 use mathlib.Core.List.{List, [], _∷_, _++_}
 use lib.Dec.{ltb}
 use lib.ListN.{length, drop, getD}
-use Rattle.limits.specs.Numbers.{prime, maxCount}
+use Rattle.limits.specs.Numbers.{prime, maxCount, wordEnd}
 use Rattle.limits.specs.Questions.{pick, Question, question}
 use Rattle.words.specs.Store.{allBelow, fitWords}
 
@@ -54,7 +54,7 @@ equationSize t = 2 + 2 * t
 -- a store with an equation's words at place `at`, where its count of terms is a word (below 2^32) and the
 -- store holds them, else as it is
 abbrev pub fitEquation : ℕ → Equation → List ℕ → List ℕ
-fitEquation at e s = pick (ltb (length (e .terms)) 4294967296) (fitWords at (equationWords e) s) s
+fitEquation at e s = pick (ltb (length (e .terms)) wordEnd) (fitWords at (equationWords e) s) s
 
 -- equations one after the other
 abbrev pub equationsWords : List Equation → List ℕ

@@ -11,14 +11,15 @@ ghost use Prim.Native.Nat.{_+_, _*_};
 ghost use lib.Dec.{leb, ltb};
 ghost use lib.ListN.{length, set};
 ghost use lib.Seq.{sets};
-ghost use Rattle.limits.specs.Numbers.{prime};
-ghost use Rattle.limits.specs.Questions.{pick, ask, _▸_, firstNo};
+ghost use Rattle.limits.specs.Numbers.{prime, wordEnd};
+ghost use Rattle.limits.specs.Questions.{pick, ask, _▸_, firstNo, onYes};
 ghost use Rattle.expr.specs.Equation.{equation, equationSize, termWords, termsAsks, fitEquation};
 ghost use Rattle.expr.specs.Weighted.{termsOf, askedTerm, scaledBy, scaled, scaledTerms};
 use allocator::FieldVar;
 use baby_bear::BabyBearUnit;
 use limits::MAX_COUNT;
 use limits::P;
+use limits::WORD_END;
 
 // A wire scaled by a constant: weight · var.
 #[repr(C)]
@@ -44,17 +45,28 @@ fn asked_term(no: u32, t: Weighted) -> u32
     limits::asked(no, t.weight.0 < P, 4)
 }
 
-// Questions 3 and 4 of the terms: every wire, then every weight. The terms are looked at once.
-pub fn asked_terms(terms: &[Weighted]) -> u32
-    ensures { λ r. ⌜ r ≡ firstNo (termsAsks (termsOf (now (terms .entry)))) ⌝ }
+// Where a walk over n terms begins: at the first, or behind the last where an earlier question said no.
+fn walk_from(no: u32, n: usize) -> usize
+    ensures { λ r. ⌜ r ≡ onYes no 0 n ⌝ }
 {
-    let mut no: u32 = 0;
-    let mut i: usize = 0;
+    if no != 0 {
+        return n;
+    }
+    0
+}
+
+// Questions 3 and 4 of the terms, after the answer so far: every wire, then every weight. The terms are looked
+// at once, and not at all where an earlier question said no.
+pub fn asked_terms(no: u32, terms: &[Weighted]) -> u32
+    ensures { λ r. ⌜ r ≡ no ▸ firstNo (termsAsks (termsOf (now (terms .entry)))) ⌝ }
+{
+    let mut so: u32 = no;
+    let mut i: usize = walk_from(no, terms.len());
     while i < terms.len() {
-        no = asked_term(no, terms[i]);
+        so = asked_term(so, terms[i]);
         i = i + 1;
     }
-    no
+    so
 }
 
 // Does a store of len words hold an equation of n terms at place `at`?
@@ -105,9 +117,9 @@ fn put_terms(terms: &[Weighted], out: &mut [u32], at: usize)
 // The words of an equation of n terms at place `at` but for its terms: the count and the image. The answer is
 // whether the equation fits; where it does not, nothing is written.
 fn put_ends(out: &mut [u32], at: usize, n: usize, image: u32) -> bool
-    ensures { λ r. ⌜ (r ≡ (ltb n 4294967296 && leb (at + equationSize n) (length (now (out .entry))))) × (now (out .exit) ≡ pick r (set (set (now (out .entry)) at n) (at + 1 + 2 * n) image) (now (out .entry))) ⌝ }
+    ensures { λ r. ⌜ (r ≡ (ltb n wordEnd && leb (at + equationSize n) (length (now (out .entry))))) × (now (out .exit) ≡ pick r (set (set (now (out .entry)) at n) (at + 1 + 2 * n) image) (now (out .entry))) ⌝ }
 {
-    if 4294967295 < n {
+    if WORD_END <= n {
         return false;
     }
     if !equation_fits(at, n, out.len()) {
@@ -166,7 +178,7 @@ fn asked_factor(no: u32, factor: BabyBearUnit) -> u32
 pub fn scale(terms: &mut [Weighted], factor: BabyBearUnit) -> Scaled
     ensures { λ r. ⌜ (r ≡ scaled (now (terms .entry)) (factor .0)) × (now (terms .exit) ≡ scaledTerms (now (terms .entry)) (factor .0)) ⌝ }
 {
-    let asked = asked_terms(terms);
+    let asked = asked_terms(0, terms);
     let no = asked_factor(asked, factor);
     if no != 0 {
         return Scaled::Refused(no);

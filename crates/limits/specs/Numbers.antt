@@ -17,6 +17,10 @@ maxCount = 1073741824
 abbrev pub maxWidth : ℕ
 maxWidth = 24
 
+-- 2^32: a word is below it
+abbrev pub wordEnd : ℕ
+wordEnd = 4294967296
+
 -- 2^32: a label has fewer bytes
 abbrev pub labelEnd : ℕ
 labelEnd = 4294967296

@@ -17,6 +17,9 @@ pub const UNASSIGNED: u32 = 4294967295;
 // The greatest number of wires, and of words in a lent store: 2^30 (the source's `FieldVar::MAX_COUNT`).
 pub const MAX_COUNT: u32 = 1073741824;
 
+// A word is below it: 2^32.
+pub const WORD_END: usize = 4294967296;
+
 // The greatest width of a permutation; the least is 1.
 pub const MAX_WIDTH: u32 = 24;
 

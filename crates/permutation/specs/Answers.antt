@@ -1,11 +1,11 @@
 -- What each call on a relation answers, and what it leaves of record and stores: by its number, which is 0
 -- where it is accepted. Assumes nothing.
-use Prim.Native.Nat.{ℕ, zero, suc, _+_}
+use Prim.Native.Nat.{ℕ, zero, suc, _+_, _<_}
 use mathlib.Core.Bool.{Bool, true, false}
 use mathlib.Core.List.{List, [], _∷_, _++_}
 use lib.Dec.{eqb, ltb, leb}
 use lib.ListN.{length, getD, set}
-use Rattle.limits.specs.Numbers.{unassigned, maxCount}
+use Rattle.limits.specs.Numbers.{unassigned, maxCount, wordEnd}
 use Rattle.limits.specs.Questions.{pick, ask, _▸_, onYes}
 use Rattle.limits.specs.Outcome.{outcomeOf}
 use Rattle.words.specs.Store.{putWords, fitWords}
@@ -68,6 +68,11 @@ oneQuery rel = relation (rel .width) (rel .vars) (rel .queries + 1) (rel .equati
 -- one equation of t terms more, and the words that it takes
 abbrev pub oneEquation : PermutationRelation → ℕ → PermutationRelation
 oneEquation rel t = relation (rel .width) (rel .vars) (rel .queries) (rel .equations + 1) (rel .words + equationSize t)
+
+-- the new counts of that are words
+pub record EquationFits (rel : PermutationRelation) (t : ℕ) : Type 0 where
+  pub equations : rel .equations + 1 < wordEnd
+  pub words : rel .words + equationSize t < wordEnd
 
 -- ---- fresh: one wire, slot 0 becomes 0; refused, a record of zeros
 -- the answer: a record with one wire

@@ -1,13 +1,10 @@
 -- The number that each call on a relation answers: the first no of its questions. Assumes nothing.
-use Prim.Native.Nat.{ℕ, _+_}
-use mathlib.Core.List.{List, [], _∷_, _++_}
-use lib.Dec.{ltb, leb}
-use Rattle.limits.specs.Numbers.{prime}
-use Rattle.limits.specs.Questions.{_▸_, question, firstNo}
-use Rattle.limits.specs.Asks.{widthAsks, countAsks}
+use Prim.Native.Nat.{ℕ}
+use mathlib.Core.List.{List}
+use Rattle.limits.specs.Questions.{firstNo}
 use Rattle.allocator.specs.Slots.{Pair}
-use Rattle.expr.specs.Equation.{Term, equationSize}
-use Rattle.permutation.specs.Relation.{newRelationAsks, allocateVarsAsks, setVarAsks, setVarsAsks, valueOfAsks, isAllocatedAsks, addPermutationAsks, allocatePermutationAsks, equationsAsks, addEquationAsks}
+use Rattle.expr.specs.Equation.{Term}
+use Rattle.permutation.specs.Relation.{newRelationAsks, allocateVarsAsks, setVarAsks, setVarsAsks, valueOfAsks, isAllocatedAsks, addPermutationAsks, allocatePermutationAsks, addEquationAsks}
 use Rattle.permutation.specs.declared.PermutationRelation.{PermutationRelation}
 
 -- of fresh
@@ -45,10 +42,3 @@ allocatePermutationNo rel slots len input = firstNo (allocatePermutationAsks rel
 -- of equation
 unfoldable pub addEquationNo : PermutationRelation → ℕ → List Term → ℕ → ℕ
 addEquationNo rel len terms image = firstNo (addEquationAsks rel len terms image)
-
--- the same by the count of the terms and the number that their own questions, 3 and 4, answer
-unfoldable pub equationNo : PermutationRelation → ℕ → ℕ → ℕ → ℕ → ℕ
-equationNo rel len n asked image =
-    firstNo (widthAsks (rel .width) ++ (equationsAsks rel len ++ countAsks (rel .vars)))
-    ▸ asked
-    ▸ firstNo (question 4 (ltb image prime) ∷ question 10 (leb (rel .words + equationSize n) len) ∷ [])

@@ -9,7 +9,7 @@ use Rattle.limits.specs.Questions.{Question, question}
 use Rattle.limits.specs.Asks.{widthAsks, storeAsks, countAsks}
 use Rattle.words.specs.Store.{allBelow}
 use Rattle.allocator.specs.Slots.{Pair, slotsAsks, growAsks, pairAsks}
-use Rattle.expr.specs.Equation.{Term, termVars, termWeights, equationSize}
+use Rattle.expr.specs.Equation.{Term, equationSize, termsAsks}
 use Rattle.words.specs.Pieces.{wordsOf}
 use Rattle.permutation.specs.declared.PermutationRelation.{PermutationRelation}
 
@@ -28,9 +28,9 @@ equationsAsks rel len =
 abbrev pub queryRoom : PermutationRelation → ℕ → List Question
 queryRoom rel len = question 10 (leb (wordsOf (rel .width) (rel .queries + 1)) len) ∷ []
 
--- one equation of these terms more
-abbrev pub equationRoom : PermutationRelation → ℕ → List Term → List Question
-equationRoom rel len terms = question 10 (leb (rel .words + equationSize (length terms)) len) ∷ []
+-- one equation of t terms more
+abbrev pub equationRoom : PermutationRelation → ℕ → ℕ → List Question
+equationRoom rel len t = question 10 (leb (rel .words + equationSize t) len) ∷ []
 
 -- ---- each call's questions
 -- fresh: 1, 2, 6
@@ -74,15 +74,19 @@ allocatePermutationAsks rel slots len input =
     ∷ question 3 (allBelow maxCount input)
     ∷ (growAsks (rel .vars) slots (rel .width) ++ queryRoom rel len))))
 
--- equation: 1, 2, 3 over all wires, 4 over all weights and the image, 10
+-- equation: 1 and 2 ..
+abbrev pub addEquationSizes : PermutationRelation → ℕ → List Question
+addEquationSizes rel len = widthAsks (rel .width) ++ (equationsAsks rel len ++ countAsks (rel .vars))
+
+-- 4 of the image
+abbrev pub imageAsks : ℕ → List Question
+imageAsks image = question 4 (ltb image prime) ∷ []
+
+-- .. and then 3 over all wires, 4 over all weights and the image, 10
 abbrev pub addEquationAsks : PermutationRelation → ℕ → List Term → ℕ → List Question
 addEquationAsks rel len terms image =
-    widthAsks (rel .width)
-    ++ (equationsAsks rel len ++ (countAsks (rel .vars)
-    ++ (question 3 (allBelow maxCount (termVars terms))
-    ∷ question 4 (allBelow prime (termWeights terms))
-    ∷ question 4 (ltb image prime)
-    ∷ equationRoom rel len terms)))
+    addEquationSizes rel len
+    ++ (termsAsks terms ++ (imageAsks image ++ equationRoom rel len (length terms)))
 
 -- value of a wire on slots: 1, 2, 3
 abbrev pub valueOfAsks : PermutationRelation → ℕ → ℕ → List Question

@@ -7,14 +7,14 @@
 
 ghost use mathlib.Core.Path.{_≡_};
 ghost use mathlib.Core.List.{_++_};
-ghost use Rattle.limits.specs.Questions.{firstNo};
+ghost use Rattle.limits.specs.Questions.{_▸_, firstNo};
 ghost use Rattle.limits.specs.Asks.{widthAsks};
 ghost use Rattle.allocator.specs.Slots.{pair, slotsAsks};
 ghost use Rattle.expr.specs.Weighted.{termsOf};
-ghost use Rattle.permutation.specs.Numbers.{newRelationNo, allocateVarsNo, setVarsNo, valueOfNo, isAllocatedNo, addPermutationNo, allocatePermutationNo, equationNo};
-ghost use Rattle.limits.specs.Outcome.{isAccepted};
+ghost use Rattle.permutation.specs.Relation.{addEquationSizes, imageAsks, equationRoom};
+ghost use Rattle.permutation.specs.Numbers.{newRelationNo, allocateVarsNo, setVarsNo, valueOfNo, isAllocatedNo, addPermutationNo, allocatePermutationNo};
 ghost use Rattle.permutation.specs.Answers.{newRelation, newSlots, allocateVars, allocateVarsSlots, setVar, setVarSlots, setVars, setVarsSlots, valueOf, isAllocated, recordedOf, oneEquation};
-ghost use Rattle.permutation.specs.Answers.{addPermutation, addPermutationQueries, allocatePermutation, allocatePermutationSlots, allocatePermutationQueries, fitVars, addEquation, addEquationEquations};
+ghost use Rattle.permutation.specs.Answers.{addPermutation, addPermutationQueries, allocatePermutation, allocatePermutationSlots, allocatePermutationQueries, fitVars, EquationFits, addEquation, addEquationEquations};
 use allocator::FieldVar;
 use allocator::VarValue;
 use baby_bear::BabyBearUnit;
@@ -405,9 +405,9 @@ pub fn allocate_permutation(
     }
 }
 
-// The number of an equation call with n terms, whose own questions answered `asked`.
-fn add_equation_no(rel: PermutationRelation, len: usize, n: usize, asked: u32, image: u32) -> u32
-    ensures { λ r. ⌜ r ≡ equationNo rel len n asked image ⌝ }
+// Questions 1 and 2 of an equation call.
+fn add_equation_sizes(rel: PermutationRelation, len: usize) -> u32
+    ensures { λ r. ⌜ r ≡ firstNo (addEquationSizes rel len) ⌝ }
 {
     let width = rel.width;
     let count = rel.vars;
@@ -417,23 +417,37 @@ fn add_equation_no(rel: PermutationRelation, len: usize, n: usize, asked: u32, i
     let no = limits::asked_store(no, len);
     let no = limits::asked(no, used <= len, 2);
     let no = limits::asked(no, 2 * held <= len, 2);
-    let no = limits::asked_count(no, count);
-    let no = limits::asked(no, asked == 0, asked);
+    limits::asked_count(no, count)
+}
+
+// The number of an equation call with n terms, after what its sizes and its terms answered.
+fn add_equation_no(no: u32, rel: PermutationRelation, len: usize, n: usize, image: u32) -> u32
+    ensures { λ r. ⌜ r ≡ no ▸ firstNo (imageAsks image ++ equationRoom rel len n) ⌝ }
+{
+    let used = rel.words as usize;
     let no = limits::asked(no, image < P, 4);
     limits::asked(no, expr::equation_fits(used, n, len), 10)
 }
 
-// What an equation call answers: the record with one equation of n terms more, or as it was.
-fn equation_recorded(
-    rel: PermutationRelation,
-    len: usize,
-    n: usize,
-    asked: u32,
-    image: u32,
-) -> Recorded
-    ensures { λ r. ⌜ r ≡ recordedOf (equationNo rel len n asked image) (oneEquation rel n) rel ⌝ }
+// The record with one equation of n terms more.
+fn one_equation(rel: PermutationRelation, n: usize) -> PermutationRelation
+    requires { ⌜ EquationFits rel n ⌝ }
+    ensures { λ r. ⌜ r ≡ oneEquation rel n ⌝ }
 {
-    let no = add_equation_no(rel, len, n, asked, image);
+    PermutationRelation {
+        width: rel.width,
+        vars: rel.vars,
+        queries: rel.queries,
+        equations: rel.equations + 1,
+        words: rel.words + (2 + 2 * (n as u32)),
+    }
+}
+
+// What an equation call answers by its number: the record with one equation of n terms more at 0, else as it was.
+fn equation_recorded(no: u32, rel: PermutationRelation, n: usize) -> Recorded
+    requires { ⌜ (no ≡ 0 → EquationFits rel n) ⌝ }
+    ensures { λ r. ⌜ r ≡ recordedOf no (oneEquation rel n) rel ⌝ }
+{
     if no != 0 {
         return Recorded {
             outcome: Outcome::Refused(no),
@@ -442,24 +456,7 @@ fn equation_recorded(
     }
     Recorded {
         outcome: Outcome::Accepted,
-        relation: PermutationRelation {
-            width: rel.width,
-            vars: rel.vars,
-            queries: rel.queries,
-            equations: rel.equations + 1,
-            words: rel.words + (2 + 2 * (n as u32)),
-        },
-    }
-}
-
-// Is the call accepted?
-fn is_accepted(r: Recorded) -> bool
-    ensures { λ b. ⌜ b ≡ isAccepted (r .outcome) ⌝ }
-{
-    let o = r.outcome;
-    match o {
-        Outcome::Accepted => true,
-        Outcome::Refused(_) => false,
+        relation: one_equation(rel, n),
     }
 }
 
@@ -472,12 +469,14 @@ pub fn add_equation(
 ) -> Recorded
     ensures { λ r. ⌜ (r ≡ addEquation rel (now (equations .entry)) (termsOf (now (terms .entry))) (image .0)) × (now (equations .exit) ≡ addEquationEquations rel (now (equations .entry)) (termsOf (now (terms .entry))) (image .0)) ⌝ }
 {
-    let asked = expr::asked_terms(terms);
-    let recorded = equation_recorded(rel, equations.len(), terms.len(), asked, image.0);
-    if is_accepted(recorded) {
-        expr::put_equation(equations, rel.words as usize, terms, image.0);
+    let no = add_equation_sizes(rel, equations.len());
+    let no = expr::asked_terms(no, terms);
+    let no = add_equation_no(no, rel, equations.len(), terms.len(), image.0);
+    let recorded = equation_recorded(no, rel, terms.len());
+    if no != 0 {
         return recorded;
     } else {
+        expr::put_equation(equations, rel.words as usize, terms, image.0);
         return recorded;
     }
 }

@@ -7,12 +7,13 @@ use borrow.Author.Needs.{needs}
 use borrow.Author.Tests.{lt-ltb, le-ltb, leb-true, not-true, not-false}
 use denote.Ref.{now}
 use lib.ListN.{length, length-set}
+use Rattle.limits.specs.Numbers.{wordEnd}
 use Rattle.expr.specs.Equation.{equationSize}
 use Rattle.expr.proofs.put_ends.Statement.{statement}
 use Rattle.expr.proofs.put_ends.Tie as tie
 
 returns : tie.Need-returns
-returns c = (simp (le-ltb (c .before .before .args .n) 4294967296 (omega arith)), refl)
+returns c = (simp (le-ltb (c .before .before .args .n) wordEnd (omega arith)), refl)
 
 equation-fits-requires : tie.Need-equation-fits-requires
 equation-fits-requires c κs = search needs
@@ -21,7 +22,7 @@ returns-2 : tie.Need-returns-2
 returns-2 c =
     let a = c .before .before .before .before .args in
     let f = sym (c .before .equation-fits .ensures) ∙ not-true _ (c .if2 .taken) in
-    (simp (lt-ltb (a .n) 4294967296 (omega arith)) (sym f), refl)
+    (simp (lt-ltb (a .n) wordEnd (omega arith)) (sym f), refl)
 
 cast-out : tie.Need-cast-out
 cast-out c = omega arith
@@ -72,7 +73,7 @@ returns-3 : tie.Need-returns-3
 returns-3 c =
     let a = c .before .before .before .before .args in
     let f = sym (c .before .equation-fits .ensures) ∙ not-false _ (c .if2 .left) in
-    (simp (lt-ltb (a .n) 4294967296 (omega arith)) (sym f), refl)
+    (simp (lt-ltb (a .n) wordEnd (omega arith)) (sym f), refl)
 
 pub put-ends-spec : {M : Type 1} → statement M
 put-ends-spec =
