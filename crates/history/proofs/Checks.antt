@@ -1,16 +1,16 @@
 -- The check of stores that hold what an accepted gate made: no question before 31 says no, so its number is
 -- that of the check on the ledger's parts. Assumes nothing.
 use Prim.Native.Nat.{ℕ, zero, suc, _+_, _*_, _≤_, _<_}
-use mathlib.Core.Path.{_≡_, refl, sym, _∙_, subst}
+use mathlib.Core.Path.{_≡_, sym, _∙_, subst}
 use mathlib.Core.Bool.{true}
 use mathlib.Core.List.{List, [], _∷_}
 use native.Mathlib.Omega.{arith}
-use borrow.Author.Tests.{le-leb, lt-ltb}
+use borrow.Author.Tests.{lt-ltb}
 use lib.ListN.{length, take, drop, length-drop}
 use lib.Seq.{length-take-le}
-use Rattle.limits.specs.Numbers.{prime, maxCount, maxWidth, labelEnd}
+use Rattle.limits.specs.Numbers.{prime, maxCount, labelEnd}
 use Rattle.limits.specs.Questions.{firstNo}
-use Rattle.limits.proofs.Questions.{join, ask-yes, goes-on}
+use Rattle.limits.proofs.Questions.{goes-on}
 use Rattle.words.specs.Store.{All}
 use Rattle.words.specs.Pieces.{pieces, wordsOf}
 use Rattle.utf8.specs.Utf8.{isUtf8}
@@ -27,6 +27,7 @@ use Rattle.history.specs.Sat.{Evaluates}
 use Rattle.history.specs.Calls.{State}
 use Rattle.history.specs.Demand.{Checked}
 use Rattle.history.specs.Whole.{TraceHeld, Checks}
+use Rattle.history.proofs.Outcomes.{past-yes, past-fits, past-width}
 use Rattle.history.proofs.Bridge.{ledgerParts}
 use Rattle.history.proofs.Judged.{checked-by}
 use Rattle.history.proofs.Evaluations.{few-words, evaluations-are}
@@ -82,19 +83,18 @@ module _ (s : State) (l : Ledger) (i : Agrees (s .relation .width) s l)
   -- 1 to 17 say yes
   questions-yes : firstNo (isWitnessValidAsks (ins s l i) label publics queries equations steps trace rounds params scratch) ≡ 0
   questions-yes =
-      join _ _ (ask-yes 1 _ (le-leb 1 w (i .least)))
-      (join _ _ (ask-yes 1 _ (le-leb w maxWidth (i .most)))
-      (sizes-yes s l i publics queries equations holds sized _
-      ∙ join _ _ (ask-yes 2 _ (le-leb (length trace) maxCount (held .size)))
-      (join _ _ (ask-yes 2 _ (le-leb (length params) maxCount (few-words w rounds params (i .least) (i .most) sound)))
-      (join _ _ (ask-yes 2 _ (le-leb scratch maxCount size))
-      (join _ _ (ask-yes 2 _ (lt-ltb (length label) labelEnd label-size))
-      (join _ _ (ask-yes 2 _ (le-leb (wordsOf w steps) (length trace) (held .room)))
-      (join _ _ (ask-yes 17 _ sound)
-      (sound-yes s l i publics queries equations holds _
-      ∙ join _ _ (ask-yes 11 _ label-utf8)
-      (join _ _ (ask-yes 11 _ (held .units))
-      (join _ _ (ask-yes 16 _ (le-leb (rel .vars) scratch room)) refl))))))))))
+      past-width w _ (i .least) (i .most)
+      ∙ sizes-yes s l i publics queries equations holds sized _
+      ∙ past-fits 2 _ _ _ (held .size)
+      ∙ past-fits 2 _ _ _ (few-words w rounds params (i .least) (i .most) sound)
+      ∙ past-fits 2 _ _ _ size
+      ∙ past-yes 2 _ _ (lt-ltb (length label) labelEnd label-size)
+      ∙ past-fits 2 _ _ _ (held .room)
+      ∙ past-yes 17 _ _ sound
+      ∙ sound-yes s l i publics queries equations holds _
+      ∙ past-yes 11 _ _ label-utf8
+      ∙ past-yes 11 _ _ (held .units)
+      ∙ past-fits 16 _ _ _ room
 
   abbrev Evaluation : List ℕ → Type 0
   Evaluation = Evaluates w (parametersOf w rounds params)

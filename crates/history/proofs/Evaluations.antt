@@ -7,18 +7,18 @@ use mathlib.Core.Logic.{_↔_}
 use mathlib.Core.List.{List, [], _∷_}
 use native.Mathlib.Nat.{mul-le-mul}
 use native.Mathlib.Omega.{arith}
-use borrow.Author.Tests.{leb-true, le-leb, lt-ltb, eqb-true, eq-eqb}
+use borrow.Author.Tests.{leb-true, lt-ltb, eqb-true, eq-eqb}
 use lib.Dec.{eqb, ltb}
 use lib.ListN.{length, take}
 use lib.Seq.{length-take-le}
-use Rattle.limits.specs.Numbers.{prime, maxCount}
+use Rattle.limits.specs.Numbers.{prime, maxCount, maxWidth}
 use Rattle.limits.specs.Below.{allBelow}
-use Rattle.limits.proofs.Questions.{join, ask-yes}
 use Rattle.words.specs.Store.{All}
 use Rattle.baby_bear.specs.Field.{areUnits}
 use Rattle.permute.specs.Permute.{permute}
 use Rattle.permute.specs.Parameters.{parametersOf, soundParameters, permuteNo, sameWords, isEvaluation}
 use Rattle.history.specs.Sat.{Evaluates}
+use Rattle.history.proofs.Outcomes.{past-yes, past-fits, past-width}
 use Rattle.history.proofs.Shapes.{IsTrace}
 
 -- ---- two lists with the same words are equal
@@ -44,7 +44,7 @@ take-units (suc n) [] u = refl
 take-units (suc n) (v ∷ l) u =
     and-eq-true-iff (ltb v prime) (areUnits (take n l)) .1 (lt-ltb v prime (u .0), take-units n l (u .1))
 
-module _ (w rounds : ℕ) (params : List ℕ) (narrow : 1 ≤ w) (wide : w ≤ 24) (sound : soundParameters w rounds params ≡ true) where
+module _ (w rounds : ℕ) (params : List ℕ) (narrow : 1 ≤ w) (wide : w ≤ maxWidth) (sound : soundParameters w rounds params ≡ true) where
   -- 17 leaves few words
   pub few-words : length params ≤ maxCount
   unfolding soundParameters
@@ -62,13 +62,12 @@ module _ (w rounds : ℕ) (params : List ℕ) (narrow : 1 ≤ w) (wide : w ≤ 2
   unfolding permuteNo
   permuted-yes s l u =
       let n : length (take w s) ≡ w = length-take-le w s (omega arith) in
-      join _ _ (ask-yes 1 _ (le-leb 1 w narrow))
-      (join _ _ (ask-yes 1 _ (le-leb w 24 wide))
-      (join _ _ (ask-yes 2 _ (le-leb (length params) maxCount few-words))
-      (join _ _ (ask-yes 2 _ (le-leb (length (take w s)) maxCount (omega arith)))
-      (join _ _ (ask-yes 9 _ (eq-eqb (length (take w s)) w n))
-      (join _ _ (ask-yes 4 _ (take-units w s u))
-      (join _ _ (ask-yes 17 _ sound) refl))))))
+      past-width w _ narrow wide
+      ∙ past-fits 2 _ _ _ few-words
+      ∙ past-fits 2 (length (take w s)) maxCount _ (omega arith)
+      ∙ past-yes 9 _ _ (eq-eqb (length (take w s)) w n)
+      ∙ past-yes 4 _ _ (take-units w s u)
+      ∙ past-yes 17 _ _ sound
 
   step-is : (s : List ℕ) → length s ≡ w + w → All (λ v. v < prime) s
       → (isEvaluation w rounds params s ≡ true) ↔ Evaluates w (parametersOf w rounds params) s

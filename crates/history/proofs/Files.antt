@@ -7,10 +7,10 @@ use native.Mathlib.Omega.{arith}
 use borrow.Author.Tests.{le-leb}
 use lib.Dec.{leb}
 use lib.ListN.{length, take}
-use Rattle.limits.specs.Numbers.{maxCount, maxWidth}
+use Rattle.limits.specs.Numbers.{maxCount}
 use Rattle.limits.specs.Questions.{ask, _▸_, Question, firstNo}
 use Rattle.limits.specs.Asks.{widthAsks, storeAsks}
-use Rattle.limits.proofs.Questions.{ask-yes, firstNo-append}
+use Rattle.limits.proofs.Questions.{firstNo-append}
 use Rattle.words.specs.Pieces.{flat, wordsOf}
 use Rattle.narg.specs.Reader.{Got, got}
 use Rattle.allocator.specs.Slots.{Pair}
@@ -41,7 +41,7 @@ use Rattle.history.specs.Demand.{Accepted}
 use Rattle.history.specs.Whole.{Checks, TraceLent, witnessWritten, witnessReadBack, traceReadBack, FileLent, instanceWritten, instanceBytesMade, instanceReadBack, labelReadBack, publicsReadBack, queriesReadBack, equationsReadBack, SameFile, Filed}
 use Rattle.history.proofs.Bridge.{ledgerParts}
 use Rattle.history.proofs.Keeps.{Agrees}
-use Rattle.history.proofs.Outcomes.{past, then, accepted-no}
+use Rattle.history.proofs.Outcomes.{past-yes, past-width, then, accepted-no}
 use Rattle.history.proofs.Accepted.{InstanceWriteLeft, instanceWriteLeft-yes, instanceReadLeft-yes}
 use Rattle.history.proofs.Gate.{queries-held, equations-held-are, public-count}
 use Rattle.history.proofs.Made.{full, ps, ins, publics-wires, publics-values, HoldsWords, Sized, queries-length, parts-held, sizes-yes, sound-yes, compiles, parts-valid, publics-room, gate-holds, gate-sized}
@@ -128,10 +128,10 @@ module _ (s : State) (l : Ledger) (i : Agrees (s .relation .width) s l)
   write-left : writeNo ≡ firstNo (instanceWriteLeft w l (f .label) (length (f .out)))
   unfolding instanceToBytesNo instanceWriteLeft
   write-left =
-      past _ _ _ (ask-yes 1 _ (le-leb 1 w (i .least))) (past _ _ _ (ask-yes 1 _ (le-leb w maxWidth (i .most)))
-      (sizes-yes s l i made (s .queries) (s .equations) made-holds (gate-sized s l i gateLabel publics scratch gate) _
+      past-width w _ (i .least) (i .most)
+      ∙ sizes-yes s l i made (s .queries) (s .equations) made-holds (gate-sized s l i gateLabel publics scratch gate) _
       ∙ then _ _ _ (sound-yes s l i made (s .queries) (s .equations) made-holds _
-      ∙ then _ _ _ (ap (λ (n : ℕ). ask 10 (leb n (length (f .out))) ▸ 0) bytes-length))))
+      ∙ then _ _ _ (ap (λ (n : ℕ). ask 10 (leb n (length (f .out))) ▸ 0) bytes-length))
 
   -- ---- the write accepted
   module _ (z : writeNo ≡ 0) where
@@ -192,12 +192,13 @@ module _ (s : State) (l : Ledger) (i : Agrees (s .relation .width) s l)
     unfolding instanceReadLeft validatedNo
     read-left =
         sym (firstNo-append sizesAsked partsAsked)
-        ∙ past _ _ _ (ask-yes 1 _ (le-leb 1 w (i .least))) (past _ _ _ (ask-yes 1 _ (le-leb w maxWidth (i .most)))
-        (then _ _ _ (then _ _ _ (then _ _ _ (then _ _ _
+        ∙ past-width w _ (i .least) (i .most)
+        ∙ then _ _ _ (then _ _ _ (then _ _ _ (then _ _ _
         (ap₂ _▸_ (ap (λ (n : ℕ). ask 10 (leb (2 * n) (f .rooms .publics))) publics-count)
         (then _ _ _ (then _ _ _
-        (past _ _ _ (ask-yes 27 _ (in-order 0 (take (rel .vars) (s .slots))))
-        (ap₂ _▸_ (ap (λ (n : ℕ). ask 16 (leb n (f .rooms .scratch))) (i .count)) (facts-validated parts (parts-valid s l i gateLabel publics scratch gate))))))))))))
+        (past-yes 27 _ _ (in-order 0 (take (rel .vars) (s .slots)))
+        ∙ ap₂ _▸_ (ap (λ (n : ℕ). ask 16 (leb n (f .rooms .scratch))) (i .count))
+        (facts-validated parts (parts-valid s l i gateLabel publics scratch gate)))))))))
 
     read-outcome : back .outcome ≡ outcomeOf readNo
     read-outcome = ap (λ (g : Got File). instanceAnswer w g .outcome) got-is ∙ instance-outcome w readNo (file (f .label) parts)

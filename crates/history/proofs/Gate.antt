@@ -7,13 +7,12 @@ use mathlib.Core.Bool.{Bool, true, false, and-eq-true-iff}
 use mathlib.Core.List.{List, [], _∷_, append-nil}
 use mathlib.Core.Option.{none, some}
 use native.Mathlib.Omega.{arith}
-use borrow.Author.Tests.{eqb-true, le-leb, eq-eqb}
+use borrow.Author.Tests.{eqb-true, eq-eqb}
 use lib.Dec.{eqb, leb}
 use lib.ListN.{length, take, getD}
 use lib.Seq.{length-take-le, take-at}
 use Rattle.limits.specs.Numbers.{prime, maxCount, maxWidth, unassigned}
 use Rattle.limits.specs.Questions.{pick, ask, _▸_, firstNo}
-use Rattle.limits.proofs.Questions.{ask-yes}
 use Rattle.words.specs.Store.{All, Begins, allBelow}
 use Rattle.words.specs.Pieces.{flat, pieces, wordsOf}
 use Rattle.words.proofs.Held.{begins-fits, flat-length, pieces-held}
@@ -36,7 +35,7 @@ use Rattle.history.proofs.Bridge.{ledgerParts}
 use Rattle.history.proofs.Publics.{look-domain}
 use Rattle.history.proofs.Judged.{bound-is}
 use Rattle.history.proofs.Keeps.{Agrees}
-use Rattle.history.proofs.Outcomes.{past, then}
+use Rattle.history.proofs.Outcomes.{past-yes, past-fits, past-width, then}
 
 -- the first words of a store that begins with these
 begins-take : (words store : List ℕ) (n : ℕ) → n ≡ length words → Begins words store → take n store ≡ words
@@ -138,9 +137,9 @@ module _ (w : ℕ) (s : State) (l : Ledger) (i : Agrees w s l) where
       let o = i .inSlots in
       let n = length-take-le (rel .vars) (s .slots) (o .room) in
       ap validatedNo parts-are
-      ∙ past _ _ _ (ask-yes 12 _ (facts-allBelow (rel .vars) (pairVars publics) wires-below))
-      (ap₂ (λ (m : ℕ) (binds : ℕ → Bool). ask 13 (allBelow m (flat (l .queries))) ▸ firstNo (termwiseAsks m binds (l .equations)))
-      (i .count) (fun-ext (bound-is w l (rel .vars) (s .slots) o (i .inQueries .widths))))
+      ∙ past-yes 12 _ _ (facts-allBelow (rel .vars) (pairVars publics) wires-below)
+      ∙ ap₂ (λ (m : ℕ) (binds : ℕ → Bool). ask 13 (allBelow m (flat (l .queries))) ▸ firstNo (termwiseAsks m binds (l .equations)))
+      (i .count) (fun-ext (bound-is w l (rel .vars) (s .slots) o (i .inQueries .widths)))
 
   -- ---- 1 and 2: of record and slots nothing is left, of the other two stores their sizes
   relation-yes : (k : ℕ)
@@ -151,12 +150,11 @@ module _ (w : ℕ) (s : State) (l : Ledger) (i : Agrees w s l) where
       let o = i .inSlots in
       let a = o .most in
       let b = o .room in
-      past _ _ _ (ask-yes 1 _ (rw (i .widthIs) (le-leb 1 w (i .least))))
-      (past _ _ _ (ask-yes 1 _ (rw (i .widthIs) (le-leb w maxWidth (i .most))))
-      (past _ _ _ (ask-yes 2 _ (le-leb (length (s .slots)) maxCount a))
-      (past _ _ _ (ask-yes 2 _ (le-leb 1 (rel .vars) (o .least)))
-      (past _ _ _ (ask-yes 2 _ (le-leb (rel .vars) maxCount (omega arith)))
-      (past _ _ _ (ask-yes 2 _ (le-leb (rel .vars) (length (s .slots)) b)) refl)))))
+      past-width (rel .width) _ (rw (i .widthIs) (i .least)) (rw (i .widthIs) (i .most))
+      ∙ past-fits 2 _ _ _ a
+      ∙ past-fits 2 _ _ _ (o .least)
+      ∙ past-fits 2 (rel .vars) maxCount _ (omega arith)
+      ∙ past-fits 2 _ _ _ b
 
   queries-left : (k : ℕ)
       → ask 2 (leb (length (s .queries)) maxCount) ▸ (ask 2 (leb (wordsOf (rel .width) (rel .queries)) (length (s .queries))) ▸ k)
@@ -166,7 +164,7 @@ module _ (w : ℕ) (s : State) (l : Ledger) (i : Agrees w s l) where
       let f = begins-fits (flat (l .queries)) (s .queries) (q .begins) in
       let n = flat-length (w + w) (l .queries) (q .widths) in
       let h : wordsOf (rel .width) (rel .queries) ≤ length (s .queries) = rw (q .counts, i .widthIs, ← n) f in
-      then _ _ _ (past _ _ _ (ask-yes 2 _ (le-leb _ _ h)) refl)
+      then _ _ _ (past-fits 2 _ _ _ h)
 
   equations-left : (k : ℕ)
       → ask 2 (leb (length (s .equations)) maxCount)
@@ -178,7 +176,7 @@ module _ (w : ℕ) (s : State) (l : Ledger) (i : Agrees w s l) where
       let t = two-each (l .equations) in
       let h : rel .words ≤ length (s .equations) = rw (q .uses) f in
       let m : 2 * rel .equations ≤ length (s .equations) = rw (q .counts) (omega arith) in
-      then _ _ _ (past _ _ _ (ask-yes 2 _ (le-leb _ _ h)) (past _ _ _ (ask-yes 2 _ (le-leb _ _ m)) refl))
+      then _ _ _ (past-fits 2 _ _ _ h ∙ past-fits 2 _ _ _ m)
 
   module _ (label : List ℕ) (publicRoom scratch : ℕ) where
     pub compile-left : compileNo rel label (s .slots) (s .queries) (s .equations) publicRoom scratch
@@ -187,9 +185,9 @@ module _ (w : ℕ) (s : State) (l : Ledger) (i : Agrees w s l) where
     compile-left =
         relation-yes _ ∙ queries-left _
         ∙ then _ _ _ (equations-left _ ∙ then _ _ _ (then _ _ _ (then _ _ _ (then _ _ _
-        (past _ _ _ (ask-yes 11 _ equations-sound)
-        (past _ _ _ (ask-yes 11 _ (ap (allBelow maxCount) queries-held ∙ i .inQueries .below))
-        (past _ _ _ (ask-yes 11 _ (facts-slotsSound (take (rel .vars) (s .slots)) slots-are-sound))
-        (then _ _ _
+        (past-yes 11 _ _ equations-sound
+        ∙ past-yes 11 _ _ (ap (allBelow maxCount) queries-held ∙ i .inQueries .below)
+        ∙ past-yes 11 _ _ (facts-slotsSound (take (rel .vars) (s .slots)) slots-are-sound)
+        ∙ then _ _ _
         (ap₂ _▸_ (ap (λ (n : ℕ). ask 10 (leb (2 * n) publicRoom)) public-count)
-        (ap₂ _▸_ (ap (λ (n : ℕ). ask 16 (leb n scratch)) (i .count)) validated-left))))))))))
+        (ap₂ _▸_ (ap (λ (n : ℕ). ask 16 (leb n scratch)) (i .count)) validated-left)))))))

@@ -1,17 +1,16 @@
 -- What an accepted gate made, and stores that hold the same words: their parts are the ledger's, and 2 and 11
 -- say yes of them. Assumes nothing.
 use Prim.Native.Nat.{ℕ, _+_, _*_, _-_, _≤_, _<_}
-use mathlib.Core.Path.{_≡_, refl, sym, ap, _∙_, subst}
+use mathlib.Core.Path.{_≡_, sym, ap, _∙_, subst}
 use mathlib.Core.Bool.{and-eq-true-iff}
 use mathlib.Core.List.{List, [], append-nil}
 use native.Mathlib.Omega.{arith}
-use borrow.Author.Tests.{le-leb}
 use lib.Dec.{leb}
 use lib.ListN.{length, take, replicate, length-take, length-append, length-replicate}
 use lib.Seq.{take-at}
 use Rattle.limits.specs.Numbers.{prime, maxCount}
 use Rattle.limits.specs.Questions.{ask, _▸_}
-use Rattle.limits.proofs.Questions.{ask-yes, onYes-yes}
+use Rattle.limits.proofs.Questions.{onYes-yes}
 use Rattle.words.specs.Store.{All, allBelow}
 use Rattle.words.specs.Pieces.{flat, pieces, wordsOf}
 use Rattle.words.proofs.Lists.{all-map}
@@ -33,7 +32,7 @@ use Rattle.history.specs.Demand.{lengthsOf}
 use Rattle.history.specs.Whole.{compiled, publicsMade}
 use Rattle.history.proofs.Bridge.{ledgerParts}
 use Rattle.history.proofs.Keeps.{Agrees}
-use Rattle.history.proofs.Outcomes.{past}
+use Rattle.history.proofs.Outcomes.{past-yes, past-fits}
 use Rattle.history.proofs.Accepted.{CompileLeft, compileLeft-yes}
 use Rattle.history.proofs.Gate.{wires-below, validated-left, public-count, compile-left, queries-held, equations-held-are, queries-are, equations-are, parts-are, equations-sound, slots-are-sound}
 
@@ -104,13 +103,13 @@ module _ (s : State) (l : Ledger) (i : Agrees (s .relation .width) s l) where
         let e = i .inEquations in
         let u : rel .words ≤ length equations = full (rel .words) equations (equationsWords (l .equations)) (h .equations-words) (sym (e .uses)) in
         let m : 2 * rel .equations ≤ rel .words = rw (e .counts, e .uses) (two-each (l .equations)) in
-        past _ _ _ (ask-yes 2 _ (le-leb (length publics) maxCount (z .publics-size)))
-        (past _ _ _ (ask-yes 2 _ (le-leb (length queries) maxCount (z .queries-size)))
-        (past _ _ _ (ask-yes 2 _ (le-leb (length equations) maxCount (z .equations-size)))
-        (past _ _ _ (ask-yes 2 _ (le-leb (2 * length ps) (length publics) (full _ publics (pairWords ps) (h .publics-words) (pairWords-length ps))))
-        (past _ _ _ (ask-yes 2 _ (le-leb (wordsOf (rel .width) (rel .queries)) (length queries) (full _ queries (flat (l .queries)) (h .queries-words) queries-length)))
-        (past _ _ _ (ask-yes 2 _ (le-leb (rel .words) (length equations) u))
-        (past _ _ _ (ask-yes 2 _ (le-leb (2 * rel .equations) (length equations) (omega arith))) refl))))))
+        past-fits 2 _ _ _ (z .publics-size)
+        ∙ past-fits 2 _ _ _ (z .queries-size)
+        ∙ past-fits 2 _ _ _ (z .equations-size)
+        ∙ past-fits 2 _ _ _ (full _ publics (pairWords ps) (h .publics-words) (pairWords-length ps))
+        ∙ past-fits 2 _ _ _ (full _ queries (flat (l .queries)) (h .queries-words) queries-length)
+        ∙ past-fits 2 _ _ _ u
+        ∙ past-fits 2 (2 * rel .equations) (length equations) _ (omega arith)
 
     -- and 11
     pub sound-yes : (k : ℕ)
@@ -119,12 +118,12 @@ module _ (s : State) (l : Ledger) (i : Agrees (s .relation .width) s l) where
     unfolding publicsSound
     sound-yes k =
         let e = ap (pairsAt (length ps)) (h .publics-words) ∙ pairs-words ps in
-        past _ _ _ (ask-yes 11 _ (ap (equationsSound (rel .equations)) (h .equations-words ∙ sym (equations-held-are (rel .width) s l i)) ∙ equations-sound (rel .width) s l i))
-        (past _ _ _ (ask-yes 11 _ (and-eq-true-iff _ _ .1 (
+        past-yes 11 _ _ (ap (equationsSound (rel .equations)) (h .equations-words ∙ sym (equations-held-are (rel .width) s l i)) ∙ equations-sound (rel .width) s l i)
+        ∙ past-yes 11 _ _ (and-eq-true-iff _ _ .1 (
           ap (λ (x : List Pair). allBelow maxCount (pairVars x)) e ∙ facts-allBelow maxCount (pairVars ps) publics-wires,
           ap (λ (x : List Pair). allBelow prime (pairValues x)) e ∙ facts-allBelow prime (pairValues ps) publics-values,
-        )))
-        (past _ _ _ (ask-yes 11 _ (ap (allBelow maxCount) (h .queries-words) ∙ i .inQueries .below)) refl))
+        ))
+        ∙ past-yes 11 _ _ (ap (allBelow maxCount) (h .queries-words) ∙ i .inQueries .below)
 
   -- ---- the gate's yes
   module _ (label publics scratch : List ℕ)

@@ -1,17 +1,26 @@
 -- The first no of two where one of them is settled, and the outcome of a number. Assumes nothing.
-use Prim.Native.Nat.{ℕ, zero, suc}
+use Prim.Native.Nat.{ℕ, zero, suc, _≤_}
 use mathlib.Core.Path.{_≡_, refl, sym, ap, _∙_}
 use mathlib.Core.Bool.{Bool, true, false}
+use borrow.Author.Tests.{le-leb}
+use lib.Dec.{leb}
+use Rattle.limits.specs.Numbers.{maxWidth}
 use Rattle.limits.specs.Questions.{ask, _▸_}
 use Rattle.limits.specs.Outcome.{outcomeOf, outcomeNumber}
 use Rattle.limits.specs.declared.Outcome.the-variants as outcome
-use Rattle.limits.proofs.Questions.{goes-on, ▸-zero}
+use Rattle.limits.proofs.Questions.{ask-yes, goes-on, ▸-zero}
 use Rattle.limits.proofs.Answered.{outcome-number}
 
 -- ---- the first no of two
--- a question that says yes does not count
-pub past : (a b c : ℕ) → a ≡ 0 → b ≡ c → a ▸ b ≡ c
-past a b c z e = goes-on a b z ∙ e
+-- questions that say yes do not count
+pub past-yes : (n : ℕ) (b : Bool) (k : ℕ) → b ≡ true → ask n b ▸ k ≡ k
+past-yes n b k e = goes-on _ k (ask-yes n b e)
+
+pub past-fits : (n a b k : ℕ) → a ≤ b → ask n (leb a b) ▸ k ≡ k
+past-fits n a b k h = past-yes n (leb a b) k (le-leb a b h)
+
+pub past-width : (w k : ℕ) → 1 ≤ w → w ≤ maxWidth → ask 1 (leb 1 w) ▸ (ask 1 (leb w maxWidth) ▸ k) ≡ k
+past-width w k least most = past-fits 1 1 w _ least ∙ past-fits 1 w maxWidth k most
 
 pub then : (a b c : ℕ) → b ≡ c → a ▸ b ≡ a ▸ c
 then a b c e = ap (λ (n : ℕ). a ▸ n) e

@@ -4,14 +4,13 @@ use Prim.Native.Nat.{ℕ, zero, suc, _+_, _≤_, _<_}
 use mathlib.Core.Path.{_≡_, refl, sym, ap, _∙_, subst}
 use mathlib.Core.List.{List, [], _∷_, _++_}
 use native.Mathlib.Omega.{arith}
-use borrow.Author.Tests.{leb-true, le-leb}
+use borrow.Author.Tests.{leb-true}
 use lib.Dec.{leb}
 use lib.ListN.{length, take, drop}
 use lib.Seq.{length-take-le}
-use Rattle.limits.specs.Numbers.{prime, maxCount}
+use Rattle.limits.specs.Numbers.{prime, maxCount, maxWidth}
 use Rattle.limits.specs.Questions.{ask, _▸_, firstNo}
 use Rattle.limits.specs.Asks.{widthAsks, storeAsks}
-use Rattle.limits.proofs.Questions.{ask-yes}
 use Rattle.words.specs.Store.{All, allBelow}
 use Rattle.words.specs.Pieces.{flat, pieces, wordsOf}
 use Rattle.narg.specs.Bytes.{wordEnd}
@@ -29,7 +28,7 @@ use Rattle.roundtrip.proofs.Reading.{after-after, read-witness-written}
 use Rattle.history.specs.Left.{traceLength, witnessWriteLeft, witnessReadLeft}
 use Rattle.history.specs.Demand.{Accepted}
 use Rattle.history.specs.Whole.{TraceHeld, TraceLent, witnessWritten, witnessBytesMade, witnessReadBack, traceReadBack, Traced}
-use Rattle.history.proofs.Outcomes.{past, then, after-says, then-last, accepted-no}
+use Rattle.history.proofs.Outcomes.{past-width, then, after-says, then-last, accepted-no}
 use Rattle.history.proofs.Accepted.{witnessWriteLeft-yes, witnessReadLeft-yes}
 use Rattle.history.proofs.Checks.{steps-lengths, is-trace}
 use Rattle.history.proofs.Bytes.{written-bytes, padded-held, padded-length, got-yes, witness-outcome}
@@ -47,7 +46,7 @@ pub few : (n w : ℕ) → wordsOf w n ≤ maxCount → 1 ≤ w → n < wordEnd
 few n zero h k = absurd (let q : ⊥ = omega arith in q)
 few n (suc w) h k = omega arith
 
-module _ (w : ℕ) (least : 1 ≤ w) (most : w ≤ 24) (t : TraceLent) where
+module _ (w : ℕ) (least : 1 ≤ w) (most : w ≤ maxWidth) (t : TraceLent) where
   abbrev steps : List (List ℕ)
   steps = stepsOf w (t .steps) (t .trace)
 
@@ -65,9 +64,9 @@ module _ (w : ℕ) (least : 1 ≤ w) (most : w ≤ 24) (t : TraceLent) where
   write-left : writeNo ≡ firstNo (witnessWriteLeft w (t .steps) (t .trace) (length (t .out)))
   unfolding witnessToBytesNo witnessWriteLeft
   write-left =
-      past _ _ _ (ask-yes 1 _ (le-leb 1 w least)) (past _ _ _ (ask-yes 1 _ (le-leb w 24 most))
-      (then _ _ _ (after-says 1 (leb (wordsOf w (t .steps)) (length (t .trace))) _ _
-      (λ h. then _ _ _ (ap (λ (n : ℕ). ask 10 (leb n (length (t .out))) ▸ 0) (bytes-length (leb-true _ _ h)))))))
+      past-width w _ least most
+      ∙ then _ _ _ (after-says 1 (leb (wordsOf w (t .steps)) (length (t .trace))) _ _
+      (λ h. then _ _ _ (ap (λ (n : ℕ). ask 10 (leb n (length (t .out))) ▸ 0) (bytes-length (leb-true _ _ h)))))
 
   -- ---- the write accepted
   module _ (z : writeNo ≡ 0) where
@@ -100,7 +99,7 @@ module _ (w : ℕ) (least : 1 ≤ w) (most : w ≤ 24) (t : TraceLent) where
     unfolding witnessReadLeft
     read-left =
         ap (λ (k : ℕ). k ▸ ask 10 (leb (wordsOf w (length steps)) (t .room)))
-        (past _ _ _ (ask-yes 1 _ (le-leb 1 w least)) (past _ _ _ (ask-yes 1 _ (le-leb w 24 most)) refl))
+        (past-width w _ least most)
         ∙ then-last _ _
         ∙ ap (λ (n : ℕ). ask 2 (leb (t .room) maxCount) ▸ (ask 10 (leb (wordsOf w n) (t .room)) ▸ 0)) count
 
