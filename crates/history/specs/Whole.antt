@@ -51,7 +51,7 @@ pub record TraceHeld (w steps : ℕ) (trace : List ℕ) : Type 0 where
   pub room : wordsOf w steps ≤ length trace
   pub units : allBelow prime (take (wordsOf w steps) trace) ≡ true
 
--- (4) of held parts and a trace: for every sheet that 17 lets through, and every scratch that 2 and 16 do
+-- (4) of held parts and a trace: for all parameters that 17 lets through, and every scratch that 2 and 16 do
 abbrev pub Checks : (w : ℕ) → Ledger → PermutationInstance → (label publics queries equations : List ℕ)
     → (steps : ℕ) (trace : List ℕ) → Type 0
 Checks w l ins label publics queries equations steps trace =
