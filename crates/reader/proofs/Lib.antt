@@ -1,2 +1,4 @@
-pub mod Calls
 pub mod Found
+pub mod Walk
+pub mod Contracts
+pub mod Calls

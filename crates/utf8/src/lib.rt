@@ -13,9 +13,12 @@ ghost use lib.ListN.{replicate};
 ghost use Rattle.utf8.specs.Utf8.{Utf8, tailRange, isUtf8, follow};
 ghost use Rattle.utf8.specs.Scan.{dueRanges, afterStep};
 
+// How many rows there are.
+const ROW_COUNT: usize = 9;
+
 // A row: the least and the greatest first byte, the least and the greatest second byte, and how many
 // bytes follow the first. Those after the second are 80 to BF.
-const ROWS: [[u8; 5]; 9] = [
+const ROWS: [[u8; 5]; ROW_COUNT] = [
     [0x00, 0x7f, 0x80, 0xbf, 0],
     [0xc2, 0xdf, 0x80, 0xbf, 1],
     [0xe0, 0xe0, 0xa0, 0xbf, 2],
@@ -60,7 +63,7 @@ fn begin(b: u8) -> Step
         return Step::On(tails(0));
     }
     let mut i = 0;
-    while i < 9 {
+    while i < ROW_COUNT {
         let row = ROWS[i];
         if row[0] <= b {
             if b <= row[1] {
