@@ -1,7 +1,9 @@
 -- Laws of questions in order: the first no of two, of a list and of a list that is put together from parts.
 --
 -- `both` and `join` say when nothing says no, `refused` what a number means. The code's chain of questions is
--- nested to the left; `simp (▸-assoc, zero-▸, ▸-zero)` turns it into the list that a definition cites.
+-- nested to the left; `simp (▸-assoc, zero-▸, ▸-zero)` turns a short one into the list that a definition cites, and
+-- `chain-all` one of any length, by its groups. `puts-yes` says what an accepted call's questions say, by their
+-- numbers and not by their places.
 -- Assumes nothing.
 use Prim.Native.Nat.{ℕ, zero, suc}
 use mathlib.Core.Path.{_≡_, refl, sym, ap, _∙_}
@@ -10,7 +12,7 @@ use mathlib.Core.Bool.{Bool, true, false, _&&_}
 use mathlib.Core.List.{List, [], _∷_, _++_}
 use lib.Dec.{T, ltb}
 use lib.ListN.{getD}
-use Rattle.limits.specs.Questions.{ask, _▸_, Question, question, firstNo, onYes}
+use Rattle.limits.specs.Questions.{ask, _▸_, Question, question, firstNo, inTurn, onYes}
 
 -- ---- one question
 pub ask-yes : (k : ℕ) (b : Bool) → b ≡ true → ask k b ≡ 0
@@ -80,6 +82,25 @@ firstNo-append (p ∷ ps) qs =
     ap (λ (n : ℕ). ask (p .number) (p .says) ▸ n) (firstNo-append ps qs)
     ∙ sym (▸-assoc (ask (p .number) (p .says)) (firstNo ps) (firstNo qs))
 
+-- groups put one after the other, each by what was answered before it, as code puts them
+abbrev pub chain : ℕ → List (List Question) → ℕ
+chain k [] = k
+chain k (g ∷ gs) = chain (k ▸ firstNo g) gs
+
+pub chain-inTurn : (k : ℕ) (gs : List (List Question)) → chain k gs ≡ k ▸ firstNo (inTurn gs)
+chain-inTurn k [] = sym (▸-zero k)
+chain-inTurn k (g ∷ gs) =
+    chain-inTurn (k ▸ firstNo g) gs
+    ∙ ▸-assoc k (firstNo g) (firstNo (inTurn gs))
+    ∙ ap (λ (n : ℕ). k ▸ n) (sym (firstNo-append g (inTurn gs)))
+
+-- with nothing answered before the first, and from what a first group answers
+pub chain-all : (gs : List (List Question)) → chain 0 gs ≡ firstNo (inTurn gs)
+chain-all gs = chain-inTurn 0 gs ∙ zero-▸ (firstNo (inTurn gs))
+
+pub chain-from : (g : List Question) (gs : List (List Question)) → chain (firstNo g) gs ≡ firstNo (inTurn (g ∷ gs))
+chain-from g gs = chain-inTurn (firstNo g) gs ∙ sym (firstNo-append g (inTurn gs))
+
 -- every question has a number other than 0: computed
 abbrev pub numbered : List Question → Bool
 numbered [] = true
@@ -104,6 +125,27 @@ accepted-says (q ∷ qs) t e zero =
     first-says (q .number) (q .says) (and-parts (ltb 0 (q .number)) (numbered qs) t .0) (both _ _ e .0)
 accepted-says (q ∷ qs) t e (suc i) =
     accepted-says qs (and-parts (ltb 0 (q .number)) (numbered qs) t .1) (both _ _ e .1) i
+
+-- question k, which says this, is put in the list
+pub data Puts (k : ℕ) (says : Bool) : List Question → Type 0 where
+  here : {qs : List Question} → Puts k says (question k says ∷ qs)
+  there : {q : Question} {qs : List Question} → Puts k says qs → Puts k says (q ∷ qs)
+
+pub puts-before : {k : ℕ} {says : Bool} {ps : List Question} (qs : List Question) → Puts k says ps → Puts k says (ps ++ qs)
+puts-before qs here = here
+puts-before qs (there p) = there (puts-before qs p)
+
+pub puts-after : {k : ℕ} {says : Bool} (ps : List Question) {qs : List Question} → Puts k says qs → Puts k says (ps ++ qs)
+puts-after [] p = p
+puts-after (q ∷ ps) p = there (puts-after ps p)
+
+-- a question is found in a list by what it says: `search puts depth 20`
+pub ruleset puts = (here, there, puts-before, puts-after)
+
+-- accepted: a question that is put says yes, wherever it stands
+pub puts-yes : (qs : List Question) → firstNo qs ≡ 0 → (k : ℕ) (says : Bool) → T (ltb 0 k) → Puts k says qs → says ≡ true
+puts-yes qs e k says t here = first-says k says t (both _ _ e .0)
+puts-yes qs e k says t (there {qs = rest} p) = puts-yes rest (both _ _ e .1) k says t p
 
 -- and where each says yes, nothing is answered
 pub says-accepted : (qs : List Question) → ((i : ℕ) → saysAt qs i ≡ true) → firstNo qs ≡ 0

@@ -5,7 +5,7 @@
 -- its number is `firstNo` of the list: 0 where every question says yes. Assumes nothing.
 use Prim.Native.Nat.{ℕ, zero, suc}
 use mathlib.Core.Bool.{Bool, true, false}
-use mathlib.Core.List.{List, [], _∷_}
+use mathlib.Core.List.{List, [], _∷_, _++_}
 
 -- the first where the test says yes, else the second
 abbrev pub pick : {A : Type 0} → Bool → A → A → A
@@ -35,6 +35,11 @@ question k says = record { number = k; says = says }
 abbrev pub firstNo : List Question → ℕ
 firstNo [] = 0
 firstNo (q ∷ qs) = ask (q .number) (q .says) ▸ firstNo qs
+
+-- groups of questions, put one after the other
+abbrev pub inTurn : List (List Question) → List Question
+inTurn [] = []
+inTurn (g ∷ gs) = g ++ inTurn gs
 
 -- by a number: the first where it is 0, else the second
 abbrev pub onYes : {A : Type 0} → ℕ → A → A → A

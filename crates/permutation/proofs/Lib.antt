@@ -1,11 +1,9 @@
-pub mod Chain
 pub mod Answered
 pub mod Accepted
 pub mod Equated
 pub mod Minted
 pub mod Sets
 pub mod Looked
-pub mod Queried
 pub mod Slots
 pub mod Stores
 pub mod Keeps

@@ -2,21 +2,20 @@
 -- lent stores hold. Assumes nothing.
 use Prim.Native.Nat.{ℕ, _+_, _*_}
 use mathlib.Core.List.{List, [], _∷_, _++_}
-use lib.Dec.{eqb, ltb, leb}
+use lib.Dec.{ltb, leb}
 use lib.ListN.{length}
 use Rattle.limits.specs.Numbers.{prime, maxCount}
-use Rattle.limits.specs.Questions.{Question, question}
+use Rattle.limits.specs.Questions.{Question, question, inTurn}
 use Rattle.limits.specs.Asks.{widthAsks, storeAsks, countAsks}
-use Rattle.words.specs.Store.{allBelow}
 use Rattle.allocator.specs.Slots.{Pair, slotsAsks, growAsks, pairAsks}
 use Rattle.expr.specs.Equation.{Term, equationSize, termsAsks}
-use Rattle.words.specs.Pieces.{wordsOf}
+use Rattle.words.specs.Pieces.{heldAsks, oneMoreAsks, halfAsks, halvesAsks}
 use Rattle.permutation.specs.declared.PermutationRelation.{PermutationRelation}
 
 -- ---- 2: each count fits the store that is lent, counted by itself
 -- n queries take 2wn words
 abbrev pub queriesAsks : PermutationRelation → ℕ → List Question
-queriesAsks rel len = storeAsks len ++ (question 2 (leb (wordsOf (rel .width) (rel .queries)) len) ∷ [])
+queriesAsks rel len = heldAsks (rel .width) (rel .queries) len
 
 -- m equations take at least 2m words
 abbrev pub equationsAsks : PermutationRelation → ℕ → List Question
@@ -26,16 +25,20 @@ equationsAsks rel len =
 -- ---- 10: does the store hold one item more?
 -- one query more
 abbrev pub queryRoom : PermutationRelation → ℕ → List Question
-queryRoom rel len = question 10 (leb (wordsOf (rel .width) (rel .queries + 1)) len) ∷ []
+queryRoom rel len = oneMoreAsks (rel .width) (rel .queries) len
 
 -- one equation of t terms more
 abbrev pub equationRoom : PermutationRelation → ℕ → ℕ → List Question
 equationRoom rel len t = question 10 (leb (rel .words + equationSize t) len) ∷ []
 
--- ---- each call's questions
+-- ---- each call's questions, a group to a line
 -- fresh: 1, 2, 6
 abbrev pub newRelationAsks : ℕ → ℕ → List Question
-newRelationAsks width len = widthAsks width ++ (storeAsks len ++ (question 6 (leb 1 len) ∷ []))
+newRelationAsks width len = inTurn (
+    widthAsks width
+    ∷ storeAsks len
+    ∷ (question 6 (leb 1 len) ∷ [])
+    ∷ [])
 
 -- every call that looks at the slots begins with 1 and 2
 abbrev pub relationAsks : PermutationRelation → ℕ → List Question
@@ -43,40 +46,63 @@ relationAsks rel len = widthAsks (rel .width) ++ slotsAsks (rel .vars) len
 
 -- allocate: 1, 2, 5, 6
 abbrev pub allocateVarsAsks : PermutationRelation → ℕ → ℕ → List Question
-allocateVarsAsks rel len n = relationAsks rel len ++ growAsks (rel .vars) len n
+allocateVarsAsks rel len n = inTurn (
+    relationAsks rel len
+    ∷ growAsks (rel .vars) len n
+    ∷ [])
 
 -- set: 1, 2, 3, 4, 7, 8
 abbrev pub setVarAsks : PermutationRelation → List ℕ → Pair → List Question
-setVarAsks rel slots p = relationAsks rel (length slots) ++ pairAsks (rel .vars) slots p
+setVarAsks rel slots p = inTurn (
+    relationAsks rel (length slots)
+    ∷ pairAsks (rel .vars) slots p
+    ∷ [])
 
 -- set list: 1, and 2 of the two lists too; what follows, 3, 4, 7, 8 pair by pair and then 9, is `setVarsRun`
 abbrev pub setVarsAsks : PermutationRelation → ℕ → List ℕ → List ℕ → List Question
-setVarsAsks rel len vars values =
-    relationAsks rel len ++ (storeAsks (length vars) ++ storeAsks (length values))
+setVarsAsks rel len vars values = inTurn (
+    relationAsks rel len
+    ∷ storeAsks (length vars)
+    ∷ storeAsks (length values)
+    ∷ [])
 
 -- record: 1, 2, 9, 3, 10
-abbrev pub addPermutationAsks : PermutationRelation → ℕ → List ℕ → List ℕ → List Question
-addPermutationAsks rel len input output =
+abbrev pub addPermutationGroups : PermutationRelation → ℕ → List ℕ → List ℕ → List (List Question)
+addPermutationGroups rel len input output =
     widthAsks (rel .width)
-    ++ (queriesAsks rel len ++ (countAsks (rel .vars) ++ (storeAsks (length input) ++ (storeAsks (length output)
-    ++ (question 9 (eqb (length input) (rel .width))
-    ∷ question 9 (eqb (length output) (rel .width))
-    ∷ question 3 (allBelow maxCount input)
-    ∷ question 3 (allBelow maxCount output)
-    ∷ queryRoom rel len)))))
+    ∷ queriesAsks rel len
+    ∷ countAsks (rel .vars)
+    ∷ storeAsks (length input)
+    ∷ storeAsks (length output)
+    ∷ halvesAsks (rel .width) 3 maxCount input output
+    ∷ queryRoom rel len
+    ∷ []
+
+-- those in turn
+abbrev pub addPermutationAsks : PermutationRelation → ℕ → List ℕ → List ℕ → List Question
+addPermutationAsks rel len input output = inTurn (addPermutationGroups rel len input output)
+
+-- mint, after 1 and 2 of the slots: 2, 9, 3, 5, 6, 10
+abbrev pub allocatePermutationGroups : PermutationRelation → ℕ → ℕ → List ℕ → List (List Question)
+allocatePermutationGroups rel slots len input =
+    queriesAsks rel len
+    ∷ storeAsks (length input)
+    ∷ halfAsks (rel .width) 3 maxCount input
+    ∷ growAsks (rel .vars) slots (rel .width)
+    ∷ queryRoom rel len
+    ∷ []
 
 -- mint: 1, 2, 9, 3, 5, 6, 10
 abbrev pub allocatePermutationAsks : PermutationRelation → ℕ → ℕ → List ℕ → List Question
-allocatePermutationAsks rel slots len input =
-    relationAsks rel slots
-    ++ (queriesAsks rel len ++ (storeAsks (length input)
-    ++ (question 9 (eqb (length input) (rel .width))
-    ∷ question 3 (allBelow maxCount input)
-    ∷ (growAsks (rel .vars) slots (rel .width) ++ queryRoom rel len))))
+allocatePermutationAsks rel slots len input = inTurn (relationAsks rel slots ∷ allocatePermutationGroups rel slots len input)
 
 -- equation: 1 and 2 ..
 abbrev pub addEquationSizes : PermutationRelation → ℕ → List Question
-addEquationSizes rel len = widthAsks (rel .width) ++ (equationsAsks rel len ++ countAsks (rel .vars))
+addEquationSizes rel len = inTurn (
+    widthAsks (rel .width)
+    ∷ equationsAsks rel len
+    ∷ countAsks (rel .vars)
+    ∷ [])
 
 -- 4 of the image
 abbrev pub imageAsks : ℕ → List Question
@@ -84,15 +110,24 @@ imageAsks image = question 4 (ltb image prime) ∷ []
 
 -- .. and then 3 over all wires, 4 over all weights and the image, 10
 abbrev pub addEquationAsks : PermutationRelation → ℕ → List Term → ℕ → List Question
-addEquationAsks rel len terms image =
+addEquationAsks rel len terms image = inTurn (
     addEquationSizes rel len
-    ++ (termsAsks terms ++ (imageAsks image ++ equationRoom rel len (length terms)))
+    ∷ termsAsks terms
+    ∷ imageAsks image
+    ∷ equationRoom rel len (length terms)
+    ∷ [])
 
 -- value of a wire on slots: 1, 2, 3
 abbrev pub valueOfAsks : PermutationRelation → ℕ → ℕ → List Question
-valueOfAsks rel len var = relationAsks rel len ++ (question 3 (ltb var maxCount) ∷ [])
+valueOfAsks rel len var = inTurn (
+    relationAsks rel len
+    ∷ (question 3 (ltb var maxCount) ∷ [])
+    ∷ [])
 
 -- is it allocated: 1, 2, 3
 abbrev pub isAllocatedAsks : PermutationRelation → ℕ → List Question
-isAllocatedAsks rel var =
-    widthAsks (rel .width) ++ (countAsks (rel .vars) ++ (question 3 (ltb var maxCount) ∷ []))
+isAllocatedAsks rel var = inTurn (
+    widthAsks (rel .width)
+    ∷ countAsks (rel .vars)
+    ∷ (question 3 (ltb var maxCount) ∷ [])
+    ∷ [])

@@ -277,16 +277,12 @@ fn add_permutation_no(rel: PermutationRelation, len: usize, input: &[u32], outpu
     let count = rel.vars;
     let held = rel.queries;
     let no = limits::asked_width(0, width);
-    let no = limits::asked_store(no, len);
-    let no = words::asked_pieces(no, width, held, len, 2);
+    let no = words::asked_held(no, width, held, len);
     let no = limits::asked_count(no, count);
     let no = limits::asked_store(no, input.len());
     let no = limits::asked_store(no, output.len());
-    let no = limits::asked(no, input.len() == width as usize, 9);
-    let no = limits::asked(no, output.len() == width as usize, 9);
-    let no = words::asked_below(no, input, MAX_COUNT, 3);
-    let no = words::asked_below(no, output, MAX_COUNT, 3);
-    words::asked_one_more(no, width, held, len, 10)
+    let no = words::asked_halves(no, width, 3, MAX_COUNT, input, output);
+    words::asked_one_more(no, width, held, len)
 }
 
 // Record a query from input to output wires, allocated or not (the source's `add_permutation`). Questions 1,
@@ -335,13 +331,11 @@ fn allocate_permutation_no(
     let count = rel.vars;
     let held = rel.queries;
     let no = asked_relation(width, count, slots);
-    let no = limits::asked_store(no, room);
-    let no = words::asked_pieces(no, width, held, room, 2);
+    let no = words::asked_held(no, width, held, room);
     let no = limits::asked_store(no, input.len());
-    let no = limits::asked(no, input.len() == width as usize, 9);
-    let no = words::asked_below(no, input, MAX_COUNT, 3);
+    let no = words::asked_half(no, width, 3, MAX_COUNT, input);
     let no = allocator::asked_grow(no, count, slots, width);
-    words::asked_one_more(no, width, held, room, 10)
+    words::asked_one_more(no, width, held, room)
 }
 
 // The n wires from `first` on, as words at place `at` of the store. Nothing is written where there are not

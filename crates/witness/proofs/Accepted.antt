@@ -6,7 +6,7 @@ use mathlib.Core.List.{List, _∷_}
 use native.Mathlib.Omega.{arith}
 use borrow.Author.Tests.{leb-true, eqb-true}
 use lib.ListN.{length}
-use Rattle.limits.specs.Numbers.{prime, maxCount, maxWidth}
+use Rattle.limits.specs.Numbers.{prime, maxCount, maxWidth, wordEnd}
 use Rattle.limits.specs.Questions.{question}
 use Rattle.limits.proofs.Questions.{both, firstNo-append, accepted-says}
 use Rattle.words.specs.Store.{allBelow}
@@ -18,7 +18,7 @@ use Rattle.witness.specs.declared.PermutationWitness.{PermutationWitness
 
 -- the step count stays a small number
 pub steps-few : (wit : PermutationWitness) (len : ℕ) → 1 ≤ wit .width → len ≤ maxCount → wordsOf (wit .width) (wit .steps + 1) ≤ len
-    → wit .steps + 1 < 4294967296
+    → wit .steps + 1 < wordEnd
 steps-few wit len w m h = omega (arith, pieces-few (wit .width) (wit .steps + 1) len w h)
 
 -- ---- a given step
@@ -29,7 +29,7 @@ pub record AddPermutation (wit : PermutationWitness) (len : ℕ) (input output :
   pub inputUnits : allBelow prime input ≡ true
   pub outputUnits : allBelow prime output ≡ true
   pub room : wordsOf (wit .width) (wit .steps + 1) ≤ len
-  pub few : wit .steps + 1 < 4294967296
+  pub few : wit .steps + 1 < wordEnd
 
 pub appendStep-yes : (wit : PermutationWitness) (len : ℕ) (input output : List ℕ) → appendStepNo wit len input output ≡ 0
     → AddPermutation wit len input output
@@ -78,7 +78,7 @@ pub record AllocatePermutation (wit : PermutationWitness) (len : ℕ) (input : L
   pub asked : inputNo wit len input params ≡ 0
   pub sound : soundParameters (wit .width) rounds params ≡ true
   pub room : wordsOf (wit .width) (wit .steps + 1) ≤ len
-  pub few : wit .steps + 1 < 4294967296
+  pub few : wit .steps + 1 < wordEnd
 
 pub evaluateStep-yes : (wit : PermutationWitness) (len : ℕ) (input : List ℕ) (rounds : ℕ) (params : List ℕ)
     → evaluateStepNo wit len input rounds params ≡ 0 → AllocatePermutation wit len input rounds params

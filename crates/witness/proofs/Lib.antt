@@ -1,4 +1,3 @@
-pub mod Chain
 pub mod Accepted
 pub mod Evaluated
 pub mod Written

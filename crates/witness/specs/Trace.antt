@@ -2,53 +2,59 @@
 -- outputs, one after the other in a lent store. Assumes nothing.
 use Prim.Native.Nat.{ℕ, _+_}
 use mathlib.Core.List.{List, [], _∷_, _++_}
-use lib.Dec.{eqb, leb}
 use lib.ListN.{length}
 use Rattle.limits.specs.Numbers.{prime}
-use Rattle.limits.specs.Questions.{Question, question, firstNo, onYes}
+use Rattle.limits.specs.Questions.{Question, question, firstNo, inTurn, onYes}
 use Rattle.limits.specs.Asks.{widthAsks, storeAsks}
-use Rattle.words.specs.Store.{allBelow, putWords}
-use Rattle.words.specs.Pieces.{wordsOf, stepsOf}
+use Rattle.words.specs.Store.{putWords}
+use Rattle.words.specs.Pieces.{wordsOf, stepsOf, heldAsks, oneMoreAsks, halfAsks, halvesAsks}
 use Rattle.limits.specs.Outcome.{outcomeOf}
 use Rattle.permute.specs.Permute.{permute}
 use Rattle.permute.specs.Parameters.{parametersOf, soundParameters}
 use Rattle.witness.specs.declared.PermutationWitness.{PermutationWitness}
 use Rattle.witness.specs.declared.Traced.{Traced}
 
--- ---- questions
+-- ---- questions, a group to a line
 -- 1, and 2 of the trace: its size, and that the steps fit it
 abbrev pub traceAsks : PermutationWitness → ℕ → List Question
-traceAsks wit len =
-    widthAsks (wit .width) ++ (storeAsks len ++ (question 2 (leb (wordsOf (wit .width) (wit .steps)) len) ∷ []))
+traceAsks wit len = widthAsks (wit .width) ++ heldAsks (wit .width) (wit .steps) len
 
 -- 10: does the trace hold one step more?
 abbrev pub stepRoom : PermutationWitness → ℕ → List Question
-stepRoom wit len = question 10 (leb (wordsOf (wit .width) (wit .steps + 1)) len) ∷ []
+stepRoom wit len = oneMoreAsks (wit .width) (wit .steps) len
 
--- a given step: 1, 2 (a lent list is a word store too), 9, 4, 10
+-- a given step, after those of the trace: 2 (a lent list is a word store too), 9, 4, 10
+abbrev pub appendStepGroups : PermutationWitness → ℕ → List ℕ → List ℕ → List (List Question)
+appendStepGroups wit len input output =
+    storeAsks (length input)
+    ∷ storeAsks (length output)
+    ∷ halvesAsks (wit .width) 4 prime input output
+    ∷ stepRoom wit len
+    ∷ []
+
+-- a given step: 1, 2, 9, 4, 10
 abbrev pub appendStepAsks : PermutationWitness → ℕ → List ℕ → List ℕ → List Question
-appendStepAsks wit len input output =
-    traceAsks wit len
-    ++ (storeAsks (length input) ++ (storeAsks (length output)
-    ++ (question 9 (eqb (length input) (wit .width))
-    ∷ question 9 (eqb (length output) (wit .width))
-    ∷ question 4 (allBelow prime input)
-    ∷ question 4 (allBelow prime output)
-    ∷ stepRoom wit len)))
+appendStepAsks wit len input output = inTurn (traceAsks wit len ∷ appendStepGroups wit len input output)
 
--- an evaluated step: 1, 2 (of the lists too), 9, 4 ..
+-- an evaluated step, after those of the trace: 2 of the lists, 9, 4
+abbrev pub inputGroups : PermutationWitness → List ℕ → List ℕ → List (List Question)
+inputGroups wit input params =
+    storeAsks (length input)
+    ∷ storeAsks (length params)
+    ∷ halfAsks (wit .width) 4 prime input
+    ∷ []
+
+-- an evaluated step: 1, 2, 9, 4 ..
 abbrev pub inputAsks : PermutationWitness → ℕ → List ℕ → List ℕ → List Question
-inputAsks wit len input params =
-    traceAsks wit len
-    ++ (storeAsks (length input) ++ (storeAsks (length params)
-    ++ (question 9 (eqb (length input) (wit .width))
-    ∷ question 4 (allBelow prime input)
-    ∷ [])))
+inputAsks wit len input params = inTurn (traceAsks wit len ∷ inputGroups wit input params)
 
 -- .. and then 17, 10
 abbrev pub evaluateStepAsks : PermutationWitness → ℕ → List ℕ → ℕ → List ℕ → List Question
-evaluateStepAsks wit len input rounds params =
-    inputAsks wit len input params ++ (question 17 (soundParameters (wit .width) rounds params) ∷ stepRoom wit len)
+evaluateStepAsks wit len input rounds params = inTurn (
+    inputAsks wit len input params
+    ∷ (question 17 (soundParameters (wit .width) rounds params) ∷ [])
+    ∷ stepRoom wit len
+    ∷ [])
 
 -- each call's number: the first no of its questions
 unfoldable pub appendStepNo : PermutationWitness → ℕ → List ℕ → List ℕ → ℕ

@@ -7,6 +7,7 @@ ghost use mathlib.Core.Path.{_≡_};
 ghost use mathlib.Core.List.{_++_};
 ghost use Prim.Native.Nat.{_+_, _≤_, _<_};
 ghost use lib.ListN.{length};
+ghost use Rattle.limits.specs.Numbers.{wordEnd};
 ghost use Rattle.limits.specs.Questions.{firstNo, onYes};
 ghost use Rattle.words.specs.Pieces.{wordsOf};
 ghost use Rattle.permute.specs.Parameters.{permuteNo};
@@ -14,6 +15,9 @@ ghost use Rattle.witness.specs.Trace.{traceAsks, inputNo, appendStepNo, 
 ghost use Rattle.witness.specs.Trace.{appendStep, appendStepTrace, evaluateStep, evaluateStepTrace};
 use limits::Outcome;
 use limits::P;
+
+// Words that hold a state of any width: the greatest is 24.
+const MAX_STATE: usize = 24;
 
 // The record of a trace: 2 · width units per step.
 #[repr(C)]
@@ -30,7 +34,7 @@ pub struct Traced {
 
 // What is answered by a call's number: one step more at 0, else the record as it was.
 fn answered(no: u32, wit: PermutationWitness) -> Traced
-    requires { ⌜ (no ≡ 0 → wit .steps + 1 < 4294967296) ⌝ }
+    requires { ⌜ (no ≡ 0 → wit .steps + 1 < wordEnd) ⌝ }
     ensures { λ r. ⌜ r ≡ tracedOf no wit ⌝ }
 {
     if no != 0 {
@@ -67,8 +71,7 @@ fn asked_trace(wit: PermutationWitness, len: usize) -> u32
     let width = wit.width;
     let steps = wit.steps;
     let no = limits::asked_width(0, width);
-    let no = limits::asked_store(no, len);
-    words::asked_pieces(no, width, steps, len, 2)
+    words::asked_held(no, width, steps, len)
 }
 
 // The number of a given step.
@@ -80,11 +83,8 @@ fn append_step_no(wit: PermutationWitness, len: usize, input: &[u32], output: &[
     let no = asked_trace(wit, len);
     let no = limits::asked_store(no, input.len());
     let no = limits::asked_store(no, output.len());
-    let no = limits::asked(no, input.len() == width as usize, 9);
-    let no = limits::asked(no, output.len() == width as usize, 9);
-    let no = words::asked_below(no, input, P, 4);
-    let no = words::asked_below(no, output, P, 4);
-    words::asked_one_more(no, width, steps, len, 10)
+    let no = words::asked_halves(no, width, 4, P, input, output);
+    words::asked_one_more(no, width, steps, len)
 }
 
 // Record a step without evaluating the permutation (the source's `append_step`). Questions 1, 2, 9, 4, 10.
@@ -112,8 +112,7 @@ fn input_no(wit: PermutationWitness, len: usize, input: &[u32], params: &[u32]) 
     let no = asked_trace(wit, len);
     let no = limits::asked_store(no, input.len());
     let no = limits::asked_store(no, params.len());
-    let no = limits::asked(no, input.len() == width as usize, 9);
-    words::asked_below(no, input, P, 4)
+    words::asked_half(no, width, 4, P, input)
 }
 
 // Evaluate the permutation on the inputs and record the step (the source's `evaluate_step`). Questions
@@ -134,14 +133,14 @@ pub fn evaluate_step(
     }
     let width = wit.width;
     let steps = wit.steps;
-    let full = words::asked_one_more(0, width, steps, trace.len(), 10);
+    let full = words::asked_one_more(0, width, steps, trace.len());
     if full != 0 {
         let no = permute::parameters_no(0, width, rounds, params);
-        let no = words::asked_one_more(no, width, steps, trace.len(), 10);
+        let no = words::asked_one_more(no, width, steps, trace.len());
         return answered(no, wit);
     }
     let w = width as usize;
-    let mut state = [0u32; 24];
+    let mut state = [0u32; MAX_STATE];
     let no = put_evaluation(wit, trace, input, rounds, params, &mut state[0..w]);
     answered(no, wit)
 }

@@ -6,8 +6,10 @@ use mathlib.Core.List.{List, [], _∷_, _++_, append-assoc, append-nil}
 use native.Mathlib.Omega.{arith}
 use lib.ListN.{length, drop, length-append}
 use lib.Seq.{take-at, drop-at, take-append-seam, drop-append-add}
-use Rattle.words.specs.Store.{putWords, All, Begins}
-use Rattle.words.specs.Pieces.{pieces, flat}
+use Rattle.words.specs.Store.{putWords, fitWords, All, Begins}
+use Rattle.words.specs.Pieces.{wordsOf, pieces, flat}
+use Rattle.words.proofs.Pieces.{wordsOf-suc}
+use Rattle.words.proofs.Written.{fit-fit}
 
 -- ---- words put at the end of those that a store begins with
 pub begins-put : (l words store : List ℕ) (at : ℕ) → at ≡ length l → Begins l store → Begins (l ++ words) (putWords at words store)
@@ -44,6 +46,15 @@ pieces-flat k (q ∷ qs) r a =
 pub pieces-held : (k : ℕ) (qs : List (List ℕ)) (store : List ℕ) → All (λ q. length q ≡ k) qs → Begins (flat qs) store
     → pieces k (length qs) store ≡ qs
 pieces-held k qs store a b = ap (λ (s : List ℕ). pieces k (length qs) s) (b .is) ∙ pieces-flat k qs (b .rest) a
+
+-- two halves put one behind the other are a piece, behind n that are there
+pub halves-put : (width n : ℕ) (first second store : List ℕ) → length first ≡ width → length second ≡ width
+    → wordsOf width (n + 1) ≤ length store
+    → fitWords (wordsOf width n + width) second (fitWords (wordsOf width n) first store) ≡ putWords (wordsOf width n) (first ++ second) store
+halves-put width n first second store f s h =
+    let more = wordsOf-suc width n in
+    ap (λ (k : ℕ). fitWords (wordsOf width n + k) second (fitWords (wordsOf width n) first store)) (sym f)
+    ∙ fit-fit (wordsOf width n) first second store (omega arith)
 
 -- and one more is put at their end
 pub pieces-put : (k : ℕ) (qs : List (List ℕ)) (q store : List ℕ) → All (λ p. length p ≡ k) qs → Begins (flat qs) store

@@ -1,14 +1,13 @@
-// Lent stores of u32 words: filled, written at a place, and tested word by word.
+// Lent stores of u32 words: filled, written at a place, and tested word by word; questions of stores of pieces.
 //
 // Each function is total and says what every word of the store is afterwards.
 
 ghost use mathlib.Core.Path.{_≡_};
 ghost use lib.ListN.{length, replicate};
-ghost use Prim.Native.Nat.{_+_};
 ghost use lib.Dec.{leb};
-ghost use Rattle.limits.specs.Questions.{_▸_, ask};
+ghost use Rattle.limits.specs.Questions.{_▸_, ask, firstNo};
 ghost use Rattle.words.specs.Store.{allBelow, fitWords};
-ghost use Rattle.words.specs.Pieces.{wordsOf};
+ghost use Rattle.words.specs.Pieces.{wordsOf, heldAsks, oneMoreAsks, halfAsks, halvesAsks};
 
 // Every word of s becomes v.
 pub fn fill(s: &mut [u32], v: u32)
@@ -69,10 +68,36 @@ pub fn asked_pieces(no: u32, width: u32, n: u32, len: usize, k: u32) -> u32
     limits::asked(no, half <= len as u64 / 2, k)
 }
 
-// Question k, whether it holds one piece more than n.
-pub fn asked_one_more(no: u32, width: u32, n: u32, len: usize, k: u32) -> u32
-    ensures { λ r. ⌜ r ≡ no ▸ ask k (leb (wordsOf width (n + 1)) len) ⌝ }
+// Question 2 of a store of n pieces: its size, and that they fit it.
+pub fn asked_held(no: u32, width: u32, n: u32, len: usize) -> u32
+    ensures { λ r. ⌜ r ≡ no ▸ firstNo (heldAsks width n len) ⌝ }
+{
+    let no = limits::asked_store(no, len);
+    asked_pieces(no, width, n, len, 2)
+}
+
+// Question 10, whether it holds one piece more.
+pub fn asked_one_more(no: u32, width: u32, n: u32, len: usize) -> u32
+    ensures { λ r. ⌜ r ≡ no ▸ firstNo (oneMoreAsks width n len) ⌝ }
 {
     let wanted = n as u64 * width as u64 + width as u64;
-    limits::asked(no, wanted <= len as u64 / 2, k)
+    limits::asked(no, wanted <= len as u64 / 2, 10)
+}
+
+// Questions 9 and k of one half of a piece: has it `width` words, and is each below the bound?
+pub fn asked_half(no: u32, width: u32, k: u32, bound: u32, half: &[u32]) -> u32
+    ensures { λ r. ⌜ r ≡ no ▸ firstNo (halfAsks width k bound (now (half .entry))) ⌝ }
+{
+    let no = limits::asked(no, half.len() == width as usize, 9);
+    asked_below(no, half, bound, k)
+}
+
+// The same of both halves, 9 first.
+pub fn asked_halves(no: u32, width: u32, k: u32, bound: u32, first: &[u32], second: &[u32]) -> u32
+    ensures { λ r. ⌜ r ≡ no ▸ firstNo (halvesAsks width k bound (now (first .entry)) (now (second .entry))) ⌝ }
+{
+    let no = limits::asked(no, first.len() == width as usize, 9);
+    let no = limits::asked(no, second.len() == width as usize, 9);
+    let no = asked_below(no, first, bound, k);
+    asked_below(no, second, bound, k)
 }

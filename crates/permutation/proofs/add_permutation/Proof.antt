@@ -13,7 +13,8 @@ use Rattle.permutation.specs.Answers.{oneQuery, queriesWith}
 use Rattle.limits.proofs.Answered.{store-refused, store-accepted}
 use Rattle.permutation.proofs.Answered.{recorded-refused, recorded-accepted}
 use Rattle.permutation.proofs.Accepted.{addPermutation-yes}
-use Rattle.permutation.proofs.Queried.{query-put, queries-few}
+use Rattle.words.proofs.Pieces.{pieces-few}
+use Rattle.words.proofs.Held.{halves-put}
 use borrow.Author.Needs.{needs}
 use Rattle.permutation.proofs.add_permutation.Statement.{statement}
 use Rattle.permutation.proofs.add_permutation.Tie as tie
@@ -65,7 +66,7 @@ add-t18 c =
     let d = c .before .before .before .before .before .before .before .before .before .before .before in
     let a = d .before .before .before .before .before .args in
     let y = addPermutation-yes (a .rel) (length (now (a .queries))) (now (a .input)) (now (a .output)) (sym (d .before .add-permutation-no .ensures) ∙ d .if1 .left) in
-    let q = queries-few (a .rel) (length (now (a .queries))) (y .least) (y .room) in
+    let q = pieces-few (a .rel .width) (a .rel .queries + 1) (length (now (a .queries))) (y .least) (y .room) in
     omega arith
 
 same-length : tie.Need-same-length
@@ -86,7 +87,7 @@ returns-2 c =
       recorded-accepted no _ e (oneQuery (a .rel)) (a .rel) z,
       c .before .before .before .put2 .ensures
           ∙ ap (fitWords (at + a .rel .width) output) (c .before .before .before .before .before .before .before .put .ensures)
-          ∙ query-put (a .rel) input output s (y .inputs) (y .outputs) (y .room)
+          ∙ halves-put (a .rel .width) (a .rel .queries) input output s (y .inputs) (y .outputs) (y .room)
           ∙ store-accepted no _ e (queriesWith (a .rel) (input ++ output) s) s z,
     )
 

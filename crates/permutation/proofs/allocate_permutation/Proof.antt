@@ -18,7 +18,8 @@ use Rattle.limits.proofs.Answered.{store-refused, store-accepted}
 use Rattle.permutation.proofs.Answered.{allocated-refused, allocated-accepted}
 use Rattle.permutation.proofs.Accepted.{allocatePermutation-yes}
 use Rattle.permutation.proofs.Minted.{upFrom-length}
-use Rattle.permutation.proofs.Queried.{query-put, queries-few}
+use Rattle.words.proofs.Pieces.{pieces-few}
+use Rattle.words.proofs.Held.{halves-put}
 use borrow.Author.Needs.{needs}
 use Rattle.permutation.proofs.allocate_permutation.Statement.{statement}
 use Rattle.permutation.proofs.allocate_permutation.Tie as tie
@@ -82,7 +83,7 @@ add-t24 c =
     let d = c .before .before .before .before .before .before .before .before .before .before .before .before in
     let a = d .before .before .before .before .before .args in
     let y = allocatePermutation-yes (a .rel) (length (now (a .slots))) (length (now (a .queries))) (now (a .input)) (sym (d .before .allocate-permutation-no .ensures) ∙ d .if1 .left) in
-    let q = queries-few (a .rel) (length (now (a .queries))) (y .least) (y .room) in
+    let q = pieces-few (a .rel .width) (a .rel .queries + 1) (length (now (a .queries))) (y .least) (y .room) in
     omega arith
 
 same-length : tie.Need-same-length
@@ -114,7 +115,7 @@ returns-2 c =
       c .before .before .put-vars .ensures
           ∙ ap (fitVars (at + width) first width) (c .before .before .before .before .before .before .put .ensures)
           ∙ minted
-          ∙ query-put (a .rel) input (upFrom first width) qs (y .inputs) (upFrom-length first width) (y .room)
+          ∙ halves-put width (a .rel .queries) input (upFrom first width) qs (y .inputs) (upFrom-length first width) (y .room)
           ∙ store-accepted no _ e (queriesWith (a .rel) (input ++ upFrom first width) qs) qs z,
     )
 

@@ -5,7 +5,7 @@ use mathlib.Core.Path.{ap, _∙_}
 use denote.Ref.{now}
 use Rattle.words.specs.Store.{fitWords}
 use Rattle.words.specs.Pieces.{wordsOf}
-use Rattle.witness.proofs.Written.{step-put}
+use Rattle.words.proofs.Held.{halves-put}
 use borrow.Author.Needs.{needs}
 use Rattle.witness.proofs.put_step.Statement.{statement}
 use Rattle.witness.proofs.put_step.Tie as tie
@@ -41,7 +41,7 @@ returns c =
     let w = a .wit .width in
     c .before .before .put2 .ensures
     ∙ ap (fitWords (wordsOf w (a .wit .steps) + w) (now (a .output))) (c .before .before .before .before .before .before .put .ensures)
-    ∙ step-put (a .wit) (now (a .input)) (now (a .output)) (now (a .trace)) (p .0) (p .1) (p .2)
+    ∙ halves-put w (a .wit .steps) (now (a .input)) (now (a .output)) (now (a .trace)) (p .0) (p .1) (p .2)
 
 pub put-step-spec : {M : Type 1} → statement M
 put-step-spec =

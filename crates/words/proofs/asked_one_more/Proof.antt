@@ -5,6 +5,7 @@ use mathlib.Core.Path.{_≡_}
 use lib.Dec.{leb}
 use Rattle.limits.specs.Questions.{_▸_, ask}
 use Rattle.limits.proofs.Product.{below}
+use Rattle.limits.proofs.Questions.{▸-zero}
 use Rattle.words.proofs.Pieces.{one-more-fits, one-more-below}
 use borrow.Author.Needs.{needs}
 use Rattle.words.proofs.asked_one_more.Statement.{statement}
@@ -24,8 +25,8 @@ asked-requires c κs = search needs
 returns : tie.Need-returns
 returns c =
     let a = c .before .args in
-    let asked : c .asked .result ≡ (a .no ▸ ask (a .k) (leb (a .n * a .width + a .width) (a .len / 2))) = c .asked .ensures in
-    rw (asked, one-more-fits (a .width) (a .n) (a .len))
+    let asked : c .asked .result ≡ (a .no ▸ ask 10 (leb (a .n * a .width + a .width) (a .len / 2))) = c .asked .ensures in
+    rw (asked, one-more-fits (a .width) (a .n) (a .len), ▸-zero)
 
 pub asked-one-more-spec : {M : Type 1} → statement M
 asked-one-more-spec = tie.close (tie.spec mul-wanted add-wanted asked-requires returns)
