@@ -4,14 +4,14 @@ use mathlib.Core.Path.{_≡_, refl, sym, ap, _∙_}
 use mathlib.Core.Bool.{Bool, true, false}
 use mathlib.Core.List.{List}
 use borrow.Author.Tests.{eq-eqb, ne-eqb}
-use lib.Dec.{eqb, ltb}
+use lib.Dec.{eqb}
 use lib.ListN.{length, getD, set, List·getD-eq-default}
 use lib.Seq.{set-out, set-getD}
-use Rattle.limits.specs.Numbers.{prime, unassigned, maxCount}
-use Rattle.limits.specs.Questions.{ask, _▸_, pick, onYes}
-use Rattle.limits.proofs.Questions.{stays, goes-on, ask-yes, ask-no, ▸-assoc, zero-▸, ▸-zero, onYes-no}
-use Rattle.allocator.specs.Slots.{Pair, slotTakes, pairNo}
-use Rattle.allocator.specs.Assign.{assignVar, assignVarSlots, assignedNo}
+use Rattle.limits.specs.Numbers.{unassigned}
+use Rattle.limits.specs.Questions.{ask, _▸_, pick, firstNo, onYes}
+use Rattle.limits.proofs.Questions.{stays, goes-on, ask-yes, ask-no, ▸-assoc, ▸-zero, onYes-no}
+use Rattle.allocator.specs.Slots.{Pair, slotTakes, wireAsks, pairNo}
+use Rattle.allocator.specs.Assign.{assignVar, assignVarSlots, AssignsVar, assignedNo}
 use Rattle.allocator.specs.declared.Assigned.the-variants.{Fresh, Repeated, Refused}
 
 -- the number of an answer is the number of the pair
@@ -25,50 +25,49 @@ assigned-no count slots p = go (pairNo count slots p) (eqb (getD slots (p .var) 
     go (suc k) b = refl
 
 -- k: what 3, 4 and 7 answer
-module _ (count : ℕ) (slots : List ℕ) (p : Pair) (k : ℕ)
-    (e : k ≡ ((0 ▸ ask 3 (ltb (p .var) maxCount)) ▸ ask 4 (ltb (p .value) prime)) ▸ ask 7 (ltb (p .var) count)) where
+module _ (count : ℕ) (slots : List ℕ) (p : Pair) (k : ℕ) (e : k ≡ firstNo (wireAsks count p)) where
   number-is : pairNo count slots p ≡ k ▸ ask 8 (slotTakes slots p)
   unfolding pairNo
-  number-is = rw e (simp (▸-assoc, zero-▸, ▸-zero))
+  number-is = rw e (simp (▸-assoc, ▸-zero))
 
-  pub assign-refused : (k ≡ 0 → ⊥) → (Refused k ≡ assignVar count slots p) × (slots ≡ assignVarSlots count slots p)
+  pub assign-refused : (k ≡ 0 → ⊥) → AssignsVar count slots p (Refused k) slots
   unfolding assignVar assignVarSlots
   assign-refused h =
       let n : pairNo count slots p ≡ k = number-is ∙ stays _ _ h in
-      (rw n (sym (onYes-no k _ _ h)), rw n (sym (onYes-no k _ _ h)))
+      record { answer = rw n (sym (onYes-no k _ _ h)); slots = rw n (sym (onYes-no k _ _ h)) }
 
   module _ (z : k ≡ 0) where
     taken : slotTakes slots p ≡ true → pairNo count slots p ≡ 0
     taken t = number-is ∙ goes-on _ _ z ∙ ask-yes 8 (slotTakes slots p) t
 
-    pub assign-fresh : getD slots (p .var) unassigned ≡ unassigned
-        → (Fresh ≡ assignVar count slots p) × (set slots (p .var) (p .value) ≡ assignVarSlots count slots p)
+    pub assign-fresh : getD slots (p .var) unassigned ≡ unassigned → AssignsVar count slots p Fresh (set slots (p .var) (p .value))
     unfolding assignVar assignVarSlots
     assign-fresh u =
         let b : eqb (getD slots (p .var) unassigned) unassigned ≡ true = eq-eqb _ _ u in
         let n : pairNo count slots p ≡ 0 = taken (simp b) in
-        (rw n (simp b), rw n)
+        record { answer = rw n (simp b); slots = rw n }
 
-    pub assign-out : length slots ≤ p .var → (Fresh ≡ assignVar count slots p) × (slots ≡ assignVarSlots count slots p)
+    pub assign-out : length slots ≤ p .var → AssignsVar count slots p Fresh slots
     assign-out h =
         let r = assign-fresh (List·getD-eq-default slots unassigned h) in
-        (r .0, sym (set-out slots (p .var) (p .value) h) ∙ r .1)
+        record { answer = r .answer; slots = sym (set-out slots (p .var) (p .value) h) ∙ r .slots }
 
     module _ (u : getD slots (p .var) unassigned ≡ unassigned → ⊥) where
       held : eqb (getD slots (p .var) unassigned) unassigned ≡ false
       held = ne-eqb _ _ u
 
-      pub assign-repeated : getD slots (p .var) unassigned ≡ p .value
-          → (Repeated ≡ assignVar count slots p) × (slots ≡ assignVarSlots count slots p)
+      pub assign-repeated : getD slots (p .var) unassigned ≡ p .value → AssignsVar count slots p Repeated slots
       unfolding assignVar assignVarSlots
       assign-repeated v =
           let n : pairNo count slots p ≡ 0 = taken (simp (held, eq-eqb _ (p .value) v)) in
-          (rw n (simp held), rw n (sym (ap (λ (x : ℕ). set slots (p .var) x) (sym v) ∙ set-getD slots (p .var) unassigned)))
+          record {
+            answer = rw n (simp held);
+            slots = rw n (sym (ap (λ (x : ℕ). set slots (p .var) x) (sym v) ∙ set-getD slots (p .var) unassigned));
+          }
 
-      pub assign-conflict : (getD slots (p .var) unassigned ≡ p .value → ⊥)
-          → (Refused 8 ≡ assignVar count slots p) × (slots ≡ assignVarSlots count slots p)
+      pub assign-conflict : (getD slots (p .var) unassigned ≡ p .value → ⊥) → AssignsVar count slots p (Refused 8) slots
       unfolding assignVar assignVarSlots
       assign-conflict v =
           let b : slotTakes slots p ≡ false = simp (held, ne-eqb _ (p .value) v) in
           let n : pairNo count slots p ≡ 8 = number-is ∙ goes-on _ _ z ∙ ask-no 8 (slotTakes slots p) b in
-          (rw n, rw n)
+          record { answer = rw n; slots = rw n }

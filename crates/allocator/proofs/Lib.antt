@@ -1,3 +1,4 @@
+pub mod Accepted
 pub mod Assign
 pub mod Run
 pub mod Values

@@ -13,8 +13,7 @@ use lib.ListN.{length, drop, getD, set, length-set}
 use Rattle.limits.specs.Questions.{onYes}
 use Rattle.limits.proofs.Questions.{onYes-no}
 use Rattle.allocator.specs.Slots.{Pair, pair, pairs, pairNo, SetRun, ran, setRun}
-use Rattle.allocator.specs.Assign.{assignVarSlots}
-use Rattle.allocator.specs.declared.SetPairs.{SetPairs}
+use Rattle.allocator.specs.Assign.{assignVarSlots, SetsPairs}
 
 -- ---- the common pairs of two lists, from place i on
 pairs-suc : (vars values : List ℕ) (i : ℕ) → i < length vars → i < length values
@@ -44,10 +43,12 @@ abbrev pub counted : ℕ → SetRun → SetRun
 counted i r = ran (r .number) (i + r .accepted) (r .slots)
 
 -- a run as the answer and the slots
-pub told : {a b : SetRun} → a ≡ b
-    → (_≡_ {A = SetPairs} (record { number = a .number; accepted = a .accepted }) (record { number = b .number; accepted = b .accepted })) × (a .slots ≡ b .slots)
-told e =
-    (λ i. record { number = e i .number; accepted = e i .accepted }, ap (λ (r : SetRun). r .slots) e)
+pub told : {a : SetRun} (count : ℕ) (slots : List ℕ) (ps : List Pair) → a ≡ setRun count slots ps
+    → SetsPairs count slots ps (record { number = a .number; accepted = a .accepted }) (a .slots)
+told count slots ps e = record {
+  answer = λ i. record { number = e i .number; accepted = e i .accepted };
+  slots = ap (λ (r : SetRun). r .slots) e;
+}
 
 pub from-none : (r : SetRun) → counted 0 r ≡ r
 from-none r = let e : 0 + r .accepted ≡ r .accepted = omega arith in ap (λ (n : ℕ). ran (r .number) n (r .slots)) e

@@ -1,5 +1,6 @@
 -- What the allocator's functions answer and leave, by the questions and slots of Slots.antt. Assumes nothing.
 use Prim.Native.Nat.{ℕ, _+_}
+use mathlib.Core.Path.{_≡_}
 use mathlib.Core.List.{List}
 use lib.Dec.{eqb, leb}
 use lib.ListN.{length, getD, set}
@@ -21,6 +22,11 @@ assignVar count slots p =
 unfoldable pub assignVarSlots : ℕ → List ℕ → Pair → List ℕ
 assignVarSlots count slots p = onYes (pairNo count slots p) (set slots (p .var) (p .value)) slots
 
+-- what one wire set does: its answer, and the slots before and after
+pub record AssignsVar (count : ℕ) (slots₀ : List ℕ) (p : Pair) (r : Assigned) (slots₁ : List ℕ) : Type 0 where
+  pub answer : r ≡ assignVar count slots₀ p
+  pub slots : slots₁ ≡ assignVarSlots count slots₀ p
+
 -- document 01's number of that answer
 abbrev pub assignedNo : Assigned → ℕ
 assignedNo Fresh = 0
@@ -31,6 +37,11 @@ assignedNo (Refused k) = k
 abbrev pub setPairs : ℕ → List ℕ → List Pair → SetPairs
 setPairs count slots ps =
     record { number = setRun count slots ps .number; accepted = setRun count slots ps .accepted }
+
+-- what they do: the answer, and the slots before and after
+pub record SetsPairs (count : ℕ) (slots₀ : List ℕ) (ps : List Pair) (r : SetPairs) (slots₁ : List ℕ) : Type 0 where
+  pub answer : r ≡ setPairs count slots₀ ps
+  pub slots : slots₁ ≡ setRun count slots₀ ps .slots
 
 -- n more wires where the store holds them, else the slots as they are
 abbrev pub growSlots : ℕ → ℕ → List ℕ → List ℕ

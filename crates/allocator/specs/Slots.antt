@@ -38,14 +38,17 @@ abbrev pub slotTakes : List ℕ → Pair → Bool
 slotTakes slots p =
     eqb (getD slots (p .var) unassigned) unassigned || eqb (getD slots (p .var) unassigned) (p .value)
 
--- 3, 4, 7, 8 of one pair
-abbrev pub pairAsks : ℕ → List ℕ → Pair → List Question
-pairAsks count slots p =
+-- 3, 4, 7 of one pair
+abbrev pub wireAsks : ℕ → Pair → List Question
+wireAsks count p =
     question 3 (ltb (p .var) maxCount)
     ∷ question 4 (ltb (p .value) prime)
     ∷ question 7 (ltb (p .var) count)
-    ∷ question 8 (slotTakes slots p)
     ∷ []
+
+-- and 8
+abbrev pub pairAsks : ℕ → List ℕ → Pair → List Question
+pairAsks count slots p = wireAsks count p ++ (question 8 (slotTakes slots p) ∷ [])
 
 -- the number of one pair: the first no of its questions
 unfoldable pub pairNo : ℕ → List ℕ → Pair → ℕ

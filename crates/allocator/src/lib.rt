@@ -6,8 +6,8 @@
 
 ghost use mathlib.Core.Path.{_≡_};
 ghost use Rattle.limits.specs.Questions.{_▸_, firstNo};
-ghost use Rattle.allocator.specs.Slots.{slotsAsks, growAsks, pair, pairs, setRun};
-ghost use Rattle.allocator.specs.Assign.{assignVar, assignVarSlots, assignedNo, setPairs, growSlots};
+ghost use Rattle.allocator.specs.Slots.{slotsAsks, growAsks, wireAsks, pair, pairs};
+ghost use Rattle.allocator.specs.Assign.{AssignsVar, assignedNo, SetsPairs, growSlots};
 use baby_bear::BabyBearUnit;
 use limits::MAX_COUNT;
 use limits::P;
@@ -67,16 +67,23 @@ pub fn grow_slots(slots: &mut [u32], count: u32, n: u32)
     words::fill(&mut slots[start..end], UNASSIGNED);
 }
 
+// Questions 3, 4 and 7 of a wire and its value.
+fn asked_wire(count: u32, var: u32, value: u32) -> u32
+    ensures { λ r. ⌜ r ≡ firstNo (wireAsks count (pair var value)) ⌝ }
+{
+    let no = limits::asked(0, var < MAX_COUNT, 3);
+    let no = limits::asked(no, value < P, 4);
+    limits::asked(no, var < count, 7)
+}
+
 // One wire set: questions 3, 4, 7 and 8 (what the source's `set_var` does behind its lock).
 pub fn assign_var(count: u32, slots: &mut [u32], var: FieldVar, value: BabyBearUnit) -> Assigned
-    ensures { λ r. ⌜ (r ≡ assignVar count (now (slots .entry)) (pair (var .0) (value .0))) × (now (slots .exit) ≡ assignVarSlots count (now (slots .entry)) (pair (var .0) (value .0))) ⌝ }
+    ensures { λ r. ⌜ AssignsVar count (now (slots .entry)) (pair (var .0) (value .0)) r (now (slots .exit)) ⌝ }
 {
     let x = var.0;
     let v = value.0;
     let at = x as usize;
-    let a = limits::asked(0, x < MAX_COUNT, 3);
-    let b = limits::asked(a, v < P, 4);
-    let no = limits::asked(b, x < count, 7);
+    let no = asked_wire(count, x, v);
     if no != 0 {
         return Assigned::Refused(no);
     }
@@ -107,7 +114,7 @@ pub fn assigned_no(a: Assigned) -> u32
 
 // The common pairs of two lists set in turn, up to the first that is refused; earlier ones stay set.
 pub fn set_pairs(count: u32, slots: &mut [u32], vars: &[u32], values: &[u32]) -> SetPairs
-    ensures { λ r. ⌜ (r ≡ setPairs count (now (slots .entry)) (pairs (now (vars .entry)) (now (values .entry)))) × (now (slots .exit) ≡ setRun count (now (slots .entry)) (pairs (now (vars .entry)) (now (values .entry))) .slots) ⌝ }
+    ensures { λ r. ⌜ SetsPairs count (now (slots .entry)) (pairs (now (vars .entry)) (now (values .entry))) r (now (slots .exit)) ⌝ }
 {
     let mut i: usize = 0;
     while i < vars.len() {

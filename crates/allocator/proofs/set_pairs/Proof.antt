@@ -36,7 +36,7 @@ returns c =
     let l = c .before .before .loop in
     let a = c .before .before .before .before .before .before .args in
     let e = run-ended (a .count) (l .slots) (l .i) _ _ (pairs-end (now (a .vars)) (now (a .values)) (l .i) (inr (c .if1 .taken))) (l .inv .1) in
-    told e
+    told (a .count) (now (a .slots)) (pairs (now (a .vars)) (now (a .values))) e
 
 mul-t7 : tie.Need-mul-t7 Inv-loop μ-loop
 mul-t7 c = search needs
@@ -60,7 +60,7 @@ same-length-2 : tie.Need-same-length-2 Inv-loop μ-loop
 same-length-2 c =
     let d = c .before .before .before .before in
     let l = d .before .before .before .before .before .before .loop in
-    ap length (d .assign-var .ensures .1) ∙ assign-length _ (l .slots) _ ∙ l .inv .2
+    ap length (d .assign-var .ensures .slots) ∙ assign-length _ (l .slots) _ ∙ l .inv .2
 
 returns-2 : tie.Need-returns-2 Inv-loop μ-loop
 returns-2 c =
@@ -71,9 +71,9 @@ returns-2 c =
     let values = now (a .values) in
     let p = pair (getD vars (l .i) 0) (getD values (l .i) 0) in
     let split = pairs-at vars values (l .i) (d .before .before .before .before .before .loop-test .taken) (d .before .before .before .before .if1 .left) in
-    let answered = c .before .assigned-no .ensures ∙ ap assignedNo (d .assign-var .ensures .0) ∙ assigned-no (a .count) (l .slots) p in
-    told
-    (ap (λ (t : List ℕ). ran (c .before .assigned-no .result) (l .i) t) (d .assign-var .ensures .1)
+    let answered = c .before .assigned-no .ensures ∙ ap assignedNo (d .assign-var .ensures .answer) ∙ assigned-no (a .count) (l .slots) p in
+    told (a .count) (now (a .slots)) (pairs vars values)
+    (ap (λ (t : List ℕ). ran (c .before .assigned-no .result) (l .i) t) (d .assign-var .ensures .slots)
     ∙ run-refused (a .count) (l .slots) (l .i) _ p _ _ split (l .inv .1) _ answered (c .if2 .taken))
 
 add-i : tie.Need-add-i Inv-loop μ-loop
@@ -91,11 +91,11 @@ loop-again c =
     let values = now (a .values) in
     let p = pair (getD vars (l .i) 0) (getD values (l .i) 0) in
     let split = pairs-at vars values (l .i) (d .before .before .before .before .before .loop-test .taken) (d .before .before .before .before .if1 .left) in
-    let answered = c .before .assigned-no .ensures ∙ ap assignedNo (d .assign-var .ensures .0) ∙ assigned-no (a .count) (l .slots) p in (
+    let answered = c .before .assigned-no .ensures ∙ ap assignedNo (d .assign-var .ensures .answer) ∙ assigned-no (a .count) (l .slots) p in (
       omega arith,
-      ap (λ (t : List ℕ). counted (l .i + 1) (setRun (a .count) t (drop (l .i + 1) (pairs vars values)))) (d .assign-var .ensures .1)
+      ap (λ (t : List ℕ). counted (l .i + 1) (setRun (a .count) t (drop (l .i + 1) (pairs vars values)))) (d .assign-var .ensures .slots)
           ∙ run-accepted (a .count) (l .slots) (l .i) _ p _ _ split (l .inv .1) (sym answered ∙ c .if2 .left),
-      ap length (d .assign-var .ensures .1) ∙ assign-length (a .count) (l .slots) p ∙ l .inv .2,
+      ap length (d .assign-var .ensures .slots) ∙ assign-length (a .count) (l .slots) p ∙ l .inv .2,
     )
 
 same-length-3 : tie.Need-same-length-3 Inv-loop μ-loop
@@ -106,7 +106,7 @@ returns-3 c =
     let l = c .before .loop in
     let a = c .before .before .before .before .before .args in
     let e = run-ended (a .count) (l .slots) (l .i) _ _ (pairs-end (now (a .vars)) (now (a .values)) (l .i) (inl (c .loop-test .left))) (l .inv .1) in
-    told e
+    told (a .count) (now (a .slots)) (pairs (now (a .vars)) (now (a .values))) e
 
 pub set-pairs-spec : {M : Type 1} → statement M
 set-pairs-spec =

@@ -37,7 +37,7 @@ cast-accepted c =
     let n = accepted-within (a .rel .vars) (now (a .slots)) (pairs vars values) in
     let m = pairs-within vars values in
     let d = c .before .before .before .before .set-pairs .ensures in
-    omega (arith, ap (λ (q : SetPairs). q .accepted) (d .0))
+    omega (arith, ap (λ (q : SetPairs). q .accepted) (d .answer))
 
 same-length : tie.Need-same-length
 same-length c = search needs
@@ -47,8 +47,8 @@ returns-2 c =
     let b = c .before .before .before .before .before .before .before in
     let a = b .before .before .before .before .before .args in
     let d = c .before .before .before .before .before .set-pairs .ensures in
-    let r = pairs-refused (a .rel) (now (a .slots)) (now (a .vars)) (now (a .values)) _ (b .before .set-vars-no .ensures) (b .if1 .left) _ (d .0) _ (c .before .before .asked .ensures) (c .if2 .taken) in
-    (r .0, d .1 ∙ r .1)
+    let r = pairs-refused (a .rel) (now (a .slots)) (now (a .vars)) (now (a .values)) _ (b .before .set-vars-no .ensures) (b .if1 .left) _ (d .answer) _ (c .before .before .asked .ensures) (c .if2 .taken) in
+    (r .0, d .slots ∙ r .1)
 
 same-length-2 : tie.Need-same-length-2
 same-length-2 c = search needs
@@ -58,8 +58,8 @@ returns-3 c =
     let b = c .before .before .before .before .before .before .before in
     let a = b .before .before .before .before .before .args in
     let d = c .before .before .before .before .before .set-pairs .ensures in
-    let r = pairs-accepted (a .rel) (now (a .slots)) (now (a .vars)) (now (a .values)) _ (b .before .set-vars-no .ensures) (b .if1 .left) _ (d .0) _ (c .before .before .asked .ensures) (c .if2 .left) in
-    (r .0, d .1 ∙ r .1)
+    let r = pairs-accepted (a .rel) (now (a .slots)) (now (a .vars)) (now (a .values)) _ (b .before .set-vars-no .ensures) (b .if1 .left) _ (d .answer) _ (c .before .before .asked .ensures) (c .if2 .left) in
+    (r .0, d .slots ∙ r .1)
 
 pub set-vars-spec : {M : Type 1} → statement M
 set-vars-spec =
