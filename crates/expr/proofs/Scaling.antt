@@ -12,7 +12,7 @@ use Rattle.limits.specs.Numbers.{prime}
 use Rattle.limits.specs.Questions.{ask, _▸_, question, firstNo}
 use Rattle.limits.proofs.Questions.{zero-▸, ▸-zero, onYes-yes, onYes-no, firstNo-append}
 use Rattle.expr.specs.Equation.{termsAsks}
-use Rattle.expr.specs.Weighted.{termsOf, scaledBy, scaleNo, scaled, scaledTerms}
+use Rattle.expr.specs.Weighted.{termsOf, scaledBy, scaleNo, scale, scaleTerms}
 use Rattle.expr.specs.declared.Weighted.{Weighted}
 use Rattle.expr.specs.declared.Scaled.the-variants.{Accepted, Refused}
 
@@ -29,7 +29,7 @@ scale-asked ts factor asked n e e′ =
 
 -- a number: the list stays as it was
 pub scale-refused : (ts : List Weighted) (factor n : ℕ) → n ≡ scaleNo ts factor → (n ≡ 0 → ⊥)
-    → (Refused n ≡ scaled ts factor) × (ts ≡ scaledTerms ts factor)
+    → (Refused n ≡ scale ts factor) × (ts ≡ scaleTerms ts factor)
 scale-refused ts factor n e h = (
   ap Refused e ∙ sym (onYes-no (scaleNo ts factor) Accepted (Refused (scaleNo ts factor)) (λ z. h (e ∙ z))),
   sym (onYes-no (scaleNo ts factor) (map (scaledBy factor) ts) ts (λ z. h (e ∙ z))),
@@ -37,7 +37,7 @@ scale-refused ts factor n e h = (
 
 -- none: every weight is scaled
 pub scale-accepted : (ts : List Weighted) (factor n : ℕ) (l : List Weighted) → n ≡ scaleNo ts factor → n ≡ 0 → l ≡ map (scaledBy factor) ts
-    → (Accepted ≡ scaled ts factor) × (l ≡ scaledTerms ts factor)
+    → (Accepted ≡ scale ts factor) × (l ≡ scaleTerms ts factor)
 scale-accepted ts factor n l e z m = (
   sym (onYes-yes (scaleNo ts factor) Accepted (Refused (scaleNo ts factor)) (sym e ∙ z)),
   m ∙ sym (onYes-yes (scaleNo ts factor) (map (scaledBy factor) ts) ts (sym e ∙ z)),

@@ -14,7 +14,7 @@ use lib.Seq.{sets, set-comm}
 use Rattle.limits.specs.Numbers.{wordEnd}
 use Rattle.words.specs.Store.{putWords}
 use Rattle.words.proofs.Written.{fit-put, sets-put}
-use Rattle.expr.specs.Equation.{Term, Equation, equation, termWords, equationWords, equationSize, fitEquation}
+use Rattle.expr.specs.Equation.{Term, Equation, equation, termWords, equationWords, equationSize, fitEquation, equationFits, putEnds}
 use Rattle.expr.proofs.Held.{length-terms, length-equation}
 
 -- ---- does it fit?
@@ -74,10 +74,7 @@ module _ (at : ℕ) (e : Equation) (out : List ℕ) where
       simp (lt-ltb (length (e .terms)) wordEnd w, lt-leb (at + length (equationWords e)) (length out) k)
 
 -- ---- by the test
-abbrev pub fits : ℕ → ℕ → ℕ → Bool
-fits at n len = ltb n wordEnd && leb (at + equationSize n) len
-
-pub fits-within : (at n len : ℕ) → fits at n len ≡ true → at + equationSize n ≤ len
+pub fits-within : (at n len : ℕ) → equationFits at n len ≡ true → at + equationSize n ≤ len
 fits-within at n len h = leb-true (at + equationSize n) len (go (ltb n wordEnd) h)
   where
     go : (a : Bool) → (a && leb (at + equationSize n) len) ≡ true → leb (at + equationSize n) len ≡ true
@@ -85,19 +82,19 @@ fits-within at n len h = leb-true (at + equationSize n) len (go (ltb n wordEnd) 
     go false h = cc
 
 module _ (at : ℕ) (ts : List Term) (image : ℕ) (out : List ℕ) where
-  pub stored-where-fits : fits at (length ts) (length out) ≡ true
-      → sets (set (set out at (length ts)) (at + 1 + 2 * length ts) image) (at + 1) (termWords ts) ≡ fitEquation at (equation ts image) out
+  pub stored-where-fits : equationFits at (length ts) (length out) ≡ true
+      → sets (putEnds at (length ts) image out) (at + 1) (termWords ts) ≡ fitEquation at (equation ts image) out
   stored-where-fits h = go (ltb (length ts) wordEnd) (leb (at + equationSize (length ts)) (length out)) refl refl h
     where
       go : (a b : Bool) → ltb (length ts) wordEnd ≡ a → leb (at + equationSize (length ts)) (length out) ≡ b → (a && b) ≡ true
-          → sets (set (set out at (length ts)) (at + 1 + 2 * length ts) image) (at + 1) (termWords ts) ≡ fitEquation at (equation ts image) out
+          → sets (putEnds at (length ts) image out) (at + 1) (termWords ts) ≡ fitEquation at (equation ts image) out
       go true true e f h =
           words-stored ts image out at
           ∙ fit-stored at (equation ts image) out (ltb-true (length ts) wordEnd e) (leb-true (at + equationSize (length ts)) (length out) f)
       go true false e f h = cc
       go false b e f h = cc
 
-  pub same-where-not : fits at (length ts) (length out) ≡ false → out ≡ fitEquation at (equation ts image) out
+  pub same-where-not : equationFits at (length ts) (length out) ≡ false → out ≡ fitEquation at (equation ts image) out
   same-where-not h = go (ltb (length ts) wordEnd) (leb (at + equationSize (length ts)) (length out)) refl refl h
     where
       go : (a b : Bool) → ltb (length ts) wordEnd ≡ a → leb (at + equationSize (length ts)) (length out) ≡ b → (a && b) ≡ false

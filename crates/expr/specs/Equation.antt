@@ -3,8 +3,8 @@
 use Prim.Native.Nat.{ℕ, zero, suc, _+_, _*_}
 use mathlib.Core.Bool.{Bool, true, _&&_}
 use mathlib.Core.List.{List, [], _∷_, _++_}
-use lib.Dec.{ltb}
-use lib.ListN.{length, drop, getD}
+use lib.Dec.{ltb, leb}
+use lib.ListN.{length, drop, getD, set}
 use Rattle.limits.specs.Numbers.{prime, maxCount, wordEnd}
 use Rattle.limits.specs.Questions.{pick, Question, question}
 use Rattle.words.specs.Store.{allBelow, fitWords}
@@ -55,6 +55,14 @@ equationSize t = 2 + 2 * t
 -- store holds them, else as it is
 abbrev pub fitEquation : ℕ → Equation → List ℕ → List ℕ
 fitEquation at e s = pick (ltb (length (e .terms)) wordEnd) (fitWords at (equationWords e) s) s
+
+-- is the count t a word, and does a store of len words hold an equation of t terms at place `at`?
+abbrev pub equationFits : (at t len : ℕ) → Bool
+equationFits at t len = ltb t wordEnd && leb (at + equationSize t) len
+
+-- a store with the ends of an equation of t terms at place `at`, its count and its image
+abbrev pub putEnds : (at t image : ℕ) → List ℕ → List ℕ
+putEnds at t image s = set (set s at t) (at + 1 + 2 * t) image
 
 -- equations one after the other
 abbrev pub equationsWords : List Equation → List ℕ

@@ -33,9 +33,9 @@ unfoldable pub scaleNo : List Weighted → ℕ → ℕ
 scaleNo ts factor = firstNo (scaleAsks ts factor)
 
 -- what scaling answers, and the list afterwards: every weight scaled, or as it was
-abbrev pub scaled : List Weighted → ℕ → Scaled
-scaled ts factor = onYes (scaleNo ts factor) Accepted (Refused (scaleNo ts factor))
+abbrev pub scale : List Weighted → ℕ → Scaled
+scale ts factor = onYes (scaleNo ts factor) Accepted (Refused (scaleNo ts factor))
 
 -- the list afterwards: every weight times the factor, or as it was
-abbrev pub scaledTerms : List Weighted → ℕ → List Weighted
-scaledTerms ts factor = onYes (scaleNo ts factor) (map (scaledBy factor) ts) ts
+abbrev pub scaleTerms : List Weighted → ℕ → List Weighted
+scaleTerms ts factor = onYes (scaleNo ts factor) (map (scaledBy factor) ts) ts

@@ -5,16 +5,15 @@
 // is total and says what it answers and what every word and record lent is afterwards.
 
 ghost use mathlib.Core.Path.{_≡_};
-ghost use mathlib.Core.Bool.{_&&_};
 ghost use mathlib.Core.List.{map};
-ghost use Prim.Native.Nat.{_+_, _*_};
+ghost use Prim.Native.Nat.{_+_, _≤_, _<_};
 ghost use lib.Dec.{leb, ltb};
 ghost use lib.ListN.{length, set};
 ghost use lib.Seq.{sets};
 ghost use Rattle.limits.specs.Numbers.{prime, wordEnd};
 ghost use Rattle.limits.specs.Questions.{pick, ask, _▸_, firstNo, onYes};
-ghost use Rattle.expr.specs.Equation.{equation, equationSize, termWords, termsAsks, fitEquation};
-ghost use Rattle.expr.specs.Weighted.{termsOf, askedTerm, scaledBy, scaled, scaledTerms};
+ghost use Rattle.expr.specs.Equation.{equation, equationSize, termWords, termsAsks, fitEquation, equationFits, putEnds};
+ghost use Rattle.expr.specs.Weighted.{termsOf, askedTerm, scaledBy, scale, scaleTerms};
 use allocator::FieldVar;
 use baby_bear::BabyBearUnit;
 use limits::MAX_COUNT;
@@ -114,10 +113,19 @@ fn put_terms(terms: &[Weighted], out: &mut [u32], at: usize)
     }
 }
 
+// The count and the image of an equation of n terms at place `at`, where it fits.
+fn write_ends(out: &mut [u32], at: usize, n: usize, image: u32)
+    requires { ⌜ (n < wordEnd) × (at + equationSize n ≤ length (now out)) ⌝ }
+    ensures { λ _. ⌜ now (out .exit) ≡ putEnds at n image (now (out .entry)) ⌝ }
+{
+    out[at] = n as u32;
+    out[at + 1 + 2 * n] = image;
+}
+
 // The words of an equation of n terms at place `at` but for its terms: the count and the image. The answer is
 // whether the equation fits; where it does not, nothing is written.
 fn put_ends(out: &mut [u32], at: usize, n: usize, image: u32) -> bool
-    ensures { λ r. ⌜ (r ≡ (ltb n wordEnd && leb (at + equationSize n) (length (now (out .entry))))) × (now (out .exit) ≡ pick r (set (set (now (out .entry)) at n) (at + 1 + 2 * n) image) (now (out .entry))) ⌝ }
+    ensures { λ r. ⌜ (r ≡ equationFits at n (length (now (out .entry)))) × (now (out .exit) ≡ pick r (putEnds at n image (now (out .entry))) (now (out .entry))) ⌝ }
 {
     if WORD_END <= n {
         return false;
@@ -125,8 +133,7 @@ fn put_ends(out: &mut [u32], at: usize, n: usize, image: u32) -> bool
     if !equation_fits(at, n, out.len()) {
         return false;
     }
-    out[at] = n as u32;
-    out[at + 1 + 2 * n] = image;
+    write_ends(out, at, n, image);
     true
 }
 
@@ -156,7 +163,7 @@ fn scaled_term(t: Weighted, factor: BabyBearUnit) -> Weighted
 }
 
 // Every weight times the factor, with no question asked.
-fn scale_terms(terms: &mut [Weighted], factor: BabyBearUnit)
+fn scale_all(terms: &mut [Weighted], factor: BabyBearUnit)
     ensures { λ _. ⌜ now (terms .exit) ≡ map (scaledBy (factor .0)) (now (terms .entry)) ⌝ }
 {
     let mut i: usize = 0;
@@ -176,14 +183,14 @@ fn asked_factor(no: u32, factor: BabyBearUnit) -> u32
 // Every weight times the factor (the source's product of a sum and a unit). Questions 3 over all wires, 4 over
 // all weights and the factor; a refusal leaves the list as it was.
 pub fn scale(terms: &mut [Weighted], factor: BabyBearUnit) -> Scaled
-    ensures { λ r. ⌜ (r ≡ scaled (now (terms .entry)) (factor .0)) × (now (terms .exit) ≡ scaledTerms (now (terms .entry)) (factor .0)) ⌝ }
+    ensures { λ r. ⌜ (r ≡ scale (now (terms .entry)) (factor .0)) × (now (terms .exit) ≡ scaleTerms (now (terms .entry)) (factor .0)) ⌝ }
 {
     let asked = asked_terms(0, terms);
     let no = asked_factor(asked, factor);
     if no != 0 {
         return Scaled::Refused(no);
     } else {
-        scale_terms(terms, factor);
+        scale_all(terms, factor);
         return Scaled::Accepted;
     }
 }

@@ -2,7 +2,7 @@
 
 ghost use mathlib.Core.Path.{_≡_};
 ghost use Rattle.allocator.specs.Slots.{pair};
-ghost use Rattle.expr.specs.Weighted.{termsOf, scaled, scaledTerms};
+ghost use Rattle.expr.specs.Weighted.{termsOf, scale, scaleTerms};
 ghost use Rattle.limits.specs.Outcome.{outcomeNumber};
 ghost use Rattle.permutation.specs.Answers.{newRelation, newSlots, allocateVars, allocateVarsSlots, setVar, setVarSlots, setVars, setVarsSlots, valueOf, isAllocated};
 ghost use Rattle.permutation.specs.Answers.{addPermutation, addPermutationQueries, allocatePermutation, allocatePermutationSlots, allocatePermutationQueries, addEquation, addEquationEquations};
@@ -196,7 +196,7 @@ fn scaled_no(s: Scaled) -> u32
 // Every weight of the list times the factor, or the list as it was.
 #[no_mangle]
 pub extern "C" fn sfr_scale(terms: &mut [Weighted], factor: u32) -> u32
-    ensures { λ r. ⌜ (r ≡ scaledNumber (scaled (now (terms .entry)) factor)) × (now (terms .exit) ≡ scaledTerms (now (terms .entry)) factor) ⌝ }
+    ensures { λ r. ⌜ (r ≡ scaledNumber (scale (now (terms .entry)) factor)) × (now (terms .exit) ≡ scaleTerms (now (terms .entry)) factor) ⌝ }
 {
     scaled_no(expr::scale(terms, BabyBearUnit(factor)))
 }

@@ -42,12 +42,12 @@ use denote.Triple.Table.{entered, cited}
 use denote.Triple.Walked.{says, Stays, stay-none, stay-none-slice, stay-slice, walkOf, goes-none, goes-none-slice, goes-slice, Walks, ends-at, walked, walk-meets}
 use denote.Exit.{yes}
 use Rattle.limits.specs.Questions.{pick as choose}
-use Rattle.expr.specs.Equation.{equation, termWords, fitEquation}
+use Rattle.expr.specs.Equation.{equation, termWords, fitEquation, equationFits, putEnds}
 use Rattle.expr.specs.Weighted.{termsOf}
 use Rattle.expr.specs.declared.Weighted.{Weighted}
 use Rattle.expr.proofs.Again.{LentAgain, lends-again, comes-back}
 use Rattle.expr.proofs.Terms.{length-termsOf}
-use Rattle.expr.proofs.Write.{fits, fits-within, stored-where-fits, same-where-not}
+use Rattle.expr.proofs.Write.{fits-within, stored-where-fits, same-where-not}
 use Rattle.expr.proofs.Weighted as T
 use Rattle.expr.proofs.put_ends as put-ends
 use Rattle.expr.proofs.put_ends.Symbol as put-ends-def
@@ -80,23 +80,23 @@ abbrev τout : Ty
 module _ (out : List ℕ) (at : ℕ) (ts : List Weighted) (image : ℕ) where
   -- what `put_ends` stores
   abbrev ends : List ℕ
-  ends = set (set out at (length ts)) (at + 1 + 2 * length ts) image
+  ends = putEnds at (length ts) image out
 
   abbrev target : List ℕ
   target = fitEquation at (equation (termsOf ts) image) out
 
   abbrev fit : Bool
-  fit = fits at (length ts) (length out)
+  fit = equationFits at (length ts) (length out)
 
-  same-fit : fits at (length (termsOf ts)) (length out) ≡ fit
-  same-fit = ap (λ (n : ℕ). fits at n (length out)) (length-termsOf ts)
+  same-fit : equationFits at (length (termsOf ts)) (length out) ≡ fit
+  same-fit = ap (λ (n : ℕ). equationFits at n (length out)) (length-termsOf ts)
 
   stores : (r : Bool) → Holds r → r ≡ fit → (cur l : List ℕ) → cur ≡ choose r ends out → l ≡ sets cur (at + 1) (termWords (termsOf ts)) → l ≡ target
   stores false h e cur l c d = absurd h
   stores true h e cur l c d =
       d
       ∙ ap (λ (z : List ℕ). sets z (at + 1) (termWords (termsOf ts))) c
-      ∙ ap (λ (n : ℕ). sets (set (set out at n) (at + 1 + 2 * n) image) (at + 1) (termWords (termsOf ts))) (sym (length-termsOf ts))
+      ∙ ap (λ (n : ℕ). sets (putEnds at n image out) (at + 1) (termWords (termsOf ts))) (sym (length-termsOf ts))
       ∙ stored-where-fits at (termsOf ts) image out (same-fit ∙ sym e)
 
   stays : (r : Bool) → Holds (not r) → r ≡ fit → (cur : List ℕ) → cur ≡ choose r ends out → cur ≡ target

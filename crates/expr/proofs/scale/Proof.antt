@@ -1,6 +1,6 @@
 -- `expr::scale` meets its contract: a walk of its MIR, by hand, with a branch whose arms both return. terms is
 -- lent as a shared slice for a lifetime of the call of `asked_terms`, and comes back as it was. Where a number is
--- answered, that is the end; else it is lent again, as a `&mut`, to `scale_terms`, and comes back at the list
+-- answered, that is the end; else it is lent again, as a `&mut`, to `scale_all`, and comes back at the list
 -- that this call left. Assumes nothing.
 use mathlib.Core.Path.{_≡_, refl, ap, subst}
 use Prim.Native.Nat.{ℕ, zero, suc, _<_, _^_}
@@ -47,7 +47,7 @@ use denote.Exit.{yes}
 use Rattle.limits.specs.Numbers.{prime}
 use Rattle.limits.specs.Questions.{ask, _▸_, firstNo}
 use Rattle.expr.specs.Equation.{termsAsks}
-use Rattle.expr.specs.Weighted.{termsOf, scaledBy, scaled, scaledTerms}
+use Rattle.expr.specs.Weighted.{termsOf, scaledBy, scale, scaleTerms}
 use Rattle.expr.specs.declared.Weighted.{Weighted}
 use Rattle.expr.specs.declared.Scaled.{Scaled}
 use Rattle.expr.specs.declared.Scaled.the-variants.{Accepted, Refused}
@@ -68,16 +68,16 @@ use Rattle.expr.proofs.asked_factor as asked-factor
 use Rattle.expr.proofs.asked_factor.Symbol as asked-factor-def
 use Rattle.expr.proofs.asked_factor.Symbol.{name as #expr·asked-factor}
 use Rattle.expr.proofs.asked_factor.Met as asked-factor-thm
-use Rattle.expr.proofs.scale_terms as scale-terms
-use Rattle.expr.proofs.scale_terms.Symbol as scale-terms-def
-use Rattle.expr.proofs.scale_terms.Symbol.{name as #expr·scale-terms}
-use Rattle.expr.proofs.scale_terms.Met as scale-terms-thm
+use Rattle.expr.proofs.scale_all as scale-all
+use Rattle.expr.proofs.scale_all.Symbol as scale-all-def
+use Rattle.expr.proofs.scale_all.Symbol.{name as #expr·scale-all}
+use Rattle.expr.proofs.scale_all.Met as scale-all-thm
 use Rattle.expr.proofs.scale.Key.{name as #expr·scale}
-use Rattle.expr.proofs.scale as scale
+use Rattle.expr.proofs.scale as scale′
 use Rattle.expr.proofs.scale.Statement as stated
 use Rattle.expr.proofs.scale.Code as code
 
-abbrev stayed : Stays (scale.ended .signature .params) (scale.ended .kept)
+abbrev stayed : Stays (scale′.ended .signature .params) (scale′.ended .kept)
 stayed = (stay-slice (0 ∷ []) tt (plain (λ _. T.the-row)), (stay-none (λ _. U.the-row) yes, tt))
 
 abbrev unit-vals : BabyBearUnit → List Val
@@ -99,8 +99,8 @@ AskedTerms 𝓤 H A mem run = tripleOf 𝓤 H A asked-terms.signature (asked-ter
 abbrev AskedFactor : {M : Type 1} (𝓤 : URA M) (H : Heap 𝓤) (A : Atoms 𝓤) (mem : Memory → SProp 𝓤) (run : Routine → Fun 𝓤) → Contract 𝓤
 AskedFactor 𝓤 H A mem run = tripleOf 𝓤 H A asked-factor.signature (asked-factor.spec 𝓤 H A mem run)
 
-abbrev ScaleTerms : {M : Type 1} (𝓤 : URA M) (H : Heap 𝓤) (A : Atoms 𝓤) (mem : Memory → SProp 𝓤) (run : Routine → Fun 𝓤) → Contract 𝓤
-ScaleTerms 𝓤 H A mem run = tripleOf 𝓤 H A scale-terms.signature (scale-terms.spec 𝓤 H A mem run)
+abbrev ScaleAll : {M : Type 1} (𝓤 : URA M) (H : Heap 𝓤) (A : Atoms 𝓤) (mem : Memory → SProp 𝓤) (run : Routine → Fun 𝓤) → Contract 𝓤
+ScaleAll 𝓤 H A mem run = tripleOf 𝓤 H A scale-all.signature (scale-all.spec 𝓤 H A mem run)
 
 said-terms : {M : Type 1} (𝓤 : URA M) (H : Heap 𝓤) (A : Atoms 𝓤) (mem : Memory → SProp 𝓤) (run : Routine → Fun 𝓤) (κ : Lft) (y : RefT (List Weighted)) (r : ℕ)
     → ent 𝓤 (ensured 𝓤 H A asked-terms.ended (asked-terms.clauses 𝓤 H A mem run) (κ, tt) (0, (y, tt)) tt r) (fact 𝓤 (r ≡ 0 ▸ firstNo (termsAsks (termsOf (y .now)))))
@@ -124,20 +124,20 @@ module _ {M : Type 1} (𝓤 : URA M) (H : Heap 𝓤) (A : Atoms 𝓤) (W : Given
   abbrev a : Arg
   a = (x γ ts, (w, tt))
 
-  abbrev vs : Vals scale.signature (κ, tt)
+  abbrev vs : Vals scale′.signature (κ, tt)
   vs = (s ∷ [], (unit-vals w, tt))
 
   abbrev Post : Val → SProp 𝓤
-  Post = walkOf 𝓤 H A scale.ended stayed (scale.clauses 𝓤 H A at-mem run) .post (((κ, tt), (q, tt), tt, a, vs), tt)
+  Post = walkOf 𝓤 H A scale′.ended stayed (scale′.clauses 𝓤 H A at-mem run) .post (((κ, tt), (q, tt), tt, a, vs), tt)
 
   abbrev Own : List Weighted → Fml
   Own l = MutSlice (named 0) κ T.the-row .own (x γ l) (s ∷ [])
 
-  exits : (r : Scaled) (u : Val) (l : List Weighted) → length l ≡ length ts → (r ≡ scaled ts (w .0)) × (l ≡ scaledTerms ts (w .0)) → Is S.the-row r (u ∷ [])
+  exits : (r : Scaled) (u : Val) (l : List Weighted) → length l ≡ length ts → (r ≡ scale ts (w .0)) × (l ≡ scaleTerms ts (w .0)) → Is S.the-row r (u ∷ [])
       → ent 𝓤 (⋆ 𝓤 H A (‵ (Own l) ∷ ‵ (flft κ q) ∷ [])) (Post u)
   exits r u l e e′ is =
       qed W (‵ (Own l) ∷ ‵ (flft κ q) ∷ []) ∵
-      suffices ! _ (ends-at 𝓤 H A scale.ended stayed (scale.clauses 𝓤 H A at-mem run) W (((κ, tt), (q, tt), tt, a, vs), tt) u r (l, (tt, tt)) (e, (tt, tt))) $ says ! e′ $
+      suffices ! _ (ends-at 𝓤 H A scale′.ended stayed (scale′.clauses 𝓤 H A at-mem run) W (((κ, tt), (q, tt), tt, a, vs), tt) u r (l, (tt, tt)) (e, (tt, tt))) $ says ! e′ $
       nothing ! $ move ! (2 ∷ 0 ∷ []) $ join ! $ frame ! $
       nothing ! $ owned ! U.the-row (Is U.the-row) (LL.makes U.the-type U′.the-plain 𝓤 H A) w _ w-is $ fjoin ! $ move ! (1 ∷ 0 ∷ []) $ fjoin ! $ frame ! $
       owned ! S.the-row (Is S.the-row) (EL.makes S.the-type S′.the-plain 𝓤 H A) r _ is $ done !
@@ -165,16 +165,16 @@ module _ {M : Type 1} (𝓤 : URA M) (H : Heap 𝓤) (A : Atoms 𝓤) (W : Given
       qed W [] ∵ nothing ! $ owned ! U.the-row (Is U.the-row) (LL.makes U.the-type U′.the-plain 𝓤 H A) w _ w-is $ fjoin ! $
       owned ! u32 (Is u32) (uint-makes 𝓤 H A W w32) r _ (refl, fits) $ fjoin ! $ nothing ! $ join ! $ frame ! $ done !
 
-  abbrev to-scale : ℕ → GName → ScaleTerms 𝓤 H A at-mem run .Ghost
+  abbrev to-scale : ℕ → GName → ScaleAll 𝓤 H A at-mem run .Ghost
   to-scale ν δ = (((ν ∷ [], tt), (fullShare, tt), tt, (x δ ts, (w, tt)), (s ∷ [], (unit-vals w, tt))), tt)
 
-  goes-scale : (ν : ℕ) (δ : GName) → ent 𝓤 (sep 𝓤 (A .lft (ν ∷ []) fullShare) (sem 𝓤 H A (MutSlice (named 0) (ν ∷ []) T.the-row .own (x δ ts) (s ∷ [])))) (ScaleTerms 𝓤 H A at-mem run .pre (to-scale ν δ))
+  goes-scale : (ν : ℕ) (δ : GName) → ent 𝓤 (sep 𝓤 (A .lft (ν ∷ []) fullShare) (sem 𝓤 H A (MutSlice (named 0) (ν ∷ []) T.the-row .own (x δ ts) (s ∷ [])))) (ScaleAll 𝓤 H A at-mem run .pre (to-scale ν δ))
   goes-scale ν δ =
       qed W (‵ (flft (ν ∷ []) fullShare) ∷ ‵ (MutSlice (named 0) (ν ∷ []) T.the-row .own (x δ ts) (s ∷ [])) ∷ []) ∵
       nothing ! $ owned ! U.the-row (Is U.the-row) (LL.makes U.the-type U′.the-plain 𝓤 H A) w _ w-is $ fjoin ! $ move ! (2 ∷ 0 ∷ []) $ fjoin ! $ nothing ! $ move ! (2 ∷ 0 ∷ []) $ join ! $ join ! $ frame ! $ done !
 
-  module _ (C : Calls 𝓤 H) (Λ : Loops 𝓤 H) (fm : FmC 𝓤 H (W .laws) C) (known-terms : Triple 𝓤 (C #expr·asked-terms) (AskedTerms 𝓤 H A at-mem run)) (known-factor : Triple 𝓤 (C #expr·asked-factor) (AskedFactor 𝓤 H A at-mem run)) (known-scale : Triple 𝓤 (C #expr·scale-terms) (ScaleTerms 𝓤 H A at-mem run)) where
-    walk : Room T.the-row (length ts) → ent 𝓤 (onEntry 𝓤 H A scale.signature (κ, tt) (q, tt) a vs) (WpFn 𝓤 H C Λ code.function (s ∷ U′.lowered w ∷ []) Post)
+  module _ (C : Calls 𝓤 H) (Λ : Loops 𝓤 H) (fm : FmC 𝓤 H (W .laws) C) (known-terms : Triple 𝓤 (C #expr·asked-terms) (AskedTerms 𝓤 H A at-mem run)) (known-factor : Triple 𝓤 (C #expr·asked-factor) (AskedFactor 𝓤 H A at-mem run)) (known-scale : Triple 𝓤 (C #expr·scale-all) (ScaleAll 𝓤 H A at-mem run)) where
+    walk : Room T.the-row (length ts) → ent 𝓤 (onEntry 𝓤 H A scale′.signature (κ, tt) (q, tt) a vs) (WpFn 𝓤 H C Λ code.function (s ∷ U′.lowered w ∷ []) Post)
     walk room =
         qed W ((‵ (flft κ q) ⊛ ‵ ftrue) ∷ ‵ (owns (MutSlice (named 0) κ T.the-row ∷ U.the-row ∷ []) a vs) ∷ []) ∵
         split ! $ move ! (2 ∷ []) $ fsplit ! $
@@ -220,11 +220,11 @@ module _ {M : Type 1} (𝓤 : URA M) (H : Heap 𝓤) (A : Atoms 𝓤) (W : Given
         -- terms is lent again for a lifetime ν′ of the call
         lft-new ! tt (λ ν′. move ! (1 ∷ 2 ∷ []) $
         use2 W (later (some (λ (δ′ : GName). ‵ (MutSlice (named 0) (ν′ ∷ []) T.the-row .own (x δ′ ts) (s ∷ [])) ⊛ ‵ (LentAgain T.the-row κ (ν′ ∷ []) q γ b o δ′ ts)))) (lends-again T.the-row κ (ν′ ∷ []) q γ b o 𝓤 H A W (named 0) (named 0) ts) $ await ! tt $ pick ! (λ δ′. split ! $
-        move ! (2 ∷ 0 ∷ []) $ use2 W (raw (ScaleTerms 𝓤 H A at-mem run .pre (to-scale ν′ δ′))) (goes-scale ν′ δ′) $
-        -- [what scale_terms asks; what is lent; true; _10 at 3; _9; _8; _7; _6; _5; _4; _3; _2 at 19; _1; _0]
-        calls-at ! fm (ScaleTerms 𝓤 H A at-mem run) known-scale (to-scale ν′ δ′) (and-then ! (load ! (from ! (stop !)) (look ! 3 refl)) (and-then ! (load ! (from ! (stop !)) (look ! 19 refl)) (no-more !))) (λ u.
-        use1 W (later (some (λ (z : Unit {0}). ((‵ (flft (ν′ ∷ []) fullShare) ⊛ ‵ ftrue) ⊛ ‵ (Nothing .own z (u ∷ []))) ⊛ raw (ensured 𝓤 H A scale-terms.ended (scale-terms.clauses 𝓤 H A at-mem run) (ν′ ∷ [], tt) (x δ′ ts, (w, tt)) tt z)))) (id⊢ 𝓤 _) $ await ! tt $ pick ! (λ z.
-        split ! $ move ! (1 ∷ []) $ use1 W (some (λ (zs : List Weighted × (Unit {0} × Unit {0})). ‵ (lasts scale-terms.ended (ν′ ∷ [], tt) (x δ′ ts, (w, tt)) zs) ⊛ raw (fact 𝓤 (zs .0 ≡ map (scaledBy (w .0)) ts)))) (id⊢ 𝓤 _) $ pick ! (λ zs.
+        move ! (2 ∷ 0 ∷ []) $ use2 W (raw (ScaleAll 𝓤 H A at-mem run .pre (to-scale ν′ δ′))) (goes-scale ν′ δ′) $
+        -- [what scale_all asks; what is lent; true; _10 at 3; _9; _8; _7; _6; _5; _4; _3; _2 at 19; _1; _0]
+        calls-at ! fm (ScaleAll 𝓤 H A at-mem run) known-scale (to-scale ν′ δ′) (and-then ! (load ! (from ! (stop !)) (look ! 3 refl)) (and-then ! (load ! (from ! (stop !)) (look ! 19 refl)) (no-more !))) (λ u.
+        use1 W (later (some (λ (z : Unit {0}). ((‵ (flft (ν′ ∷ []) fullShare) ⊛ ‵ ftrue) ⊛ ‵ (Nothing .own z (u ∷ []))) ⊛ raw (ensured 𝓤 H A scale-all.ended (scale-all.clauses 𝓤 H A at-mem run) (ν′ ∷ [], tt) (x δ′ ts, (w, tt)) tt z)))) (id⊢ 𝓤 _) $ await ! tt $ pick ! (λ z.
+        split ! $ move ! (1 ∷ []) $ use1 W (some (λ (zs : List Weighted × (Unit {0} × Unit {0})). ‵ (lasts scale-all.ended (ν′ ∷ [], tt) (x δ′ ts, (w, tt)) zs) ⊛ raw (fact 𝓤 (zs .0 ≡ map (scaledBy (w .0)) ts)))) (id⊢ 𝓤 _) $ pick ! (λ zs.
         split ! $ move ! (1 ∷ []) $ heard ! (zs .0 ≡ map (scaledBy (w .0)) ts) (λ mapped. fsplit ! $ fsplit ! $ move ! (1 ∷ []) $ feqL ! (λ l.
         move ! (2 ∷ []) $ split ! $ move ! (1 ∷ []) $ peeks ! Nothing (Is Nothing) (shows 𝓤 H A Nothing) z (u ∷ []) (λ is″.
         -- [the result; ν′'s token; the last list; true; what is lent; true; _10 at 6; _9; _8 at 10; …]
@@ -240,25 +240,25 @@ module _ {M : Type 1} (𝓤 : URA M) (H : Heap 𝓤) (A : Atoms 𝓤) (W : Given
         keep ! (0 ∷ 1 ∷ []) $ by ! (exits Accepted _ (zs .0) l (scale-accepted ts (w .0) k (zs .0) (scale-asked ts (w .0) r k asked said) (is-none k h) mapped) made-accepted)))))))))))))))))))))))))))))))
 
 module _ {M : Type 1} (𝓤 : URA M) (H : Heap 𝓤) (A : Atoms 𝓤) (W : Given 𝓤 H A) (mem : Memory → SProp 𝓤) (run : Routine → Fun 𝓤) where
-  scale-walks : (C : Calls 𝓤 H) (Λ : Loops 𝓤 H) → FmC 𝓤 H (W .laws) C → Triple 𝓤 (C #expr·asked-terms) (AskedTerms 𝓤 H A mem run) → Triple 𝓤 (C #expr·asked-factor) (AskedFactor 𝓤 H A mem run) → Triple 𝓤 (C #expr·scale-terms) (ScaleTerms 𝓤 H A mem run)
-      → Walks 𝓤 H A scale.ended stayed (WpFn 𝓤 H C Λ code.function) (scale.clauses 𝓤 H A mem run)
-  scale-walks C Λ fm known-terms known-factor known-scale = walked 𝓤 H A scale.ended stayed (scale.clauses 𝓤 H A mem run) (WpFn 𝓤 H C Λ code.function)
+  scale-walks : (C : Calls 𝓤 H) (Λ : Loops 𝓤 H) → FmC 𝓤 H (W .laws) C → Triple 𝓤 (C #expr·asked-terms) (AskedTerms 𝓤 H A mem run) → Triple 𝓤 (C #expr·asked-factor) (AskedFactor 𝓤 H A mem run) → Triple 𝓤 (C #expr·scale-all) (ScaleAll 𝓤 H A mem run)
+      → Walks 𝓤 H A scale′.ended stayed (WpFn 𝓤 H C Λ code.function) (scale′.clauses 𝓤 H A mem run)
+  scale-walks C Λ fm known-terms known-factor known-scale = walked 𝓤 H A scale′.ended stayed (scale′.clauses 𝓤 H A mem run) (WpFn 𝓤 H C Λ code.function)
       (λ κs. (slice-vals, (unit-vals, tt))) (λ κs. (mut-slice-tells (named 0) (κs .0) T.the-row, (LL.tells U.the-type U′.the-laws, tt)))
       (λ κs qs bounds a g are. via 𝓤 _ (fst∗ 𝓤 _ (emp 𝓤)) (walk 𝓤 H A W mem run (κs .0) (qs .0) (a .0 .ptr .0) (a .0 .ptr .1) (a .0 .name) (a .0 .now) (a .1 .0) (are .1 .0) C Λ fm known-terms known-factor known-scale (are .0 .0 .1)))
 
 scale-meets : {M : Type 1} (𝓤 : URA M) (H : Heap 𝓤) (A : Atoms 𝓤) → Given 𝓤 H A → (mem : Memory → SProp 𝓤) (run : Routine → Fun 𝓤) (𝓣 : Tables 𝓤 H)
-    → Triple 𝓤 (𝓣 .C #expr·asked-terms) (AskedTerms 𝓤 H A mem run) → Triple 𝓤 (𝓣 .C #expr·asked-factor) (AskedFactor 𝓤 H A mem run) → Triple 𝓤 (𝓣 .C #expr·scale-terms) (ScaleTerms 𝓤 H A mem run)
-    → Meets 𝓤 H A scale.signature (WpFn 𝓤 H (𝓣 .C) (𝓣 .Λ) code.function) (scale.spec 𝓤 H A mem run)
+    → Triple 𝓤 (𝓣 .C #expr·asked-terms) (AskedTerms 𝓤 H A mem run) → Triple 𝓤 (𝓣 .C #expr·asked-factor) (AskedFactor 𝓤 H A mem run) → Triple 𝓤 (𝓣 .C #expr·scale-all) (ScaleAll 𝓤 H A mem run)
+    → Meets 𝓤 H A scale′.signature (WpFn 𝓤 H (𝓣 .C) (𝓣 .Λ) code.function) (scale′.spec 𝓤 H A mem run)
 scale-meets 𝓤 H A W mem run 𝓣 known-terms known-factor known-scale =
-    walk-meets 𝓤 H A scale.ended stayed W (goes-slice 𝓤 H A W 1 0 tt (plain (λ _. T.the-row)), (goes-none 𝓤 H A W 1 (λ _. U.the-row) yes (λ κs x f. refl), tt)) (scale.clauses 𝓤 H A mem run)
+    walk-meets 𝓤 H A scale′.ended stayed W (goes-slice 𝓤 H A W 1 0 tt (plain (λ _. T.the-row)), (goes-none 𝓤 H A W 1 (λ _. U.the-row) yes (λ κs x f. refl), tt)) (scale′.clauses 𝓤 H A mem run)
     (WpFn 𝓤 H (𝓣 .C) (𝓣 .Λ) code.function) (WpFn-mono 𝓤 H (W .laws) 𝓣 code.function) (scale-walks 𝓤 H A W mem run (𝓣 .C) (𝓣 .Λ) (fmOf 𝓤 H (W .laws) 𝓣) known-terms known-factor known-scale)
 
 pub scale-spec : {M : Type 1} → stated.statement M
 unfolding code.routine tablesOf
 scale-spec 𝓤 H 𝓜 𝓖 𝓡 =
-    entered 𝓤 H (tripleOf 𝓤 H (𝓖 .A) scale.signature (scale.spec 𝓤 H (𝓖 .A) (𝓜 .mem) (𝓡 .run)))
+    entered 𝓤 H (tripleOf 𝓤 H (𝓖 .A) scale′.signature (scale′.spec 𝓤 H (𝓖 .A) (𝓜 .mem) (𝓡 .run)))
     (tables 𝓤 H 𝓜 𝓡 code.env .C) (tables 𝓤 H 𝓜 𝓡 code.env .Λ) #expr·scale code.function (code.unfolded 𝓤 H 𝓜 𝓡)
     (scale-meets 𝓤 H (𝓖 .A) (givenOf 𝓤 H 𝓜 𝓖) (𝓜 .mem) (𝓡 .run) (tablesOf 𝓤 H 𝓜 (tables 𝓤 H 𝓜 𝓡 code.env))
     (cited 𝓤 H (AskedTerms 𝓤 H (𝓖 .A) (𝓜 .mem) (𝓡 .run)) 𝓜 𝓡 code.env #expr·asked-terms asked-terms-def.routine code.calls-expr·asked-terms (asked-terms-thm.met 𝓤 H 𝓜 𝓖 𝓡))
     (cited 𝓤 H (AskedFactor 𝓤 H (𝓖 .A) (𝓜 .mem) (𝓡 .run)) 𝓜 𝓡 code.env #expr·asked-factor asked-factor-def.routine code.calls-expr·asked-factor (asked-factor-thm.met 𝓤 H 𝓜 𝓖 𝓡))
-    (cited 𝓤 H (ScaleTerms 𝓤 H (𝓖 .A) (𝓜 .mem) (𝓡 .run)) 𝓜 𝓡 code.env #expr·scale-terms scale-terms-def.routine code.calls-expr·scale-terms (scale-terms-thm.met 𝓤 H 𝓜 𝓖 𝓡)))
+    (cited 𝓤 H (ScaleAll 𝓤 H (𝓖 .A) (𝓜 .mem) (𝓡 .run)) 𝓜 𝓡 code.env #expr·scale-all scale-all-def.routine code.calls-expr·scale-all (scale-all-thm.met 𝓤 H 𝓜 𝓖 𝓡)))

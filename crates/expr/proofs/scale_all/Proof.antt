@@ -1,4 +1,4 @@
--- `expr::scale_terms` meets its contract: a walk of its MIR, by hand, with a loop. In a turn the borrow of terms
+-- `expr::scale_all` meets its contract: a walk of its MIR, by hand, with a loop. In a turn the borrow of terms
 -- is opened, one struct is copied out of the row, `scaled_term` is called on it, the result is stored in its
 -- place, and the borrow is closed. The loop's state has the counter, the list now, and what is known of them.
 -- With the first i elements scaled, what the whole will be does not change (`mapped-one`). Assumes nothing.
@@ -60,13 +60,13 @@ use Rattle.expr.proofs.scaled_term as scaled-term
 use Rattle.expr.proofs.scaled_term.Symbol as scaled-term-def
 use Rattle.expr.proofs.scaled_term.Symbol.{name as #expr·scaled-term}
 use Rattle.expr.proofs.scaled_term.Met as scaled-term-thm
-use Rattle.expr.proofs.scale_terms.Key.{name as #expr·scale-terms}
-use Rattle.expr.proofs.scale_terms as scale-terms
-use Rattle.expr.proofs.scale_terms.Statement as stated
-use Rattle.expr.proofs.scale_terms.Code as code
-use Rattle.expr.proofs.scale_terms.Code.Mir as the-mir
+use Rattle.expr.proofs.scale_all.Key.{name as #expr·scale-all}
+use Rattle.expr.proofs.scale_all as scale-all
+use Rattle.expr.proofs.scale_all.Statement as stated
+use Rattle.expr.proofs.scale_all.Code as code
+use Rattle.expr.proofs.scale_all.Code.Mir as the-mir
 
-abbrev stayed : Stays (scale-terms.ended .signature .params) (scale-terms.ended .kept)
+abbrev stayed : Stays (scale-all.ended .signature .params) (scale-all.ended .kept)
 stayed = (stay-slice (0 ∷ []) tt (plain (λ _. T.the-row)), (stay-none (λ _. U.the-row) yes, tt))
 
 abbrev vals : Weighted → List Val
@@ -110,11 +110,11 @@ module _ {M : Type 1} (𝓤 : URA M) (H : Heap 𝓤) (A : Atoms 𝓤) (W : Given
   abbrev a : Arg
   a = (x ts, (w, tt))
 
-  abbrev vs : Vals scale-terms.signature (κ, tt)
+  abbrev vs : Vals scale-all.signature (κ, tt)
   vs = (s ts ∷ [], (unit-vals w, tt))
 
   abbrev Post : Val → SProp 𝓤
-  Post = walkOf 𝓤 H A scale-terms.ended stayed (scale-terms.clauses 𝓤 H A at-mem run) .post (((κ, tt), (q, tt), tt, a, vs), tt)
+  Post = walkOf 𝓤 H A scale-all.ended stayed (scale-all.clauses 𝓤 H A at-mem run) .post (((κ, tt), (q, tt), tt, a, vs), tt)
 
   abbrev target : List Weighted
   target = map (scaledBy (w .0)) ts
@@ -125,7 +125,7 @@ module _ {M : Type 1} (𝓤 : URA M) (H : Heap 𝓤) (A : Atoms 𝓤) (W : Given
   exits : (l : List Weighted) → length l ≡ length ts → l ≡ target → ent 𝓤 (⋆ 𝓤 H A (‵ (Own l) ∷ ‵ (flft κ q) ∷ [])) (Post vunit)
   exits l e e′ =
       qed W (‵ (Own l) ∷ ‵ (flft κ q) ∷ []) ∵
-      suffices ! _ (ends-at 𝓤 H A scale-terms.ended stayed (scale-terms.clauses 𝓤 H A at-mem run) W (((κ, tt), (q, tt), tt, a, vs), tt) vunit tt (l, (tt, tt)) (e, (tt, tt))) $ says ! e′ $
+      suffices ! _ (ends-at 𝓤 H A scale-all.ended stayed (scale-all.clauses 𝓤 H A at-mem run) W (((κ, tt), (q, tt), tt, a, vs), tt) vunit tt (l, (tt, tt)) (e, (tt, tt))) $ says ! e′ $
       rewrite ! 0 (λ (m : ℕ). ‵ (MutSlice (named 0) κ T.the-row .own (x l) (sliceVal (b, o) m ∷ []))) e refl $
       nothing ! $ move ! (2 ∷ 0 ∷ []) $ join ! $ frame ! $
       nothing ! $ owned ! U.the-row (Is U.the-row) (LL.makes U.the-type U′.the-plain 𝓤 H A) w _ w-is $ fjoin ! $ move ! (1 ∷ 0 ∷ []) $ fjoin ! $ frame ! $
@@ -250,7 +250,7 @@ module _ {M : Type 1} (𝓤 : URA M) (H : Heap 𝓤) (A : Atoms 𝓤) (W : Given
     start : St
     start = record { i = 0; cur = ts; le = omega arith; len = refl; eq = refl }
 
-    walk : (𝓣 : Tables 𝓤 H) → Triple 𝓤 (𝓣 .C #expr·scaled-term) (ScaledTerm 𝓤 H A at-mem run) → ent 𝓤 (onEntry 𝓤 H A scale-terms.signature (κ, tt) (q, tt) a vs) (WpFn 𝓤 H (𝓣 .C) (𝓣 .Λ) code.function (s ts ∷ U′.lowered w ∷ []) Post)
+    walk : (𝓣 : Tables 𝓤 H) → Triple 𝓤 (𝓣 .C #expr·scaled-term) (ScaledTerm 𝓤 H A at-mem run) → ent 𝓤 (onEntry 𝓤 H A scale-all.signature (κ, tt) (q, tt) a vs) (WpFn 𝓤 H (𝓣 .C) (𝓣 .Λ) code.function (s ts ∷ U′.lowered w ∷ []) Post)
     unfolding start
     walk 𝓣 known =
         qed W ((‵ (flft κ q) ⊛ ‵ ftrue) ∷ ‵ (owns (MutSlice (named 0) κ T.the-row ∷ U.the-row ∷ []) a vs) ∷ []) ∵
@@ -264,21 +264,21 @@ module _ {M : Type 1} (𝓤 : URA M) (H : Heap 𝓤) (A : Atoms 𝓤) (W : Given
         loops ! 𝓣 Nearer Nearer-wf (At 𝓣 known l₀ l₁ l₂ l₃ l₄ l₅ l₆ l₇ l₈ l₉ l₁₀) (turns 𝓣 known l₀ l₁ l₂ l₃ l₄ l₅ l₆ l₇ l₈ l₉ l₁₀) start)))))))))))
 
 module _ {M : Type 1} (𝓤 : URA M) (H : Heap 𝓤) (A : Atoms 𝓤) (W : Given 𝓤 H A) (mem : Memory → SProp 𝓤) (run : Routine → Fun 𝓤) where
-  scale-terms-walks : (𝓣 : Tables 𝓤 H) → Triple 𝓤 (𝓣 .C #expr·scaled-term) (ScaledTerm 𝓤 H A mem run) → Walks 𝓤 H A scale-terms.ended stayed (WpFn 𝓤 H (𝓣 .C) (𝓣 .Λ) code.function) (scale-terms.clauses 𝓤 H A mem run)
-  scale-terms-walks 𝓣 known = walked 𝓤 H A scale-terms.ended stayed (scale-terms.clauses 𝓤 H A mem run) (WpFn 𝓤 H (𝓣 .C) (𝓣 .Λ) code.function)
+  scale-all-walks : (𝓣 : Tables 𝓤 H) → Triple 𝓤 (𝓣 .C #expr·scaled-term) (ScaledTerm 𝓤 H A mem run) → Walks 𝓤 H A scale-all.ended stayed (WpFn 𝓤 H (𝓣 .C) (𝓣 .Λ) code.function) (scale-all.clauses 𝓤 H A mem run)
+  scale-all-walks 𝓣 known = walked 𝓤 H A scale-all.ended stayed (scale-all.clauses 𝓤 H A mem run) (WpFn 𝓤 H (𝓣 .C) (𝓣 .Λ) code.function)
       (λ κs. (slice-vals, (unit-vals, tt))) (λ κs. (mut-slice-tells (named 0) (κs .0) T.the-row, (LL.tells U.the-type U′.the-laws, tt)))
       (λ κs qs bounds a g are. via 𝓤 _ (fst∗ 𝓤 _ (emp 𝓤)) (walk 𝓤 H A W mem run (κs .0) (qs .0) (a .0 .ptr .0) (a .0 .ptr .1) (a .0 .name) (a .0 .now) (a .1 .0) (are .1 .0) (are .0 .0 .1) 𝓣 known))
 
-scale-terms-meets : {M : Type 1} (𝓤 : URA M) (H : Heap 𝓤) (A : Atoms 𝓤) → Given 𝓤 H A → (mem : Memory → SProp 𝓤) (run : Routine → Fun 𝓤) (𝓣 : Tables 𝓤 H) → Triple 𝓤 (𝓣 .C #expr·scaled-term) (ScaledTerm 𝓤 H A mem run)
-    → Meets 𝓤 H A scale-terms.signature (WpFn 𝓤 H (𝓣 .C) (𝓣 .Λ) code.function) (scale-terms.spec 𝓤 H A mem run)
-scale-terms-meets 𝓤 H A W mem run 𝓣 known =
-    walk-meets 𝓤 H A scale-terms.ended stayed W (goes-slice 𝓤 H A W 1 0 tt (plain (λ _. T.the-row)), (goes-none 𝓤 H A W 1 (λ _. U.the-row) yes (λ κs x f. refl), tt)) (scale-terms.clauses 𝓤 H A mem run)
-    (WpFn 𝓤 H (𝓣 .C) (𝓣 .Λ) code.function) (WpFn-mono 𝓤 H (W .laws) 𝓣 code.function) (scale-terms-walks 𝓤 H A W mem run 𝓣 known)
+scale-all-meets : {M : Type 1} (𝓤 : URA M) (H : Heap 𝓤) (A : Atoms 𝓤) → Given 𝓤 H A → (mem : Memory → SProp 𝓤) (run : Routine → Fun 𝓤) (𝓣 : Tables 𝓤 H) → Triple 𝓤 (𝓣 .C #expr·scaled-term) (ScaledTerm 𝓤 H A mem run)
+    → Meets 𝓤 H A scale-all.signature (WpFn 𝓤 H (𝓣 .C) (𝓣 .Λ) code.function) (scale-all.spec 𝓤 H A mem run)
+scale-all-meets 𝓤 H A W mem run 𝓣 known =
+    walk-meets 𝓤 H A scale-all.ended stayed W (goes-slice 𝓤 H A W 1 0 tt (plain (λ _. T.the-row)), (goes-none 𝓤 H A W 1 (λ _. U.the-row) yes (λ κs x f. refl), tt)) (scale-all.clauses 𝓤 H A mem run)
+    (WpFn 𝓤 H (𝓣 .C) (𝓣 .Λ) code.function) (WpFn-mono 𝓤 H (W .laws) 𝓣 code.function) (scale-all-walks 𝓤 H A W mem run 𝓣 known)
 
-pub scale-terms-spec : {M : Type 1} → stated.statement M
+pub scale-all-spec : {M : Type 1} → stated.statement M
 unfolding code.routine tablesOf
-scale-terms-spec 𝓤 H 𝓜 𝓖 𝓡 =
-    entered 𝓤 H (tripleOf 𝓤 H (𝓖 .A) scale-terms.signature (scale-terms.spec 𝓤 H (𝓖 .A) (𝓜 .mem) (𝓡 .run)))
-    (tables 𝓤 H 𝓜 𝓡 code.env .C) (tables 𝓤 H 𝓜 𝓡 code.env .Λ) #expr·scale-terms code.function (code.unfolded 𝓤 H 𝓜 𝓡)
-    (scale-terms-meets 𝓤 H (𝓖 .A) (givenOf 𝓤 H 𝓜 𝓖) (𝓜 .mem) (𝓡 .run) (tablesOf 𝓤 H 𝓜 (tables 𝓤 H 𝓜 𝓡 code.env))
+scale-all-spec 𝓤 H 𝓜 𝓖 𝓡 =
+    entered 𝓤 H (tripleOf 𝓤 H (𝓖 .A) scale-all.signature (scale-all.spec 𝓤 H (𝓖 .A) (𝓜 .mem) (𝓡 .run)))
+    (tables 𝓤 H 𝓜 𝓡 code.env .C) (tables 𝓤 H 𝓜 𝓡 code.env .Λ) #expr·scale-all code.function (code.unfolded 𝓤 H 𝓜 𝓡)
+    (scale-all-meets 𝓤 H (𝓖 .A) (givenOf 𝓤 H 𝓜 𝓖) (𝓜 .mem) (𝓡 .run) (tablesOf 𝓤 H 𝓜 (tables 𝓤 H 𝓜 𝓡 code.env))
     (cited 𝓤 H (ScaledTerm 𝓤 H (𝓖 .A) (𝓜 .mem) (𝓡 .run)) 𝓜 𝓡 code.env #expr·scaled-term scaled-term-def.routine code.calls-expr·scaled-term (scaled-term-thm.met 𝓤 H 𝓜 𝓖 𝓡)))

@@ -37,7 +37,7 @@ use denote.Triple.Statement.{Contract, Triple}
 use denote.Triple.Table.{entered, cited}
 use denote.Triple.Walked.{says, Stays, stay-none, gave-slice, walkOf, goes-none, goes-gave-slice, Walks, ends-at, walked, walk-meets}
 use denote.Exit.{yes}
-use Rattle.expr.specs.Weighted.{scaled, scaledTerms}
+use Rattle.expr.specs.Weighted.{scale, scaleTerms}
 use Rattle.sfr.specs.Relation.{scaledNumber}
 use Rattle.baby_bear.specs.declared.BabyBearUnit.{BabyBearUnit}
 use Rattle.expr.specs.declared.Scaled.{Scaled}
@@ -47,7 +47,7 @@ use Rattle.baby_bear.proofs.BabyBearUnit.Laws as U′
 use Rattle.expr.proofs.Weighted as T
 use Rattle.expr.proofs.Scaled as S
 use Rattle.expr.proofs.Scaled.Laws as S′
-use Rattle.expr.proofs.scale as scale
+use Rattle.expr.proofs.scale as scale′
 use Rattle.expr.proofs.scale.Symbol as scale-def
 use Rattle.expr.proofs.scale.Symbol.{name as #expr·scale}
 use Rattle.expr.proofs.scale.Met as scale-thm
@@ -69,7 +69,7 @@ unit-vals = LL.vals U.the-type U′.the-laws
 -- the contracts that the proof cites
 module _ {M : Type 1} (𝓤 : URA M) (H : Heap 𝓤) (A : Atoms 𝓤) (mem : Memory → SProp 𝓤) (run : Routine → Fun 𝓤) where
   abbrev Scales : Contract 𝓤
-  Scales = tripleOf 𝓤 H A scale.signature (scale.spec 𝓤 H A mem run)
+  Scales = tripleOf 𝓤 H A scale′.signature (scale′.spec 𝓤 H A mem run)
 
   abbrev Numbered : Contract 𝓤
   Numbered = tripleOf 𝓤 H A scaled-no.signature (scaled-no.spec 𝓤 H A mem run)
@@ -97,7 +97,7 @@ module _ {M : Type 1} (𝓤 : URA M) (H : Heap 𝓤) (A : Atoms 𝓤) (W : Given
   abbrev Own : Fml
   Own = MutSlice (named 0) κ T.the-row .own x (s ∷ [])
 
-  exits : (k : ℕ) (v : Val) (l : List Weighted) → length l ≡ length ts → (k ≡ scaledNumber (scaled ts factor)) × (l ≡ scaledTerms ts factor) → Is u32 k (v ∷ [])
+  exits : (k : ℕ) (v : Val) (l : List Weighted) → length l ≡ length ts → (k ≡ scaledNumber (scale ts factor)) × (l ≡ scaleTerms ts factor) → Is u32 k (v ∷ [])
       → ent 𝓤 (⋆ 𝓤 H A ((‵ (flft κ q) ⊛ ‵ ftrue) ∷ ‵ (finally T.the-row γ l) ∷ [])) (Post v)
   exits k v l e e′ is =
       qed W ((‵ (flft κ q) ⊛ ‵ ftrue) ∷ ‵ (finally T.the-row γ l) ∷ []) ∵
@@ -153,9 +153,9 @@ module _ {M : Type 1} (𝓤 : URA M) (H : Heap 𝓤) (A : Atoms 𝓤) (W : Given
         move ! (14 ∷ 15 ∷ []) $ use2 W (raw (Scales 𝓤 H A at-mem run .pre to-scale)) goes-scale $
         -- [what scale asks; _6 at 1; _5; _4; _3; _2; _1; _0 at 13; …]
         calls-at ! fm (Scales 𝓤 H A at-mem run) known-scale to-scale (and-then ! (load ! (from ! (stop !)) (look ! 3 refl)) (and-then ! (load ! (from ! (stop !)) (look ! 1 refl)) (no-more !))) (λ v₁.
-        use1 W (later (some (λ (r : Scaled). ((‵ (flft κ q) ⊛ ‵ ftrue) ⊛ ‵ (S.the-row .own r (v₁ ∷ []))) ⊛ raw (ensured 𝓤 H A scale.ended (scale.clauses 𝓤 H A at-mem run) (κ, tt) given tt r)))) (id⊢ 𝓤 _) $ await ! tt $ pick ! (λ r.
-        split ! $ move ! (1 ∷ []) $ use1 W (some (λ (zs : List Weighted × (Unit {0} × Unit {0})). ‵ (lasts scale.ended (κ, tt) given zs) ⊛ raw (fact 𝓤 ((r ≡ scaled ts factor) × (zs .0 ≡ scaledTerms ts factor))))) (id⊢ 𝓤 _) $ pick ! (λ zs.
-        split ! $ move ! (1 ∷ []) $ heard ! ((r ≡ scaled ts factor) × (zs .0 ≡ scaledTerms ts factor)) (λ e₁. fsplit ! $ fsplit ! $ move ! (1 ∷ []) $ feqL ! (λ l.
+        use1 W (later (some (λ (r : Scaled). ((‵ (flft κ q) ⊛ ‵ ftrue) ⊛ ‵ (S.the-row .own r (v₁ ∷ []))) ⊛ raw (ensured 𝓤 H A scale′.ended (scale′.clauses 𝓤 H A at-mem run) (κ, tt) given tt r)))) (id⊢ 𝓤 _) $ await ! tt $ pick ! (λ r.
+        split ! $ move ! (1 ∷ []) $ use1 W (some (λ (zs : List Weighted × (Unit {0} × Unit {0})). ‵ (lasts scale′.ended (κ, tt) given zs) ⊛ raw (fact 𝓤 ((r ≡ scale ts factor) × (zs .0 ≡ scaleTerms ts factor))))) (id⊢ 𝓤 _) $ pick ! (λ zs.
+        split ! $ move ! (1 ∷ []) $ heard ! ((r ≡ scale ts factor) × (zs .0 ≡ scaleTerms ts factor)) (λ e₁. fsplit ! $ fsplit ! $ move ! (1 ∷ []) $ feqL ! (λ l.
         move ! (2 ∷ []) $ split ! $ move ! (1 ∷ []) $ peeks ! S.the-row (Is S.the-row) (shows 𝓤 H A S.the-row) r (v₁ ∷ []) (λ r-is.
         -- [the result; the token; the last list; …; _6 at 4; _5; _4; _3 at 10; …; _0 at 16; …]
         land ! (from ! (stop !)) (init ! 10 refl (EL.lawful S.the-type S′.the-laws 𝓤 H A W tt .typed r _ r-is .0)) $ forgo ! $
