@@ -11,11 +11,11 @@ use Rattle.expr.specs.Equation.{equationAt, sizeAt}
 use Rattle.permutation.specs.Answers.{relation}
 use Rattle.permutation.specs.declared.PermutationRelation.{PermutationRelation}
 use Rattle.instance.specs.Held.{equationsSound, slotsSound}
-use Rattle.compile.specs.Gate.{publicsOf, compiledParts, compileNo, compilePublics}
+use Rattle.compile.specs.Gate.{GateLent, gateLent, publicsOf, compiledParts, compileNo, compilePublics}
 
 -- two wires, of which 1 is unassigned and in no query, and an equation weight · wire 1 = 0
 abbrev unbound : ℕ → ℕ
-unbound weight = compileNo (relation 1 2 0 1 4) [] (0 ∷ unassigned ∷ []) [] (1 ∷ 1 ∷ weight ∷ 0 ∷ []) 2 2
+unbound weight = compileNo (gateLent (relation 1 2 0 1 4) [] (0 ∷ unassigned ∷ []) [] (1 ∷ 1 ∷ weight ∷ 0 ∷ []) 2 2)
 
 -- instance A: width 1, three wires, 0 and 2 assigned, a query from 1 to 2, an equation 3 · wire 1 = 6
 abbrev a : PermutationRelation
@@ -24,17 +24,14 @@ a = relation 1 3 1 1 4
 abbrev aSlots : List ℕ
 aSlots = 0 ∷ unassigned ∷ 5 ∷ []
 
-abbrev aQueries : List ℕ
-aQueries = 1 ∷ 2 ∷ []
-
-abbrev aEquations : List ℕ
-aEquations = 1 ∷ 1 ∷ 3 ∷ 6 ∷ []
+abbrev aLent : GateLent
+aLent = gateLent a [] aSlots (1 ∷ 2 ∷ []) (1 ∷ 1 ∷ 3 ∷ 6 ∷ []) 6 3
 
 pub gate-examples :
     (unbound 0 ≡ 0)
     × (unbound 1 ≡ 15)
-    × (compileNo a [] aSlots aQueries aEquations 6 3 ≡ 0)
+    × (compileNo aLent ≡ 0)
     × (publicsOf a aSlots ≡ pair 0 0 ∷ pair 2 5 ∷ [])
-    × (compilePublics a [] aSlots aQueries aEquations (7 ∷ 7 ∷ 7 ∷ 7 ∷ 7 ∷ 7 ∷ []) (7 ∷ 7 ∷ 7 ∷ []) ≡ 0 ∷ 0 ∷ 2 ∷ 5 ∷ 0 ∷ 0 ∷ [])
+    × (compilePublics aLent ≡ 0 ∷ 0 ∷ 2 ∷ 5 ∷ 0 ∷ 0 ∷ [])
 unfolding ask _▸_ allBelow isUtf8 follow equationAt sizeAt equationsSound slotsSound publicsOf compiledParts compileNo compilePublics
 gate-examples = (refl, refl, refl, refl, refl)

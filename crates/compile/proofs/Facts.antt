@@ -1,15 +1,15 @@
--- The gate says yes exactly where these facts on lists hold: 1 and 2, 11 of each store, 10, 16, and 12 to 15
--- (`compile-facts`, `facts-compile`). Assumes nothing.
+-- The gate says yes exactly where these facts on lists hold, group by group of its questions: 1 and 2, 11 of each store,
+-- 10, 16, and 12 to 15 (`compile-facts`, `facts-compile`). Assumes nothing.
 use Prim.Native.Nat.{ℕ, _*_, _≤_, _<_}
 use mathlib.Core.Path.{_≡_, refl, sym, _∙_}
 use mathlib.Core.Bool.{true}
-use mathlib.Core.List.{List}
+use mathlib.Core.List.{List, _++_}
 use borrow.Author.Tests.{lt-ltb, le-leb, ltb-true, leb-true}
 use lib.Dec.{leb}
 use lib.ListN.{length, take}
 use Rattle.limits.specs.Numbers.{maxCount, maxWidth, labelEnd}
 use Rattle.limits.specs.Questions.{ask, firstNo}
-use Rattle.limits.proofs.Questions.{ask-yes, says-yes, both, join, zero-▸, accepted-says, saysAt}
+use Rattle.limits.proofs.Questions.{ask-yes, says-yes, both, join, firstNo-append, accepted-says}
 use Rattle.words.specs.Store.{All}
 use Rattle.words.specs.Pieces.{wordsOf}
 use Rattle.utf8.specs.Utf8.{isUtf8}
@@ -17,103 +17,163 @@ use Rattle.expr.specs.Equation.{equationsAt, equationsEnd}
 use Rattle.permutation.specs.Relation.{relationAsks}
 use Rattle.permutation.specs.declared.PermutationRelation.{PermutationRelation}
 use Rattle.instance.proofs.Facts.{Below, allBelow-facts, facts-allBelow, SoundEquation, equationsSound-facts, facts-equationsSound, SoundSlot, slotsSound-facts, facts-slotsSound, Valid, validated-facts, facts-validated, gate-facts, facts-gate}
-use Rattle.compile.specs.Gate.{publicsOf, compiledParts, storesAsks, soundAsks, preparedAsks, preparedNo, compileNo}
-use Rattle.compile.proofs.Gate.{number-is, prepared-by}
+use Rattle.compile.specs.Gate.{GateLent, publicsOf, compiledParts, storesAsks, soundAsks, preparedNo, compileNo}
+use Rattle.compile.proofs.Gate.{compileNo-is}
 
-pub record Compiles (rel : PermutationRelation) (label slots queries equations : List ℕ) (publics scratch : ℕ) : Type 0 where
-  -- 1 and 2
+fits : {a b : ℕ} → a ≤ b → ask 2 (leb a b) ≡ 0
+fits {a} {b} h = ask-yes 2 (leb a b) (le-leb a b h)
+
+-- ---- 1, and 2 of wire count and slots
+pub record RelationFits (rel : PermutationRelation) (slots : ℕ) : Type 0 where
   pub width-low : 1 ≤ rel .width
   pub width-high : rel .width ≤ maxWidth
+  pub slots-high : slots ≤ maxCount
   pub vars-low : 1 ≤ rel .vars
   pub vars-high : rel .vars ≤ maxCount
-  pub vars-held : rel .vars ≤ length slots
-  pub queries-held : wordsOf (rel .width) (rel .queries) ≤ length queries
-  pub words-held : rel .words ≤ length equations
-  pub equations-held : 2 * rel .equations ≤ length equations
-  pub slots-high : length slots ≤ maxCount
-  pub queries-high : length queries ≤ maxCount
-  pub words-high : length equations ≤ maxCount
+  pub vars-held : rel .vars ≤ slots
+
+module _ (rel : PermutationRelation) (slots : ℕ) where
+  relationAsks-yes : firstNo (relationAsks rel slots) ≡ 0 → RelationFits rel slots
+  relationAsks-yes e =
+      let says = accepted-says (relationAsks rel slots) tt e in
+      record {
+        width-low = leb-true _ _ (says 0);
+        width-high = leb-true _ _ (says 1);
+        slots-high = leb-true _ _ (says 2);
+        vars-low = leb-true _ _ (says 3);
+        vars-high = leb-true _ _ (says 4);
+        vars-held = leb-true _ _ (says 5);
+      }
+
+  yes-relationAsks : RelationFits rel slots → firstNo (relationAsks rel slots) ≡ 0
+  yes-relationAsks f =
+      join _ _ (ask-yes 1 _ (le-leb _ _ (f .width-low)))
+      (join _ _ (ask-yes 1 _ (le-leb _ _ (f .width-high)))
+      (join _ _ (fits (f .slots-high))
+      (join _ _ (fits (f .vars-low)) (join _ _ (fits (f .vars-high)) (join _ _ (fits (f .vars-held)) refl)))))
+
+-- ---- 2 of the other stores
+pub record StoresFit (rel : PermutationRelation) (label queries equations publics scratch : ℕ) : Type 0 where
+  pub queries-high : queries ≤ maxCount
+  pub queries-held : wordsOf (rel .width) (rel .queries) ≤ queries
+  pub equations-high : equations ≤ maxCount
+  pub words-held : rel .words ≤ equations
+  pub equations-held : 2 * rel .equations ≤ equations
   pub publics-high : publics ≤ maxCount
   pub scratch-high : scratch ≤ maxCount
-  pub label-high : length label < labelEnd
-  -- 11
+  pub label-high : label < labelEnd
+
+module _ (rel : PermutationRelation) (label queries equations publics scratch : ℕ) where
+  storesAsks-yes : firstNo (storesAsks rel label queries equations publics scratch) ≡ 0
+      → StoresFit rel label queries equations publics scratch
+  storesAsks-yes e =
+      let says = accepted-says (storesAsks rel label queries equations publics scratch) tt e in
+      record {
+        queries-high = leb-true _ _ (says 0);
+        queries-held = leb-true _ _ (says 1);
+        equations-high = leb-true _ _ (says 2);
+        words-held = leb-true _ _ (says 3);
+        equations-held = leb-true _ _ (says 4);
+        publics-high = leb-true _ _ (says 5);
+        scratch-high = leb-true _ _ (says 6);
+        label-high = ltb-true _ _ (says 7);
+      }
+
+  yes-storesAsks : StoresFit rel label queries equations publics scratch
+      → firstNo (storesAsks rel label queries equations publics scratch) ≡ 0
+  yes-storesAsks f =
+      join _ _ (fits (f .queries-high))
+      (join _ _ (fits (f .queries-held))
+      (join _ _ (fits (f .equations-high))
+      (join _ _ (fits (f .words-held))
+      (join _ _ (fits (f .equations-held))
+      (join _ _ (fits (f .publics-high))
+      (join _ _ (fits (f .scratch-high)) (join _ _ (ask-yes 2 _ (lt-ltb _ _ (f .label-high))) refl)))))))
+
+-- ---- 11
+pub record StoresSound (rel : PermutationRelation) (label slots queries equations : List ℕ) : Type 0 where
   pub ends : equationsEnd (rel .equations) (take (rel .words) equations) ≡ length (take (rel .words) equations)
   pub equations-sound : All SoundEquation (equationsAt (rel .equations) (take (rel .words) equations))
   pub queries-sound : Below maxCount (take (wordsOf (rel .width) (rel .queries)) queries)
   pub slots-sound : All SoundSlot (take (rel .vars) slots)
   pub label-sound : isUtf8 label ≡ true
-  -- 10, 16, and 12 to 15
-  pub room : 2 * length (publicsOf rel slots) ≤ publics
-  pub scratch-held : rel .vars ≤ scratch
-  pub valid : Valid (compiledParts rel slots queries equations)
 
-pub compile-facts : (rel : PermutationRelation) (label slots queries equations publics scratch : List ℕ)
-    → compileNo rel label slots queries equations (length publics) (length scratch) ≡ 0
-    → Compiles rel label slots queries equations (length publics) (length scratch)
-unfolding compiledParts preparedNo
-compile-facts rel label slots queries equations publics scratch e =
-    let parts = compiledParts rel slots queries equations in
-    let n = both _ _ (sym (number-is rel label slots queries equations publics scratch) ∙ e) in
-    let m = both _ _ (n .1) in
-    let g = gate-facts parts (length scratch) (m .1) in
-    let r : (i : ℕ) → saysAt (preparedAsks rel label slots queries equations (length publics) (length scratch)) i ≡ true =
-    accepted-says (preparedAsks rel label slots queries equations (length publics) (length scratch)) tt (n .0) in
-    let q = equationsSound-facts (rel .equations) (take (rel .words) equations) (r 14) in
-    record {
-      width-low = leb-true _ _ (r 0);
-      width-high = leb-true _ _ (r 1);
-      slots-high = leb-true _ _ (r 2);
-      vars-low = leb-true _ _ (r 3);
-      vars-high = leb-true _ _ (r 4);
-      vars-held = leb-true _ _ (r 5);
-      queries-high = leb-true _ _ (r 6);
-      queries-held = leb-true _ _ (r 7);
-      words-high = leb-true _ _ (r 8);
-      words-held = leb-true _ _ (r 9);
-      equations-held = leb-true _ _ (r 10);
-      publics-high = leb-true _ _ (r 11);
-      scratch-high = leb-true _ _ (r 12);
-      label-high = ltb-true _ _ (r 13);
-      ends = q .0;
-      equations-sound = q .1;
-      queries-sound = allBelow-facts maxCount _ (r 15);
-      slots-sound = slotsSound-facts _ (r 16);
-      label-sound = r 17;
-      room = leb-true _ _ (says-yes 9 _ (m .0));
-      scratch-held = g .0;
-      valid = validated-facts parts (g .1);
-    }
+module _ (rel : PermutationRelation) (label slots queries equations : List ℕ) where
+  soundAsks-yes : firstNo (soundAsks rel label slots queries equations) ≡ 0 → StoresSound rel label slots queries equations
+  soundAsks-yes e =
+      let says = accepted-says (soundAsks rel label slots queries equations) tt e in
+      let q = equationsSound-facts (rel .equations) (take (rel .words) equations) (says 0) in
+      record {
+        ends = q .0;
+        equations-sound = q .1;
+        queries-sound = allBelow-facts maxCount _ (says 1);
+        slots-sound = slotsSound-facts _ (says 2);
+        label-sound = says 3;
+      }
 
-fits : {a b : ℕ} → a ≤ b → ask 2 (leb a b) ≡ 0
-fits {a} {b} h = ask-yes 2 (leb a b) (le-leb a b h)
+  yes-soundAsks : StoresSound rel label slots queries equations → firstNo (soundAsks rel label slots queries equations) ≡ 0
+  yes-soundAsks s =
+      join _ _ (ask-yes 11 _ (facts-equationsSound _ _ (s .ends) (s .equations-sound)))
+      (join _ _ (ask-yes 11 _ (facts-allBelow maxCount _ (s .queries-sound)))
+      (join _ _ (ask-yes 11 _ (facts-slotsSound _ (s .slots-sound))) (join _ _ (ask-yes 11 _ (s .label-sound)) refl)))
 
-pub facts-compile : (rel : PermutationRelation) (label slots queries equations publics scratch : List ℕ)
-    → Compiles rel label slots queries equations (length publics) (length scratch)
-    → compileNo rel label slots queries equations (length publics) (length scratch) ≡ 0
-unfolding compiledParts
-facts-compile rel label slots queries equations publics scratch c =
-    let parts = compiledParts rel slots queries equations in
-    let relation : firstNo (relationAsks rel (length slots)) ≡ 0 =
-    join _ _ (ask-yes 1 _ (le-leb _ _ (c .width-low)))
-    (join _ _ (ask-yes 1 _ (le-leb _ _ (c .width-high)))
-    (join _ _ (fits (c .slots-high))
-    (join _ _ (fits (c .vars-low)) (join _ _ (fits (c .vars-high)) (join _ _ (fits (c .vars-held)) refl))))) in
-    let stores : firstNo (storesAsks rel (length label) (length queries) (length equations) (length publics) (length scratch)) ≡ 0 =
-    join _ _ (fits (c .queries-high))
-    (join _ _ (fits (c .queries-held))
-    (join _ _ (fits (c .words-high))
-    (join _ _ (fits (c .words-held))
-    (join _ _ (fits (c .equations-held))
-    (join _ _ (fits (c .publics-high))
-    (join _ _ (fits (c .scratch-high)) (join _ _ (ask-yes 2 _ (lt-ltb _ _ (c .label-high))) refl))))))) in
-    let sound : firstNo (soundAsks rel label slots queries equations) ≡ 0 =
-    join _ _ (ask-yes 11 _ (facts-equationsSound _ _ (c .ends) (c .equations-sound)))
-    (join _ _ (ask-yes 11 _ (facts-allBelow maxCount _ (c .queries-sound)))
-    (join _ _ (ask-yes 11 _ (facts-slotsSound _ (c .slots-sound)))
-    (join _ _ (ask-yes 11 _ (c .label-sound)) refl))) in
-    let prepared =
-    prepared-by rel label slots queries equations (length publics) (length scratch) 0 0 0 (sym relation)
-    (sym (zero-▸ _ ∙ stores)) (sym (zero-▸ _ ∙ sound)) in
-    number-is rel label slots queries equations publics scratch
-    ∙ join _ _ (sym prepared)
-    (join _ _ (ask-yes 10 _ (le-leb _ _ (c .room))) (facts-gate parts (length scratch) (c .scratch-held) (facts-validated parts (c .valid))))
+-- ---- 1, 2 and 11 together, and with 10, 16 and 12 to 15
+module _ (l : GateLent) where
+  abbrev rel : PermutationRelation
+  rel = l .relation
+
+  pub record Prepared : Type 0 where
+    pub relation : RelationFits rel (length (l .slots))
+    pub stores : StoresFit rel (length (l .label)) (length (l .queries)) (length (l .equations)) (l .publics) (l .scratch)
+    pub sound : StoresSound rel (l .label) (l .slots) (l .queries) (l .equations)
+
+  pub record CompileFacts : Type 0 where
+    pub prepared : Prepared
+    pub room : 2 * length (publicsOf rel (l .slots)) ≤ l .publics
+    pub scratch-held : rel .vars ≤ l .scratch
+    pub valid : Valid (compiledParts rel (l .slots) (l .queries) (l .equations))
+
+  pub prepared-facts : preparedNo l ≡ 0 → Prepared
+  unfolding preparedNo
+  prepared-facts e =
+      let relation = relationAsks rel (length (l .slots)) in
+      let stores = storesAsks rel (length (l .label)) (length (l .queries)) (length (l .equations)) (l .publics) (l .scratch) in
+      let sound = soundAsks rel (l .label) (l .slots) (l .queries) (l .equations) in
+      let a = both _ _ (sym (firstNo-append relation (stores ++ sound)) ∙ e) in
+      let b = both _ _ (sym (firstNo-append stores sound) ∙ a .1) in
+      record {
+        relation = relationAsks-yes _ _ (a .0);
+        stores = storesAsks-yes _ _ _ _ _ _ (b .0);
+        sound = soundAsks-yes _ _ _ _ _ (b .1);
+      }
+
+  facts-prepared : Prepared → preparedNo l ≡ 0
+  unfolding preparedNo
+  facts-prepared p =
+      let relation = relationAsks rel (length (l .slots)) in
+      let stores = storesAsks rel (length (l .label)) (length (l .queries)) (length (l .equations)) (l .publics) (l .scratch) in
+      let sound = soundAsks rel (l .label) (l .slots) (l .queries) (l .equations) in
+      firstNo-append relation (stores ++ sound)
+      ∙ join _ _ (yes-relationAsks _ _ (p .relation))
+      (firstNo-append stores sound ∙ join _ _ (yes-storesAsks _ _ _ _ _ _ (p .stores)) (yes-soundAsks _ _ _ _ _ (p .sound)))
+
+  pub compile-facts : compileNo l ≡ 0 → CompileFacts
+  unfolding compiledParts
+  compile-facts e =
+      let n = both _ _ (sym (compileNo-is l) ∙ e) in
+      let m = both _ _ (n .1) in
+      let g = gate-facts (compiledParts rel (l .slots) (l .queries) (l .equations)) (l .scratch) (m .1) in
+      record {
+        prepared = prepared-facts (n .0);
+        room = leb-true _ _ (says-yes 9 _ (m .0));
+        scratch-held = g .0;
+        valid = validated-facts _ (g .1);
+      }
+
+  pub facts-compile : CompileFacts → compileNo l ≡ 0
+  unfolding compiledParts
+  facts-compile c =
+      compileNo-is l
+      ∙ join _ _ (facts-prepared (c .prepared))
+      (join _ _ (ask-yes 10 _ (le-leb _ _ (c .room)))
+      (facts-gate (compiledParts rel (l .slots) (l .queries) (l .equations)) (l .scratch) (c .scratch-held) (facts-validated _ (c .valid))))

@@ -1,24 +1,25 @@
 -- The gate: the parts that it judges, and what it answers. Assumes nothing.
-use Prim.Native.Nat.{ℕ, zero, suc, _+_, _*_, _-_, _≤_}
+use Prim.Native.Nat.{ℕ, zero, suc, _+_, _*_, _-_}
 use mathlib.Core.Path.{_≡_, refl, sym, ap, _∙_}
 use mathlib.Core.Bool.{Bool, true, false}
-use mathlib.Core.List.{List, _∷_, _++_}
+use mathlib.Core.List.{List, _++_}
 use native.Mathlib.Omega.{arith}
 use borrow.Author.Tests.{leb-true}
 use lib.Dec.{leb}
-use lib.ListN.{length, take, replicate}
-use Rattle.limits.specs.Questions.{question, ask, _▸_, firstNo}
-use Rattle.limits.proofs.Questions.{ask-no, stays, goes-on, join, both, says-yes, ▸-assoc, firstNo-append, accepted-says, saysAt}
+use lib.ListN.{length, take, replicate, length-replicate}
+use Rattle.limits.specs.Questions.{ask, _▸_, firstNo}
+use Rattle.limits.proofs.Questions.{ask-no, stays, goes-on, join, both, says-yes, ▸-assoc, firstNo-append}
 use Rattle.words.specs.Store.{putWords}
 use Rattle.words.specs.Pieces.{wordsOf, pieces}
+use Rattle.allocator.specs.Slots.{Pair}
 use Rattle.expr.specs.Equation.{equationsAt}
 use Rattle.permutation.specs.Relation.{relationAsks}
 use Rattle.limits.specs.declared.Outcome.the-variants as outcome
 use Rattle.permutation.specs.declared.PermutationRelation.{PermutationRelation}
 use Rattle.instance.specs.Parts.{Parts, pairWords, partsOf}
-use Rattle.instance.specs.Validated.{gateAsks, gateNo}
+use Rattle.instance.specs.Validated.{gateNo}
 use Rattle.instance.proofs.Parts.{pairsAt-pairWords, pairsAt-take}
-use Rattle.compile.specs.Gate.{publicsFrom, publicsOf, publicsStore, instanceOf, refusedBy, compiledParts, storesAsks, soundAsks, preparedAsks, preparedNo, compileNo, compile, compilePublics}
+use Rattle.compile.specs.Gate.{GateLent, publicsOf, publicsStore, PutsPublics, instanceOf, refusedBy, compiledParts, storesAsks, soundAsks, preparedAsks, preparedNo, madeAsks, compileNo, compile, compilePublics}
 use Rattle.compile.proofs.Publics.{put-zeros}
 
 -- ---- the parts that the gate judges are those of the instance that it makes
@@ -37,106 +38,100 @@ module _ (rel : PermutationRelation) (slots queries equations : List ℕ) where
         equations = equationsAt (rel .equations) (take (rel .words) equations);
       }
 
--- ---- the questions in three parts
-pub prepared-by : (rel : PermutationRelation) (label slots queries equations : List ℕ) (publics scratch a b r : ℕ)
-    → a ≡ firstNo (relationAsks rel (length slots))
-    → b ≡ a ▸ firstNo (storesAsks rel (length label) (length queries) (length equations) publics scratch)
-    → r ≡ b ▸ firstNo (soundAsks rel label slots queries equations)
-    → r ≡ preparedNo rel label slots queries equations publics scratch
+-- ---- the questions in parts
+pub prepared-by : (l : GateLent) (a b r : ℕ) → a ≡ firstNo (relationAsks (l .relation) (length (l .slots)))
+    → b ≡ a ▸ firstNo (storesAsks (l .relation) (length (l .label)) (length (l .queries)) (length (l .equations)) (l .publics) (l .scratch))
+    → r ≡ b ▸ firstNo (soundAsks (l .relation) (l .label) (l .slots) (l .queries) (l .equations)) → r ≡ preparedNo l
 unfolding preparedNo
-prepared-by rel label slots queries equations publics scratch a b r ea eb er =
-    let relation = relationAsks rel (length slots) in
-    let stores = storesAsks rel (length label) (length queries) (length equations) publics scratch in
-    let sound = soundAsks rel label slots queries equations in
+prepared-by l a b r ea eb er =
+    let relation = relationAsks (l .relation) (length (l .slots)) in
+    let stores = storesAsks (l .relation) (length (l .label)) (length (l .queries)) (length (l .equations)) (l .publics) (l .scratch) in
+    let sound = soundAsks (l .relation) (l .label) (l .slots) (l .queries) (l .equations) in
     rw (er, eb, ea)
     (▸-assoc (firstNo relation) (firstNo stores) (firstNo sound)
     ∙ sym (firstNo-append relation (stores ++ sound) ∙ ap (λ (n : ℕ). firstNo relation ▸ n) (firstNo-append stores sound)))
 
 -- ---- the answer
-module _ (rel : PermutationRelation) (label slots queries equations publics scratch : List ℕ) where
-  abbrev pub prepares : ℕ
-  prepares = preparedNo rel label slots queries equations (length publics) (length scratch)
+module _ (l : GateLent) where
+  abbrev rel : PermutationRelation
+  rel = l .relation
 
-  abbrev pub gates : ℕ
-  gates = ask 10 (leb (2 * length (publicsOf rel slots)) (length publics)) ▸ gateNo (compiledParts rel slots queries equations) (length scratch)
+  abbrev ps : List Pair
+  ps = publicsOf rel (l .slots)
 
-  abbrev pub number : ℕ
-  number = compileNo rel label slots queries equations (length publics) (length scratch)
+  abbrev parts : Parts
+  parts = compiledParts rel (l .slots) (l .queries) (l .equations)
 
-  pub number-is : number ≡ prepares ▸ gates
+  -- 10, whether the store holds the publics
+  abbrev fits : Bool
+  fits = leb (2 * length ps) (l .publics)
+
+  -- 10, 16 and 12 to 15
+  abbrev pub madeNo : ℕ
+  madeNo = ask 10 fits ▸ gateNo parts (l .scratch)
+
+  pub compileNo-is : compileNo l ≡ preparedNo l ▸ madeNo
   unfolding compileNo preparedNo gateNo
-  number-is =
-      firstNo-append (preparedAsks rel label slots queries equations (length publics) (length scratch))
-      (question 10 (leb (2 * length (publicsOf rel slots)) (length publics)) ∷ gateAsks (compiledParts rel slots queries equations) (length scratch))
+  compileNo-is = firstNo-append (preparedAsks l) (madeAsks l)
 
-  -- ---- the answer and the publics, by the number: a refusal answers its number and leaves zeros
-  abbrev pub Refuses : ℕ → Type 0
-  Refuses k =
-      (refusedBy k ≡ compile rel label slots queries equations publics scratch)
-      × (replicate (length publics) 0 ≡ compilePublics rel label slots queries equations publics scratch)
+  -- ---- by the number: a refusal answers it and leaves zeros
+  pub record Refuses (k : ℕ) : Type 0 where
+    pub answer : refusedBy k ≡ compile l
+    pub publics : replicate (l .publics) 0 ≡ compilePublics l
 
-  refuses-by : (k : ℕ) → number ≡ k → (k ≡ 0 → ⊥) → Refuses k
+  refuses-by : (k : ℕ) → compileNo l ≡ k → (k ≡ 0 → ⊥) → Refuses k
   unfolding compile compilePublics
   refuses-by zero e h = absurd (h refl)
-  refuses-by (suc k) e h = (rw e, rw e)
+  refuses-by (suc k) e h = record { answer = rw e; publics = rw e }
 
-  pub refuses-first : (k : ℕ) → k ≡ prepares → (k ≡ 0 → ⊥) → Refuses k
-  refuses-first k e h = refuses-by k (number-is ∙ ap (λ (n : ℕ). n ▸ gates) (sym e) ∙ stays k gates h) h
+  module _ (first : ℕ) (e : first ≡ preparedNo l) where
+    pub refuses-first : (first ≡ 0 → ⊥) → Refuses first
+    refuses-first h = refuses-by first (compileNo-is ∙ ap (λ (n : ℕ). n ▸ madeNo) (sym e) ∙ stays first madeNo h) h
 
-  module _ (z : prepares ≡ 0) where
-    -- each question said yes
-    asked : (i : ℕ) → saysAt (preparedAsks rel label slots queries equations (length publics) (length scratch)) i ≡ true
-    unfolding preparedNo
-    asked i = accepted-says (preparedAsks rel label slots queries equations (length publics) (length scratch)) tt z i
-
-    -- there are at most 2^30 wires
-    pub vars-fit : rel .vars ≤ 1073741824
-    vars-fit = leb-true _ _ (asked 4)
-
-    -- the count and the store that the gate makes, and what 10, 16 and 12 to 15 answer on them
-    module _ (count : ℕ) (store : List ℕ) (k : ℕ)
-        (c : count ≡ length (publicsFrom 0 (take (rel .vars) slots)))
-        (s : 2 * length (publicsFrom 0 (take (rel .vars) slots)) ≤ length publics
-        → store ≡ putWords 0 (pairWords (publicsFrom 0 (take (rel .vars) slots))) (replicate (length publics) 0))
-        (e : k ≡ ask 10 (leb (2 * count) (length publics)) ▸ gateNo (partsOf (instanceOf rel count) store queries equations) (length scratch)) where
-      count-is : count ≡ length (publicsOf rel slots)
+    -- the questions before said yes; then the count and the store that the gate makes, and what 10, 16 and 12 to 15
+    -- answer on them
+    module _ (z : first ≡ 0) (zeros : List ℕ) (o : zeros ≡ replicate (l .publics) 0) (count : ℕ) (store : List ℕ)
+        (made : PutsPublics (take (rel .vars) (l .slots)) zeros count store) (k : ℕ)
+        (g : k ≡ ask 10 (leb (2 * count) (l .publics)) ▸ gateNo (partsOf (instanceOf rel count) store (l .queries) (l .equations)) (l .scratch)) where
+      count-is : count ≡ length ps
       unfolding publicsOf
-      count-is = c
+      count-is = made .count
 
-      abbrev fits : Bool
-      fits = leb (2 * length (publicsOf rel slots)) (length publics)
-
-      store-is : fits ≡ true → store ≡ publicsStore (length publics) (publicsOf rel slots)
+      store-is : fits ≡ true → store ≡ publicsStore (l .publics) ps
       unfolding publicsOf
-      store-is h = s (leb-true _ _ h) ∙ put-zeros (length publics) (publicsFrom 0 (take (rel .vars) slots))
+      store-is h =
+          let n : length zeros ≡ l .publics = ap length o ∙ length-replicate _ _ in
+          made .stored (rw n (leb-true _ _ h)) ∙ ap (putWords 0 (pairWords ps)) o ∙ put-zeros (l .publics) ps
 
       -- the parts of that store are asked only where it holds the publics
       gate-of : (b : Bool) → fits ≡ b
-          → ask 10 b ▸ gateNo (partsOf (instanceOf rel (length (publicsOf rel slots))) store queries equations) (length scratch)
-          ≡ ask 10 b ▸ gateNo (compiledParts rel slots queries equations) (length scratch)
+          → ask 10 b ▸ gateNo (partsOf (instanceOf rel (length ps)) store (l .queries) (l .equations)) (l .scratch)
+          ≡ ask 10 b ▸ gateNo parts (l .scratch)
       gate-of true h =
-          ap (λ (p : Parts). ask 10 true ▸ gateNo p (length scratch))
-          (ap (λ (l : List ℕ). partsOf (instanceOf rel (length (publicsOf rel slots))) l queries equations) (store-is h)
-          ∙ compiled-parts rel slots queries equations (length publics))
+          ap (λ (p : Parts). ask 10 true ▸ gateNo p (l .scratch))
+          (ap (λ (s : List ℕ). partsOf (instanceOf rel (length ps)) s (l .queries) (l .equations)) (store-is h)
+          ∙ compiled-parts rel (l .slots) (l .queries) (l .equations) (l .publics))
       gate-of false h = ten _ ∙ sym (ten _)
         where
           ten : (rest : ℕ) → ask 10 false ▸ rest ≡ 10
           ten rest = ap (λ (n : ℕ). n ▸ rest) (ask-no 10 false refl) ∙ stays 10 rest (λ z. omega arith)
 
-      gate-is : k ≡ gates
-      gate-is =
-          e
-          ∙ ap (λ (n : ℕ). ask 10 (leb (2 * n) (length publics)) ▸ gateNo (partsOf (instanceOf rel n) store queries equations) (length scratch)) count-is
+      made-is : k ≡ madeNo
+      made-is =
+          g
+          ∙ ap (λ (n : ℕ). ask 10 (leb (2 * n) (l .publics)) ▸ gateNo (partsOf (instanceOf rel n) store (l .queries) (l .equations)) (l .scratch)) count-is
           ∙ gate-of fits refl
 
-      pub refuses-gate : (k ≡ 0 → ⊥) → Refuses k
-      refuses-gate h = refuses-by k (number-is ∙ goes-on prepares gates z ∙ sym gate-is) h
+      pub refuses-made : (k ≡ 0 → ⊥) → Refuses k
+      refuses-made h = refuses-by k (compileNo-is ∙ goes-on (preparedNo l) madeNo (sym e ∙ z) ∙ sym made-is) h
 
-      pub accepts : k ≡ 0
-          → (record { outcome = outcome.Accepted; instance = instanceOf rel count } ≡ compile rel label slots queries equations publics scratch)
-          × (store ≡ compilePublics rel label slots queries equations publics scratch)
+      pub record Accepts : Type 0 where
+        pub answer : record { outcome = outcome.Accepted; instance = instanceOf rel count } ≡ compile l
+        pub publics : store ≡ compilePublics l
+
+      pub accepts : k ≡ 0 → Accepts
       unfolding compile compilePublics
-      accepts g =
-          let n : number ≡ 0 = number-is ∙ join prepares gates z (sym gate-is ∙ g) in
-          let f : fits ≡ true = says-yes 9 _ (both _ _ (sym gate-is ∙ g) .0) in
-          (rw (n, count-is), rw n (store-is f))
+      accepts y =
+          let n : compileNo l ≡ 0 = compileNo-is ∙ join (preparedNo l) madeNo (sym e ∙ z) (sym made-is ∙ y) in
+          let f : fits ≡ true = says-yes 9 _ (both _ _ (sym made-is ∙ y) .0) in
+          record { answer = rw (n, count-is); publics = rw n (store-is f) }

@@ -20,9 +20,9 @@ use Rattle.instance.specs.Parts.{pairVars, pairValues}
 use Rattle.instance.specs.Held.{publicsSound}
 use Rattle.instance.proofs.Parts.{pairsAt-pairWords, pairsAt-take}
 use Rattle.instance.proofs.Facts.{Below, SoundSlot, facts-allBelow}
-use Rattle.compile.specs.Gate.{publicsFrom, publicsOf, publicsStore}
+use Rattle.compile.specs.Gate.{GateLent, publicsFrom, publicsOf, publicsStore}
 use Rattle.compile.proofs.Publics.{take-few}
-use Rattle.compile.proofs.Facts.{Compiles}
+use Rattle.compile.proofs.Facts.{Prepared}
 
 -- ---- the wires strictly increase, from a lowest one on
 abbrev pub Rising : ℕ → List Pair → Type 0
@@ -83,15 +83,17 @@ unfolding publicsOf
 publicsOf-values rel slots a = publicsFrom-values 0 (take (rel .vars) slots) a
 
 -- ---- what the gate let through passes 2 and 11 as an instance, in a store of any sound length
-module _ (rel : PermutationRelation) (label slots queries equations : List ℕ) (publics scratch : ℕ)
-    (c : Compiles rel label slots queries equations publics scratch) where
-  abbrev ps : List Pair
-  ps = publicsOf rel slots
+module _ (l : GateLent) (p : Prepared l) where
+  abbrev rel : PermutationRelation
+  rel = l .relation
 
-  pub publics-sound : publicsSound (length ps) (take (2 * length ps) (publicsStore publics ps)) ≡ true
+  abbrev ps : List Pair
+  ps = publicsOf rel (l .slots)
+
+  pub publics-sound : publicsSound (length ps) (take (2 * length ps) (publicsStore (l .publics) ps)) ≡ true
   unfolding publicsSound
   publics-sound =
-      let e = pairsAt-take (length ps) (publicsStore publics ps) ∙ pairsAt-pairWords ps (replicate (publics - 2 * length ps) 0) in
-      let a = facts-allBelow maxCount (pairVars ps) (within (rel .vars) maxCount (pairVars ps) (c .vars-high) (publicsOf-below rel slots)) in
-      let b = facts-allBelow prime (pairValues ps) (publicsOf-values rel slots (c .slots-sound)) in
+      let e = pairsAt-take (length ps) (publicsStore (l .publics) ps) ∙ pairsAt-pairWords ps (replicate (l .publics - 2 * length ps) 0) in
+      let a = facts-allBelow maxCount (pairVars ps) (within (rel .vars) maxCount (pairVars ps) (p .relation .vars-high) (publicsOf-below rel (l .slots))) in
+      let b = facts-allBelow prime (pairValues ps) (publicsOf-values rel (l .slots) (p .sound .slots-sound)) in
       rw (e, a, b)

@@ -1,13 +1,14 @@
 -- The gate (the source's `compile`): its questions, the publics that it makes, and its answer.
 -- Assumes nothing.
-use Prim.Native.Nat.{ℕ, suc, _+_, _*_, _-_}
+use Prim.Native.Nat.{ℕ, suc, _+_, _*_, _-_, _≤_}
+use mathlib.Core.Path.{_≡_}
 use mathlib.Core.List.{List, [], _∷_, _++_}
 use lib.Dec.{eqb, leb}
 use lib.ListN.{length, take, replicate}
 use Rattle.limits.specs.Numbers.{maxCount, unassigned}
 use Rattle.limits.specs.Questions.{Question, question, firstNo, pick, onYes}
 use Rattle.limits.specs.Asks.{storeAsks}
-use Rattle.words.specs.Store.{allBelow}
+use Rattle.words.specs.Store.{allBelow, putWords}
 use Rattle.words.specs.Pieces.{wordsOf, pieces}
 use Rattle.utf8.specs.Utf8.{isUtf8}
 use Rattle.allocator.specs.Slots.{Pair, pair}
@@ -23,6 +24,31 @@ use Rattle.instance.specs.Looks.{noInstance}
 use Rattle.instance.specs.declared.PermutationInstance.{PermutationInstance}
 use Rattle.compile.specs.declared.Compiled.{Compiled}
 
+-- what the gate is lent: the relation's record, what the label and the stores that it reads hold, and how long the
+-- stores are that it writes
+pub record GateLent : Type 0 where
+  pub relation : PermutationRelation
+  pub label : List ℕ
+  pub slots : List ℕ
+  pub queries : List ℕ
+  pub equations : List ℕ
+  pub publics : ℕ
+  pub scratch : ℕ
+
+-- these, put together
+abbrev pub gateLent : PermutationRelation → (label slots queries equations : List ℕ) → (publics scratch : ℕ) → GateLent
+gateLent rel label slots queries equations publics scratch =
+    record {
+      relation = rel;
+      label = label;
+      slots = slots;
+      queries = queries;
+      equations = equations;
+      publics = publics;
+      scratch = scratch;
+    }
+
+-- ---- the publics that it makes
 -- the assigned wires in index order, with their units; the first slot is that of wire i
 abbrev pub publicsFrom : ℕ → List ℕ → List Pair
 publicsFrom i [] = []
@@ -49,6 +75,7 @@ instanceOf rel publics =
 abbrev pub publicsStore : ℕ → List Pair → List ℕ
 publicsStore len ps = pairWords ps ++ replicate (len - 2 * length ps) 0
 
+-- ---- its questions
 -- the parts that the gate judges: publics from the slots, queries and equations as held
 unfoldable pub compiledParts : PermutationRelation → (slots queries equations : List ℕ) → Parts
 compiledParts rel slots queries equations =
@@ -75,40 +102,57 @@ soundAsks rel label slots queries equations =
     ∷ []
 
 -- 1, 2, 11: what is asked before the publics are made
-abbrev pub preparedAsks : PermutationRelation → (label slots queries equations : List ℕ) → (publics scratch : ℕ) → List Question
-preparedAsks rel label slots queries equations publics scratch =
-    relationAsks rel (length slots)
-    ++ (storesAsks rel (length label) (length queries) (length equations) publics scratch
-    ++ soundAsks rel label slots queries equations)
+abbrev pub preparedAsks : GateLent → List Question
+preparedAsks l =
+    relationAsks (l .relation) (length (l .slots))
+    ++ (storesAsks (l .relation) (length (l .label)) (length (l .queries)) (length (l .equations)) (l .publics) (l .scratch)
+    ++ soundAsks (l .relation) (l .label) (l .slots) (l .queries) (l .equations))
 
 -- their first no, or 0
-unfoldable pub preparedNo : PermutationRelation → (label slots queries equations : List ℕ) → (publics scratch : ℕ) → ℕ
-preparedNo rel label slots queries equations publics scratch =
-    firstNo (preparedAsks rel label slots queries equations publics scratch)
+unfoldable pub preparedNo : GateLent → ℕ
+preparedNo l = firstNo (preparedAsks l)
 
 -- then 10, whether the store holds the publics, and 16 and 12 to 15 of the parts
-abbrev pub compileAsks : PermutationRelation → (label slots queries equations : List ℕ) → (publics scratch : ℕ) → List Question
-compileAsks rel label slots queries equations publics scratch =
-    preparedAsks rel label slots queries equations publics scratch
-    ++ (question 10 (leb (2 * length (publicsOf rel slots)) publics) ∷ gateAsks (compiledParts rel slots queries equations) scratch)
+abbrev pub madeAsks : GateLent → List Question
+madeAsks l =
+    question 10 (leb (2 * length (publicsOf (l .relation) (l .slots))) (l .publics))
+    ∷ gateAsks (compiledParts (l .relation) (l .slots) (l .queries) (l .equations)) (l .scratch)
+
+-- all of the gate's questions: 1, 2, 11, 10, 16, 12 to 15
+abbrev pub compileAsks : GateLent → List Question
+compileAsks l = preparedAsks l ++ madeAsks l
 
 -- the number of the gate: its first no, or 0
-unfoldable pub compileNo : PermutationRelation → (label slots queries equations : List ℕ) → (publics scratch : ℕ) → ℕ
-compileNo rel label slots queries equations publics scratch =
-    firstNo (compileAsks rel label slots queries equations publics scratch)
+unfoldable pub compileNo : GateLent → ℕ
+compileNo l = firstNo (compileAsks l)
 
+-- ---- its answer, and what it leaves
 -- a refused gate's answer
 abbrev pub refusedBy : ℕ → Compiled
 refusedBy k = record { outcome = outcome.Refused k; instance = noInstance }
 
 -- the answer: the outcome, and the instance or zeros
-unfoldable pub compile : PermutationRelation → (label slots queries equations publics scratch : List ℕ) → Compiled
-compile rel label slots queries equations publics scratch =
-    let k = compileNo rel label slots queries equations (length publics) (length scratch) in
-    record { outcome = outcomeOf k; instance = onYes k (instanceOf rel (length (publicsOf rel slots))) noInstance }
+unfoldable pub compile : GateLent → Compiled
+compile l =
+    record {
+      outcome = outcomeOf (compileNo l);
+      instance = onYes (compileNo l) (instanceOf (l .relation) (length (publicsOf (l .relation) (l .slots)))) noInstance;
+    }
 
 -- publics: all 0 where the gate refuses
-unfoldable pub compilePublics : PermutationRelation → (label slots queries equations publics scratch : List ℕ) → List ℕ
-compilePublics rel label slots queries equations publics scratch =
-    onYes (compileNo rel label slots queries equations (length publics) (length scratch))
-    (publicsStore (length publics) (publicsOf rel slots)) (replicate (length publics) 0)
+unfoldable pub compilePublics : GateLent → List ℕ
+compilePublics l =
+    onYes (compileNo l) (publicsStore (l .publics) (publicsOf (l .relation) (l .slots))) (replicate (l .publics) 0)
+
+-- what a call of the gate ensures whose answer has the form `told`: the answer, and publics and scratch as it leaves
+-- them
+pub record Compiles {A : Type 0} (told : Compiled → A) (l : GateLent) (r : A) (publicsLeft scratchLeft : List ℕ) : Type 0 where
+  pub answer : r ≡ told (compile l)
+  pub publics : publicsLeft ≡ compilePublics l
+  pub scratch : scratchLeft ≡ replicate (l .scratch) 0
+
+-- ---- what `put_publics`, a private function, ensures: how many the publics are, and where the store holds them, that
+-- they stand at its front
+pub record PutsPublics (slots out : List ℕ) (n : ℕ) (left : List ℕ) : Type 0 where
+  pub count : n ≡ length (publicsFrom 0 slots)
+  pub stored : 2 * length (publicsFrom 0 slots) ≤ length out → left ≡ putWords 0 (pairWords (publicsFrom 0 slots)) out

@@ -4,13 +4,13 @@
 // instance 16 and 12 to 15, as a read asks them. Every open function answers on every input.
 
 ghost use mathlib.Core.Path.{_≡_};
-ghost use Prim.Native.Nat.{_*_, _≤_, _<_};
-ghost use lib.ListN.{length, replicate};
+ghost use Prim.Native.Nat.{_≤_};
+ghost use lib.ListN.{length};
+ghost use Rattle.limits.specs.Numbers.{maxCount};
 ghost use Rattle.limits.specs.Questions.{_▸_, firstNo};
-ghost use Rattle.words.specs.Store.{putWords};
-ghost use Rattle.instance.specs.Parts.{pairWords};
-ghost use Rattle.compile.specs.Gate.{publicsFrom, storesAsks, soundAsks, preparedNo, refusedBy, compile, compilePublics};
+ghost use Rattle.compile.specs.Gate.{gateLent, PutsPublics, storesAsks, soundAsks, preparedNo, refusedBy, Compiles};
 use instance::PermutationInstance;
+use limits::LABEL_END;
 use limits::MAX_COUNT;
 use limits::Outcome;
 use limits::UNASSIGNED;
@@ -25,8 +25,8 @@ pub struct Compiled {
 // The assigned wires in index order, with their units, at the front of the store where it holds them; and how
 // many they are. A store that is too short has only the first of them.
 fn put_publics(out: &mut [u32], slots: &[u32]) -> u32
-    requires { ⌜ length (now slots) < 4294967296 ⌝ }
-    ensures { λ r. ⌜ (r ≡ length (publicsFrom 0 (now (slots .entry)))) × (2 * length (publicsFrom 0 (now (slots .entry))) ≤ length (now (out .entry)) → now (out .exit) ≡ putWords 0 (pairWords (publicsFrom 0 (now (slots .entry)))) (now (out .entry))) ⌝ }
+    requires { ⌜ length (now slots) ≤ maxCount ⌝ }
+    ensures { λ r. ⌜ PutsPublics (now (slots .entry)) (now (out .entry)) r (now (out .exit)) ⌝ }
 {
     let mut n: u32 = 0;
     let mut to: usize = 0;
@@ -67,7 +67,7 @@ fn asked_stores(
     let e = limits::asked(d, 2 * count as usize <= equations, 2);
     let f = limits::asked_store(e, publics);
     let g = limits::asked_store(f, scratch);
-    limits::asked(g, label < 4294967296, 2)
+    limits::asked(g, label < LABEL_END, 2)
 }
 
 // 11 of the gate, after the answer so far.
@@ -108,7 +108,8 @@ fn prepared(
     publics: usize,
     scratch: usize,
 ) -> u32
-    ensures { λ r. ⌜ r ≡ preparedNo rel (now (label .entry)) (now (slots .entry)) (now (queries .entry)) (now (equations .entry)) publics scratch ⌝ }
+    ensures { λ r. ⌜ r ≡ preparedNo (gateLent rel (now (label .entry)) (now (slots .entry)) (now (queries .entry)) (now (equations .entry))
+        publics scratch) ⌝ }
 {
     let a = permutation::asked_relation(rel.width, rel.vars, slots.len());
     let b = asked_stores(
@@ -151,9 +152,8 @@ pub fn compile(
     publics: &mut [u32],
     scratch: &mut [u32],
 ) -> Compiled
-    ensures { λ r. ⌜ (r ≡ compile rel (now (label .entry)) (now (slots .entry)) (now (queries .entry)) (now (equations .entry)) (now (publics .entry)) (now (scratch .entry)))
-        × (now (publics .exit) ≡ compilePublics rel (now (label .entry)) (now (slots .entry)) (now (queries .entry)) (now (equations .entry)) (now (publics .entry)) (now (scratch .entry)))
-        × (now (scratch .exit) ≡ replicate (length (now (scratch .entry))) 0) ⌝ }
+    ensures { λ r. ⌜ Compiles (λ c. c) (gateLent rel (now (label .entry)) (now (slots .entry)) (now (queries .entry)) (now (equations .entry))
+        (length (now (publics .entry))) (length (now (scratch .entry)))) r (now (publics .exit)) (now (scratch .exit)) ⌝ }
 {
     words::fill(publics, 0);
     let first = prepared(

@@ -1,34 +1,32 @@
--- An instance in stores and in bytes: the parts that sound stores hold have the bytes of the held words; and
--- those that were read and stored are held again. Assumes nothing.
+-- An instance in stores and in bytes: the parts that sound stores hold have the bytes of the held words. Assumes nothing.
 use Prim.Native.Nat.{ℕ, zero, suc, _+_, _*_, _≤_, _<_}
 use mathlib.Core.Path.{_≡_, refl, sym, ap, ap₂, _∙_}
-use mathlib.Core.Bool.{Bool, true, false, _&&_}
 use mathlib.Core.List.{List, [], _∷_, _++_, append-assoc}
 use native.Mathlib.Omega.{arith}
-use borrow.Author.Tests.{leb-true, ltb-true, eqb-true}
-use lib.Dec.{leb, ltb}
+use borrow.Author.Tests.{leb-true}
+use lib.Dec.{leb}
 use lib.ListN.{length, take, drop, length-append, length-drop, length-take, take-append-drop}
 use lib.Seq.{take-suc, length-take-le}
 use Rattle.limits.specs.Numbers.{maxCount, labelEnd}
-use Rattle.limits.specs.Questions.{ask, _▸_, Question, question, firstNo}
-use Rattle.limits.specs.Asks.{widthAsks}
-use Rattle.limits.proofs.Questions.{both, ▸-zero, zero-▸, ▸-assoc, firstNo-append, accepted-says}
+use Rattle.limits.specs.Questions.{ask, Question, question, firstNo}
+use Rattle.limits.proofs.Questions.{both, ▸-zero, firstNo-append, accepted-says}
 use Rattle.words.specs.Store.{putWords, fitWords}
 use Rattle.words.specs.Pieces.{wordsOf, pieces}
 use Rattle.narg.specs.Bytes.{u32Bytes}
-use Rattle.narg.specs.Reader.{each}
 use Rattle.narg.proofs.Fields.{length-u32Bytes}
 use Rattle.narg.proofs.Words.{length-words}
 use Rattle.expr.specs.Equation.{termWords, equationWords, equationsWords, termsAt, equationAt, sizeAt, equationsAt, equationsEnd}
 use Rattle.instance.specs.Parts.{pairWords, pairsAt, heldPublics, heldQueries, heldEquations, partsOf}
-use Rattle.instance.specs.Held.{partsAsks, heldAsks, equationsSound}
+use Rattle.instance.specs.Held.{instanceAsks}
 use Rattle.instance.specs.declared.PermutationInstance.{PermutationInstance}
 use Rattle.instance.proofs.Parts.{flat-held}
+use Rattle.instance.proofs.Facts.{InstanceSound, instanceAsks-yes}
 use Rattle.header.specs.Form.{letterI, version, headerBytes}
-use Rattle.encoding.specs.Form.{labelBytes, instanceBytes, heldBytes}
-use Rattle.encoding.specs.Answers.{instanceToBytes, instanceAsks, instanceToBytesNo}
-use Rattle.encoding.proofs.Length.{length-header, publics-bytes, pieces-bytes, equations-bytes}
-use Rattle.encoding.proofs.Stored.{fit-append, put-next, length-pieces}
+use Rattle.encoding.specs.Form.{headerLength, labelBytes, instanceBytes}
+use Rattle.encoding.specs.Answers.{instanceToBytes, instanceToBytesNo}
+use Rattle.encoding.specs.Put.{listBytes, heldBytes, heldLength, HeldFits, PutsAt}
+use Rattle.encoding.proofs.Length.{length-header, length-labelBytes, length-listBytes, publics-bytes, pieces-bytes, equations-bytes}
+use Rattle.encoding.proofs.Stored.{put-then, put-length, put-word, asks-stay, asks-go, length-pieces}
 
 -- ---- the words of parts that words hold
 pairs-words : (n : ℕ) (s : List ℕ) → length s ≡ 2 * n → pairWords (pairsAt n s) ≡ s
@@ -73,11 +71,14 @@ length-equationsAt : (m : ℕ) (s : List ℕ) → length (equationsAt m s) ≡ m
 length-equationsAt zero s = refl
 length-equationsAt (suc m) s = ap suc (length-equationsAt m (drop (sizeAt s) s))
 
-first-true : (a b : Bool) → (a && b) ≡ true → a ≡ true
-first-true true b e = refl
-first-true false b e = e
+-- ---- the bytes of the parts are those of the held words
+-- no list is longer than 2^30, and the label's length is a word
+pub record Few (label publics queries equations : List ℕ) : Type 0 where
+  pub label-short : length label < labelEnd
+  pub publics-few : length publics ≤ maxCount
+  pub queries-few : length queries ≤ maxCount
+  pub equations-few : length equations ≤ maxCount
 
--- ---- written
 module _ (ins : PermutationInstance) (label publics queries equations : List ℕ) where
   abbrev hp : List ℕ
   hp = heldPublics ins publics
@@ -88,127 +89,99 @@ module _ (ins : PermutationInstance) (label publics queries equations : List ℕ
   abbrev he : List ℕ
   he = heldEquations ins equations
 
-  held-bytes : 2 * ins .publics ≤ length publics → equationsEnd (ins .equations) he ≡ length he
-      → instanceToBytes ins label publics queries equations ≡ heldBytes version ins label hp hq he
-  unfolding instanceBytes heldBytes partsOf
-  held-bytes h e =
-      let ps = pairsAt (ins .publics) hp in
-      let qs = pieces (ins .width + ins .width) (ins .queries) hq in
-      let es = equationsAt (ins .equations) he in
-      rw (
-        length-pairsAt (ins .publics) hp,
-        publics-bytes ps,
-        pairs-words (ins .publics) hp (length-take-le (2 * ins .publics) publics h),
-        length-pieces (ins .width + ins .width) (ins .queries) hq,
-        pieces-bytes qs,
-        flat-held (ins .width) (ins .queries) queries,
-        length-equationsAt (ins .equations) he,
-        equations-bytes es,
-        equations-taken (ins .equations) he e,
-      )
+  -- where 1, 2 and 11 say yes
+  module _ (s : InstanceSound ins label publics queries equations) where
+    pub instanceToBytes-held : instanceToBytes ins label publics queries equations ≡ heldBytes version ins label hp hq he
+    unfolding instanceBytes heldBytes partsOf
+    instanceToBytes-held =
+        let ps = pairsAt (ins .publics) hp in
+        let qs = pieces (ins .width + ins .width) (ins .queries) hq in
+        let es = equationsAt (ins .equations) he in
+        rw (
+          length-pairsAt (ins .publics) hp,
+          publics-bytes ps,
+          pairs-words (ins .publics) hp (length-take-le (2 * ins .publics) publics (s .parts .publics-held)),
+          length-pieces (ins .width + ins .width) (ins .queries) hq,
+          pieces-bytes qs,
+          flat-held (ins .width) (ins .queries) queries,
+          length-equationsAt (ins .equations) he,
+          equations-bytes es,
+          equations-taken (ins .equations) he (s .held .ends),
+        )
+        (simp append-assoc)
 
-  abbrev pub heldLength : ℕ
-  heldLength = 33 + length label + 4 * (length hp + length hq + length he)
+    pub instanceToBytes-length : length (instanceToBytes ins label publics queries equations) ≡ heldLength label hp hq he
+    unfolding heldBytes
+    instanceToBytes-length =
+        let a = length-header letterI version (ins .width) in
+        let p = length-words hp in
+        let q = length-words hq in
+        let e = length-words he in
+        ap length instanceToBytes-held ∙ simp (length-append, length-u32Bytes) (omega arith)
 
-  length-held : length (heldBytes version ins label hp hq he) ≡ heldLength
-  unfolding heldBytes
-  length-held =
-      let a = length-header letterI version (ins .width) in
-      let p = length-words hp in
-      let q = length-words hq in
-      let e = length-words he in
-      simp (length-append, length-u32Bytes) (omega arith)
+    pub few : Few label hp hq he
+    few =
+        let a = s .parts in
+        let p = length-take (2 * ins .publics) publics in
+        let q = length-take (wordsOf (ins .width) (ins .queries)) queries in
+        let r = length-take (ins .words) equations in
+        record { label-short = s .label-high; publics-few = omega arith; queries-few = omega arith; equations-few = omega arith }
 
-  -- the code's chain of questions is the list
-  pub asks-no : (a b c d : ℕ) → a ≡ 0 ▸ firstNo (widthAsks (ins .width)) → b ≡ a ▸ firstNo (partsAsks ins (length publics) (length queries) (length equations))
-      → c ≡ b ▸ ask 2 (ltb (length label) labelEnd) → d ≡ c ▸ firstNo (heldAsks ins label publics queries equations)
-      → d ≡ firstNo (instanceAsks ins label publics queries equations)
-  asks-no a b c d ea eb ec ed = rw (ed, ec, eb, ea) (simp (▸-assoc, zero-▸, ▸-zero))
+  -- 10, by the held words
+  abbrev roomAsk : ℕ → List Question
+  roomAsk room = question 10 (leb (length (instanceToBytes ins label publics queries equations)) room) ∷ []
 
-  -- what held parts that nothing says no to are like
-  pub record Good : Type 0 where
-    pub publicsFit : 2 * ins .publics ≤ length publics
-    pub ends : equationsEnd (ins .equations) he ≡ length he
-    pub labelFits : length label < labelEnd
-    pub publicsLength : length hp ≤ maxCount
-    pub queriesLength : length hq ≤ maxCount
-    pub equationsLength : length he ≤ maxCount
+  module _ (room no : ℕ) (e : no ≡ firstNo (instanceAsks ins label publics queries equations)) where
+    pub instanceToBytes-first : (no ≡ 0 → ⊥) → no ≡ instanceToBytesNo ins label publics queries equations room
+    unfolding instanceToBytesNo
+    instanceToBytes-first h = asks-stay (instanceAsks ins label publics queries equations) (roomAsk room) no e h
 
-  pub good : firstNo (instanceAsks ins label publics queries equations) ≡ 0 → Good
-  unfolding equationsSound
-  good e =
-      let says = accepted-says (instanceAsks ins label publics queries equations) tt e in
-      let a = leb-true (length publics) maxCount (says 2) in
-      let b = leb-true (length queries) maxCount (says 3) in
-      let c = leb-true (length equations) maxCount (says 4) in
-      let f = leb-true (2 * ins .publics) (length publics) (says 5) in
-      let l = ltb-true (length label) labelEnd (says 9) in
-      let p = length-take (2 * ins .publics) publics in
-      let q = length-take (wordsOf (ins .width) (ins .queries)) queries in
-      let r = length-take (ins .words) equations in
-      record {
-        publicsFit = f;
-        ends = eqb-true (equationsEnd (ins .equations) he) (length he) (first-true _ _ (says 10));
-        labelFits = l;
-        publicsLength = omega arith;
-        queriesLength = omega arith;
-        equationsLength = omega arith;
-      }
+    pub instanceToBytes-then : no ≡ 0 → (r : ℕ) → r ≡ ask 10 (leb (heldLength label hp hq he) room)
+        → r ≡ instanceToBytesNo ins label publics queries equations room
+    unfolding instanceToBytesNo
+    instanceToBytes-then z r f =
+        let s = instanceAsks-yes ins label publics queries equations (sym e ∙ z) in
+        asks-go (instanceAsks ins label publics queries equations) (roomAsk room) no e z r
+        (f ∙ ap (λ (n : ℕ). ask 10 (leb n room)) (sym (instanceToBytes-length s)) ∙ sym (▸-zero _))
 
-  pub instance-bytes : Good → instanceToBytes ins label publics queries equations ≡ heldBytes version ins label hp hq he
-  instance-bytes g = held-bytes (g .publicsFit) (g .ends)
+  -- an accepted write: the output holds the bytes
+  pub record Fits (room : ℕ) : Type 0 where
+    pub sound : InstanceSound ins label publics queries equations
+    pub room-held : heldLength label hp hq he ≤ room
 
-  pub instance-length : Good → length (instanceToBytes ins label publics queries equations) ≡ heldLength
-  instance-length g = ap length (instance-bytes g) ∙ length-held
-
-  -- 10 asked by the held words
-  abbrev pub instanceRoomAsk : ℕ → List Question
-  instanceRoomAsk room = question 10 (leb (length (instanceToBytes ins label publics queries equations)) room) ∷ []
-
-  pub instance-room : Good → (room r : ℕ) → r ≡ ask 10 (leb heldLength room) → r ≡ firstNo (instanceRoomAsk room)
-  instance-room g room r e =
-      e ∙ ap (λ (n : ℕ). ask 10 (leb n room)) (sym (instance-length g)) ∙ sym (▸-zero (ask 10 (leb (length (instanceToBytes ins label publics queries equations)) room)))
-
-  pub instance-fits : (room : ℕ) → instanceToBytesNo ins label publics queries equations room ≡ 0 → Good × (heldLength ≤ room)
+  pub instanceToBytes-yes : (room : ℕ) → instanceToBytesNo ins label publics queries equations room ≡ 0 → Fits room
   unfolding instanceToBytesNo
-  instance-fits room e =
-      let z = both _ _ (sym (firstNo-append (instanceAsks ins label publics queries equations) (instanceRoomAsk room)) ∙ e) in
-      let g = good (z .0) in
-      let a = leb-true (length (instanceToBytes ins label publics queries equations)) room (accepted-says (instanceRoomAsk room) tt (z .1) 0) in
-      let l = instance-length g in
-      (g, omega arith)
+  instanceToBytes-yes room e =
+      let z = both _ _ (sym (firstNo-append (instanceAsks ins label publics queries equations) (roomAsk room)) ∙ e) in
+      let s = instanceAsks-yes ins label publics queries equations (z .0) in
+      let a = leb-true (length (instanceToBytes ins label publics queries equations)) room (accepted-says (roomAsk room) tt (z .1) 0) in
+      let l = instanceToBytes-length s in
+      record { sound = s; room-held = omega arith }
 
--- header, label, wire count and lists stored one after the other
-module _ (ins : PermutationInstance) (label publics queries equations out : List ℕ) where
-  abbrev listAt : ℕ → List ℕ → List ℕ
-  listAt n words = u32Bytes n ++ each u32Bytes words
-
-  pub held-stored : 33 + length label + 4 * (length publics + length queries + length equations) ≤ length out
-      → (o1 o2 o3 o4 o5 o6 : List ℕ) (a3 a4 a5 a6 : ℕ) → o1 ≡ putWords 0 (headerBytes letterI version (ins .width)) out
-      → o2 ≡ putWords 13 (labelBytes label) o1 → o3 ≡ fitWords a3 (u32Bytes (ins .vars)) o2 → o4 ≡ putWords a4 (listAt (ins .publics) publics) o3
-      → o5 ≡ putWords a5 (listAt (ins .queries) queries) o4 → o6 ≡ putWords a6 (listAt (ins .equations) equations) o5
-      → a3 ≡ 17 + length label → a4 ≡ 21 + length label → a5 ≡ 25 + length label + 4 * length publics
-      → a6 ≡ 29 + length label + 4 * length publics + 4 * length queries
-      → o6 ≡ putWords 0 (heldBytes version ins label publics queries equations) out
+-- ---- header, label, wire count and lists written one after the other
+module _ (ins : PermutationInstance) (label publics queries equations out : List ℕ) (f : HeldFits label publics queries equations out)
+    {a b c d : ℕ} {o1 o2 o3 o4 o5 o6 : List ℕ} where
+  pub held-put : o1 ≡ putWords 0 (headerBytes letterI version (ins .width)) out → PutsAt headerLength (labelBytes label) o1 a o2
+      → o3 ≡ fitWords a (u32Bytes (ins .vars)) o2 → PutsAt (a + 4) (listBytes (ins .publics) publics) o3 b o4
+      → PutsAt b (listBytes (ins .queries) queries) o4 c o5 → PutsAt c (listBytes (ins .equations) equations) o5 d o6
+      → PutsAt 0 (heldBytes version ins label publics queries equations) out d o6
   unfolding heldBytes
-  held-stored h o1 o2 o3 o4 o5 o6 a3 a4 a5 a6 e1 e2 e3 e4 e5 e6 i3 i4 i5 i6 =
-      let f1 = headerBytes letterI version (ins .width) in
-      let f2 = f1 ++ labelBytes label in
-      let f3 = f2 ++ u32Bytes (ins .vars) in
-      let f4 = f3 ++ listAt (ins .publics) publics in
-      let f5 = f4 ++ listAt (ins .queries) queries in
-      let l1 : length f1 ≡ 13 = length-header letterI version (ins .width) in
-      let l2 : length f2 ≡ 17 + length label = simp (length-append, length-u32Bytes, l1) (omega arith) in
-      let lv = length-u32Bytes (ins .vars) in
-      let l3 : length f3 ≡ 21 + length label = length-append f2 (u32Bytes (ins .vars)) ∙ omega arith in
-      let lp : length (listAt (ins .publics) publics) ≡ 4 + 4 * length publics = simp (length-append, length-u32Bytes, length-words) in
-      let l4 : length f4 ≡ 25 + length label + 4 * length publics = length-append f3 (listAt (ins .publics) publics) ∙ omega arith in
-      let lq : length (listAt (ins .queries) queries) ≡ 4 + 4 * length queries = simp (length-append, length-u32Bytes, length-words) in
-      let l5 : length f5 ≡ 29 + length label + 4 * length publics + 4 * length queries = length-append f4 (listAt (ins .queries) queries) ∙ omega arith in
-      let s2 = put-next f1 (labelBytes label) out o1 o2 13 e1 e2 (sym l1) (omega arith) in
-      let s3 = e3 ∙ ap (λ (t : List ℕ). fitWords a3 (u32Bytes (ins .vars)) t) s2 ∙ fit-append f2 (u32Bytes (ins .vars)) out a3 (i3 ∙ sym l2) (omega arith) in
-      let s4 = put-next f3 (listAt (ins .publics) publics) out o3 o4 a4 s3 e4 (i4 ∙ sym l3) (omega arith) in
-      let s5 = put-next f4 (listAt (ins .queries) queries) out o4 o5 a5 s4 e5 (i5 ∙ sym l4) (omega arith) in
-      let s6 = put-next f5 (listAt (ins .equations) equations) out o5 o6 a6 s5 e6 (i6 ∙ sym l5) (omega arith) in
-      let joined : f5 ++ listAt (ins .equations) equations ≡ heldBytes version ins label publics queries equations = simp append-assoc in
-      s6 ∙ ap (λ (l : List ℕ). putWords 0 l out) joined
+  held-put e1 p2 e3 p4 p5 p6 =
+      let header = headerBytes letterI version (ins .width) in
+      let room = f .room in
+      let l1 = length-header letterI version (ins .width) in
+      let l2 = length-labelBytes label in
+      let l4 = length-listBytes (ins .publics) publics in
+      let l5 = length-listBytes (ins .queries) queries in
+      let e2 = p2 .past in
+      let e4 = p4 .past in
+      let e5 = p5 .past in
+      let p1 : PutsAt 0 header out headerLength o1 = record { past = omega arith; out = e1 } in
+      let n1 : length o1 ≡ length out = put-length p1 (omega arith) in
+      let n2 : length o2 ≡ length out = put-length p2 (omega arith) ∙ n1 in
+      let s2 = put-then 0 header (labelBytes label) out p1 p2 (omega arith) in
+      let s3 = put-then 0 (header ++ labelBytes label) (u32Bytes (ins .vars)) out s2 (put-word a o2 (ins .vars) (omega arith) e3) (omega arith) in
+      let s4 = put-then 0 _ (listBytes (ins .publics) publics) out s3 p4 (omega arith) in
+      let s5 = put-then 0 _ (listBytes (ins .queries) queries) out s4 p5 (omega arith) in
+      let s6 = put-then 0 _ (listBytes (ins .equations) equations) out s5 p6 (omega arith) in
+      simp append-assoc (simp append-assoc at s6)

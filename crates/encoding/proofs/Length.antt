@@ -18,7 +18,8 @@ use Rattle.expr.specs.Equation.{Term, Equation, termWords, equationWords, equat
 use Rattle.instance.specs.Parts.{Parts, pairWords}
 use Rattle.instance.proofs.Parts.{pairWords-length}
 use Rattle.header.specs.Form.{headerBytes}
-use Rattle.encoding.specs.Form.{pairBytes, termBytes, pieceBytes, equationBytes, instanceBytes, witnessBytes}
+use Rattle.encoding.specs.Form.{headerLength, instanceFixed, witnessFixed, pairBytes, termBytes, pieceBytes, equationBytes, labelBytes, instanceBytes, witnessBytes}
+use Rattle.encoding.specs.Put.{listBytes}
 
 -- ---- parts as words
 pub publics-bytes : (ps : List Pair) → each pairBytes ps ≡ each u32Bytes (pairWords ps)
@@ -41,7 +42,7 @@ equations-bytes [] = refl
 equations-bytes (e ∷ es) = rw (equations-bytes es, equation-bytes e, each-append u32Bytes (equationWords e) (equationsWords es))
 
 -- ---- lengths
-pub length-header : (last v width : ℕ) → length (headerBytes last v width) ≡ 13
+pub length-header : (last v width : ℕ) → length (headerBytes last v width) ≡ headerLength
 unfolding headerBytes
 length-header last v width =
     let a = length-u32Bytes width in
@@ -49,9 +50,15 @@ length-header last v width =
     let c = length-append (u32Bytes width) (u32Bytes 4) in
     omega arith
 
+pub length-labelBytes : (label : List ℕ) → length (labelBytes label) ≡ 4 + length label
+length-labelBytes label = simp (length-append, length-u32Bytes)
+
+pub length-listBytes : (n : ℕ) (words : List ℕ) → length (listBytes n words) ≡ 4 + 4 * length words
+length-listBytes n words = simp (length-append, length-u32Bytes, length-words)
+
 pub length-instanceBytes : (version width : ℕ) (label : List ℕ) (parts : Parts) → All (λ q. length q ≡ width + width) (parts .queries)
     → length (instanceBytes version width label parts)
-    ≡ 33 + length label + 8 * length (parts .publics) + 8 * (width * length (parts .queries)) + 4 * length (equationsWords (parts .equations))
+    ≡ instanceFixed + length label + 8 * length (parts .publics) + 8 * (width * length (parts .queries)) + 4 * length (equationsWords (parts .equations))
 unfolding instanceBytes headerBytes
 length-instanceBytes version width label parts a =
     let p = ap length (publics-bytes (parts .publics)) ∙ length-words (pairWords (parts .publics)) in
@@ -62,7 +69,7 @@ length-instanceBytes version width label parts a =
     simp (length-append, length-u32Bytes) (omega arith)
 
 pub length-witnessBytes : (version width : ℕ) (steps : List (List ℕ)) → All (λ s. length s ≡ width + width) steps
-    → length (witnessBytes version width steps) ≡ 17 + 8 * (width * length steps)
+    → length (witnessBytes version width steps) ≡ witnessFixed + 8 * (width * length steps)
 unfolding witnessBytes headerBytes
 length-witnessBytes version width steps a =
     let q = ap length (pieces-bytes steps) ∙ length-words (flat steps) in

@@ -1,5 +1,6 @@
 -- What the calls that write answer, and what they leave of the output. Assumes nothing.
 use Prim.Native.Nat.{ℕ, _+_}
+use mathlib.Core.Path.{_≡_}
 use mathlib.Core.List.{List, [], _∷_, _++_}
 use lib.Dec.{leb}
 use lib.ListN.{length, take}
@@ -10,33 +11,31 @@ use Rattle.words.specs.Store.{allBelow, putWords}
 use Rattle.words.specs.Pieces.{wordsOf, pieces}
 use Rattle.limits.specs.Outcome.{outcomeOf}
 use Rattle.instance.specs.Parts.{partsOf}
-use Rattle.instance.specs.Held.{labelAsks, partsAsks, heldAsks}
+use Rattle.instance.specs.Held.{instanceAsks}
 use Rattle.instance.specs.declared.PermutationInstance.{PermutationInstance}
 use Rattle.header.specs.Form.{version}
 use Rattle.encoding.specs.Form.{instanceBytes, witnessBytes}
 use Rattle.encoding.specs.declared.Written.{Written}
 
--- 1, 2, 11, 10; the bytes at the front of the output, the rest as it was
+-- ---- what a write answers, by its number: how many bytes it wrote
 abbrev pub writtenOf : ℕ → List ℕ → Written
 writtenOf k bytes = record { outcome = outcomeOf k; len = onYes k (length bytes) 0 }
 
--- the output afterwards: a refusal leaves it as it was
+-- the output afterwards: the bytes at its front and the rest as it was; a refusal leaves it as it was
 abbrev pub writtenOut : ℕ → List ℕ → List ℕ → List ℕ
 writtenOut k bytes out = onYes k (putWords 0 bytes out) out
 
--- SFRI of held parts, gated or not
+-- what a write ensures whose answer has the form `told`: the answer, and the output as it leaves it
+pub record Writes {A : Type 0} (told : Written → A) (k : ℕ) (bytes before : List ℕ) (r : A) (after : List ℕ) : Type 0 where
+  pub answer : r ≡ told (writtenOf k bytes)
+  pub out : after ≡ writtenOut k bytes before
+
+-- ---- SFRI of held parts, gated or not
 abbrev pub instanceToBytes : PermutationInstance → (label publics queries equations : List ℕ) → List ℕ
 instanceToBytes ins label publics queries equations =
     instanceBytes version (ins .width) label (partsOf ins publics queries equations)
 
--- 1, 2, 11 of the held parts, then 10
-abbrev pub instanceAsks : PermutationInstance → (label publics queries equations : List ℕ) → List Question
-instanceAsks ins label publics queries equations =
-    widthAsks (ins .width)
-    ++ (partsAsks ins (length publics) (length queries) (length equations)
-    ++ (labelAsks (length label) ++ heldAsks ins label publics queries equations))
-
--- and 10: does the output hold the bytes?
+-- 1, 2 and 11 of the held parts, and 10: does the output hold the bytes?
 abbrev pub instanceToBytesAsks : PermutationInstance → (label publics queries equations : List ℕ) → ℕ → List Question
 instanceToBytesAsks ins label publics queries equations out =
     instanceAsks ins label publics queries equations
@@ -47,7 +46,12 @@ unfoldable pub instanceToBytesNo : PermutationInstance → (label publics querie
 instanceToBytesNo ins label publics queries equations out =
     firstNo (instanceToBytesAsks ins label publics queries equations out)
 
--- SFRW of the first `steps` steps of a trace
+-- what `instance_to_bytes` ensures
+abbrev pub InstanceWrites : {A : Type 0} → (Written → A) → PermutationInstance → (label publics queries equations before : List ℕ) → A → List ℕ → Type 0
+InstanceWrites told ins label publics queries equations before r after =
+    Writes told (instanceToBytesNo ins label publics queries equations (length before)) (instanceToBytes ins label publics queries equations) before r after
+
+-- ---- SFRW of the first `steps` steps of a trace
 abbrev pub witnessToBytes : (width steps : ℕ) → List ℕ → List ℕ
 witnessToBytes width steps trace =
     witnessBytes version width (pieces (width + width) steps (take (wordsOf width steps) trace))
@@ -69,3 +73,8 @@ witnessToBytesAsks width steps trace out =
 -- the number of a write of SFRW, or 0
 unfoldable pub witnessToBytesNo : (width steps : ℕ) → List ℕ → ℕ → ℕ
 witnessToBytesNo width steps trace out = firstNo (witnessToBytesAsks width steps trace out)
+
+-- what `witness_to_bytes` ensures
+abbrev pub WitnessWrites : {A : Type 0} → (Written → A) → (width steps : ℕ) → (trace before : List ℕ) → A → List ℕ → Type 0
+WitnessWrites told width steps trace before r after =
+    Writes told (witnessToBytesNo width steps trace (length before)) (witnessToBytes width steps trace) before r after

@@ -14,8 +14,19 @@ use Rattle.narg.specs.Reader.{each}
 use Rattle.allocator.specs.Slots.{Pair}
 use Rattle.expr.specs.Equation.{Term, Equation}
 use Rattle.instance.specs.Parts.{Parts}
-use Rattle.instance.specs.declared.PermutationInstance.{PermutationInstance}
 use Rattle.header.specs.Form.{letterI, letterW, headerBytes}
+
+-- how many bytes a header has
+abbrev pub headerLength : ℕ
+headerLength = 13
+
+-- how many SFRI has beside label and lists: header, label length, wire count and three counts
+abbrev pub instanceFixed : ℕ
+instanceFixed = 33
+
+-- how many SFRW has beside its steps: header and step count
+abbrev pub witnessFixed : ℕ
+witnessFixed = 17
 
 -- a public: wire, unit
 abbrev pub pairBytes : Pair → List ℕ
@@ -48,17 +59,6 @@ partsBytes parts =
 -- SFRI
 unfoldable pub instanceBytes : (version width : ℕ) (label : List ℕ) → Parts → List ℕ
 instanceBytes version width label parts = headerBytes letterI version width ++ (labelBytes label ++ partsBytes parts)
-
--- SFRI from the words that the stores hold, each list as its count and its words (law: the bytes of the parts)
-unfoldable pub heldBytes : (version : ℕ) → PermutationInstance → (label publics queries equations : List ℕ) → List ℕ
-heldBytes version ins label publics queries equations =
-    headerBytes letterI version (ins .width)
-    ++ (labelBytes label
-    ++ (u32Bytes (ins .vars)
-    ++ (u32Bytes (ins .publics)
-    ++ (each u32Bytes publics
-    ++ (u32Bytes (ins .queries)
-    ++ (each u32Bytes queries ++ (u32Bytes (ins .equations) ++ each u32Bytes equations)))))))
 
 -- SFRW
 unfoldable pub witnessBytes : (version width : ℕ) → List (List ℕ) → List ℕ

@@ -1,30 +1,32 @@
-// What both forms write: the header, bytes, and a list with its count.
+// What both forms write: the header, bytes, and a list with its count. The output holds what is written.
 
 ghost use mathlib.Core.Path.{_≡_};
-ghost use mathlib.Core.List.{_++_};
 ghost use Prim.Native.Nat.{_+_, _*_, _≤_};
 ghost use lib.ListN.{length};
 ghost use Rattle.words.specs.Store.{putWords};
-ghost use Rattle.narg.specs.Bytes.{u32Bytes};
-ghost use Rattle.narg.specs.Reader.{each};
 ghost use Rattle.header.specs.Form.{headerBytes};
+ghost use Rattle.encoding.specs.Form.{headerLength};
+ghost use Rattle.encoding.specs.Put.{listBytes, PutsAt};
 use narg::Cursor;
 
-// The bytes of a header at the front of an output that holds them.
+// How many bytes a header has: magic, version, width, unit length.
+pub(crate) const HEADER_LEN: usize = 13;
+
+// The bytes of a header at the front of an output.
 pub(crate) fn put_header(out: &mut [u8], last: u8, version: u8, width: u32)
-    requires { ⌜ 13 ≤ length (now out) ⌝ }
+    requires { ⌜ headerLength ≤ length (now out) ⌝ }
     ensures { λ _. ⌜ now (out .exit) ≡ putWords 0 (headerBytes last version width) (now (out .entry)) ⌝ }
 {
-    out[0] = 83;
-    out[1] = 70;
-    out[2] = 82;
+    out[0] = b'S';
+    out[1] = b'F';
+    out[2] = b'R';
     out[3] = last;
     out[4] = version;
     narg::put_u32(out, Cursor { at: 5 }, width);
     narg::put_u32(out, Cursor { at: 9 }, 4);
 }
 
-// Bytes at a place of an output that holds them.
+// Bytes at a place of an output.
 pub(crate) fn put_bytes(out: &mut [u8], at: usize, bytes: &[u8])
     requires { ⌜ at + length (now bytes) ≤ length (now out) ⌝ }
     ensures { λ _. ⌜ now (out .exit) ≡ putWords at (now (bytes .entry)) (now (out .entry)) ⌝ }
@@ -36,11 +38,13 @@ pub(crate) fn put_bytes(out: &mut [u8], at: usize, bytes: &[u8])
     }
 }
 
-// A count and the words of a list, at a place of an output that holds them.
-pub(crate) fn put_list(out: &mut [u8], at: usize, count: u32, words: &[u32])
+// A count and the words of a list at a place of an output; and the place past them.
+pub(crate) fn put_list(out: &mut [u8], at: usize, count: u32, words: &[u32]) -> usize
     requires { ⌜ at + 4 + 4 * length (now words) ≤ length (now out) ⌝ }
-    ensures { λ _. ⌜ now (out .exit) ≡ putWords at (u32Bytes count ++ each u32Bytes (now (words .entry))) (now (out .entry)) ⌝ }
+    ensures { λ r. ⌜ PutsAt at (listBytes count (now (words .entry))) (now (out .entry)) r (now (out .exit)) ⌝ }
 {
+    let first = at + 4;
     narg::put_u32(out, Cursor { at }, count);
-    narg::put_words(out, Cursor { at: at + 4 }, words);
+    narg::put_words(out, Cursor { at: first }, words);
+    first + 4 * words.len()
 }

@@ -1,13 +1,13 @@
 // An instance written: SFRI (the source's `PermutationInstance::to_bytes`).
 
 ghost use mathlib.Core.Path.{_≡_};
-ghost use Prim.Native.Nat.{_+_, _*_, _≤_, _<_};
 ghost use lib.ListN.{length};
-ghost use Rattle.words.specs.Store.{putWords};
 ghost use Rattle.header.specs.Form.{version};
-ghost use Rattle.encoding.specs.Form.{labelBytes, heldBytes};
-ghost use Rattle.encoding.specs.Answers.{writtenOf, writtenOut, instanceToBytes, instanceToBytesNo};
+ghost use Rattle.encoding.specs.Form.{labelBytes};
+ghost use Rattle.encoding.specs.Answers.{instanceToBytesNo, InstanceWrites};
+ghost use Rattle.encoding.specs.Put.{heldBytes, HeldFits, LabelFits, PutsAt};
 use crate::Written;
+use crate::put::HEADER_LEN;
 use crate::put::put_bytes;
 use crate::put::put_header;
 use crate::put::put_list;
@@ -18,16 +18,22 @@ use instance::held_words;
 use limits::Outcome;
 use narg::Cursor;
 
-// The label's length and its bytes.
-fn put_label(out: &mut [u8], label: &[u8])
-    requires { ⌜ (17 + length (now label) ≤ length (now out)) × (length (now label) < 4294967296) ⌝ }
-    ensures { λ _. ⌜ now (out .exit) ≡ putWords 13 (labelBytes (now (label .entry))) (now (out .entry)) ⌝ }
+// How many bytes there are beside label and lists: the header and five words, which are the label's length, the wire
+// count and the count of each list.
+const FIXED: usize = HEADER_LEN + 5 * 4;
+
+// The label's length and its bytes at a place of an output; and the place past them.
+fn put_label(out: &mut [u8], at: usize, label: &[u8]) -> usize
+    requires { ⌜ LabelFits at (now label) (now out) ⌝ }
+    ensures { λ r. ⌜ PutsAt at (labelBytes (now (label .entry))) (now (out .entry)) r (now (out .exit)) ⌝ }
 {
-    narg::put_u32(out, Cursor { at: 13 }, label.len() as u32);
-    put_bytes(out, 17, label);
+    let first = at + 4;
+    narg::put_u32(out, Cursor { at }, label.len() as u32);
+    put_bytes(out, first, label);
+    first + label.len()
 }
 
-// The bytes of held words, each list with its count.
+// The bytes of held words, each list with its count; and how many they are.
 fn put_held(
     out: &mut [u8],
     ins: PermutationInstance,
@@ -35,24 +41,17 @@ fn put_held(
     publics: &[u32],
     queries: &[u32],
     equations: &[u32],
-)
-    requires { ⌜ (33 + length (now label) + 4 * (length (now publics) + length (now queries) + length (now equations)) ≤ length (now out))
-        × (length (now label) < 4294967296) ⌝ }
-    ensures { λ _. ⌜ now (out .exit) ≡ putWords 0 (heldBytes version ins (now (label .entry)) (now (publics .entry)) (now (queries .entry)) (now (equations .entry))) (now (out .entry)) ⌝ }
+) -> usize
+    requires { ⌜ HeldFits (now label) (now publics) (now queries) (now equations) (now out) ⌝ }
+    ensures { λ r. ⌜ PutsAt 0 (heldBytes version ins (now (label .entry)) (now (publics .entry)) (now (queries .entry)) (now (equations .entry)))
+        (now (out .entry)) r (now (out .exit)) ⌝ }
 {
-    let at = 17 + label.len();
-    let after_publics = at + 8 + 4 * publics.len();
     put_header(out, b'I', VERSION, ins.width);
-    put_label(out, label);
+    let at = put_label(out, HEADER_LEN, label);
     narg::put_u32(out, Cursor { at }, ins.vars);
-    put_list(out, at + 4, ins.publics, publics);
-    put_list(out, after_publics, ins.queries, queries);
-    put_list(
-        out,
-        after_publics + 4 + 4 * queries.len(),
-        ins.equations,
-        equations,
-    );
+    let after_publics = put_list(out, at + 4, ins.publics, publics);
+    let after_queries = put_list(out, after_publics, ins.queries, queries);
+    put_list(out, after_queries, ins.equations, equations)
 }
 
 // The number of a write: 1, 2, 11, 10. Not 12 to 15 and not 27: any held parts are written.
@@ -66,10 +65,7 @@ fn instance_to_bytes_no(
 ) -> u32
     ensures { λ r. ⌜ r ≡ instanceToBytesNo ins (now (label .entry)) (now (publics .entry)) (now (queries .entry)) (now (equations .entry)) room ⌝ }
 {
-    let a = limits::asked_width(0, ins.width);
-    let b = instance::asked_parts(a, ins, publics.len(), queries.len(), equations.len());
-    let c = limits::asked(b, label.len() < 4294967296, 2);
-    let no = instance::asked_held(c, ins, label, publics, queries, equations);
+    let no = instance::asked_instance(ins, label, publics, queries, equations);
     if no != 0 {
         return no;
     }
@@ -77,7 +73,7 @@ fn instance_to_bytes_no(
     let pieces = held_pieces(queries, ins.width, ins.queries);
     let words = held_words(equations, ins.words as usize);
     let size = 4 * (pairs.len() + pieces.len() + words.len());
-    limits::asked(0, 33 + label.len() + size <= room, 10)
+    limits::asked(0, FIXED + label.len() + size <= room, 10)
 }
 
 // Held parts as SFRI, gated or not, at the front of the output. Questions 1, 2, 11, 10.
@@ -89,8 +85,8 @@ pub fn instance_to_bytes(
     equations: &[u32],
     out: &mut [u8],
 ) -> Written
-    ensures { λ r. ⌜ (r ≡ writtenOf (instanceToBytesNo ins (now (label .entry)) (now (publics .entry)) (now (queries .entry)) (now (equations .entry)) (length (now (out .entry)))) (instanceToBytes ins (now (label .entry)) (now (publics .entry)) (now (queries .entry)) (now (equations .entry))))
-        × (now (out .exit) ≡ writtenOut (instanceToBytesNo ins (now (label .entry)) (now (publics .entry)) (now (queries .entry)) (now (equations .entry)) (length (now (out .entry)))) (instanceToBytes ins (now (label .entry)) (now (publics .entry)) (now (queries .entry)) (now (equations .entry))) (now (out .entry))) ⌝ }
+    ensures { λ r. ⌜ InstanceWrites (λ w. w) ins (now (label .entry)) (now (publics .entry)) (now (queries .entry)) (now (equations .entry))
+        (now (out .entry)) r (now (out .exit)) ⌝ }
 {
     let no = instance_to_bytes_no(ins, label, publics, queries, equations, out.len());
     if no != 0 {
@@ -102,10 +98,9 @@ pub fn instance_to_bytes(
     let pairs = held_words(publics, 2 * ins.publics as usize);
     let pieces = held_pieces(queries, ins.width, ins.queries);
     let words = held_words(equations, ins.words as usize);
-    put_held(out, ins, label, pairs, pieces, words);
-    let size = 4 * (pairs.len() + pieces.len() + words.len());
+    let len = put_held(out, ins, label, pairs, pieces, words);
     Written {
         outcome: Outcome::Accepted,
-        len: 33 + label.len() + size,
+        len,
     }
 }

@@ -1,13 +1,16 @@
 // A witness written: SFRW, the steps of a trace (the source's `PermutationWitness::to_bytes`).
 
 ghost use mathlib.Core.Path.{_≡_};
-ghost use lib.ListN.{length};
-ghost use Rattle.encoding.specs.Answers.{writtenOf, writtenOut, witnessToBytes, witnessToBytesNo};
+ghost use Rattle.encoding.specs.Answers.{witnessToBytesNo, WitnessWrites};
 use crate::Written;
+use crate::put::HEADER_LEN;
 use crate::put::put_header;
+use crate::put::put_list;
 use header::VERSION;
 use limits::Outcome;
-use narg::Cursor;
+
+// How many bytes there are beside the steps: the header and a word, their count.
+const FIXED: usize = HEADER_LEN + 4;
 
 // The number of a write: 1, 2, 11, 10.
 fn witness_to_bytes_no(width: u32, steps: u32, trace: &[u32], room: usize) -> u32
@@ -21,13 +24,12 @@ fn witness_to_bytes_no(width: u32, steps: u32, trace: &[u32], room: usize) -> u3
     if no != 0 {
         return no;
     }
-    limits::asked(0, 17 + 4 * held.len() <= room, 10)
+    limits::asked(0, FIXED + 4 * held.len() <= room, 10)
 }
 
 // The first `steps` steps of a trace as SFRW, at the front of the output. Questions 1, 2, 11, 10.
 pub fn witness_to_bytes(width: u32, steps: u32, trace: &[u32], out: &mut [u8]) -> Written
-    ensures { λ r. ⌜ (r ≡ writtenOf (witnessToBytesNo width steps (now (trace .entry)) (length (now (out .entry)))) (witnessToBytes width steps (now (trace .entry))))
-        × (now (out .exit) ≡ writtenOut (witnessToBytesNo width steps (now (trace .entry)) (length (now (out .entry)))) (witnessToBytes width steps (now (trace .entry))) (now (out .entry))) ⌝ }
+    ensures { λ r. ⌜ WitnessWrites (λ w. w) width steps (now (trace .entry)) (now (out .entry)) r (now (out .exit)) ⌝ }
 {
     let no = witness_to_bytes_no(width, steps, trace, out.len());
     if no != 0 {
@@ -38,10 +40,9 @@ pub fn witness_to_bytes(width: u32, steps: u32, trace: &[u32], out: &mut [u8]) -
     }
     let held = instance::held_pieces(trace, width, steps);
     put_header(out, b'W', VERSION, width);
-    narg::put_u32(out, Cursor { at: 13 }, steps);
-    narg::put_words(out, Cursor { at: 17 }, held);
+    let len = put_list(out, HEADER_LEN, steps, held);
     Written {
         outcome: Outcome::Accepted,
-        len: 17 + 4 * held.len(),
+        len,
     }
 }

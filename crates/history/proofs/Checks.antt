@@ -26,7 +26,7 @@ use Rattle.history.specs.Ledger.{Ledger}
 use Rattle.history.specs.Sat.{Evaluates}
 use Rattle.history.specs.Calls.{State}
 use Rattle.history.specs.Demand.{Checked}
-use Rattle.history.specs.Whole.{TraceHeld, Checks}
+use Rattle.history.specs.Whole.{lentToGate, TraceHeld, Checks}
 use Rattle.history.proofs.Outcomes.{past-yes, past-fits, past-width}
 use Rattle.history.proofs.Bridge.{ledgerParts}
 use Rattle.history.proofs.Judged.{checked-by}
@@ -114,7 +114,7 @@ module _ (s : State) (l : Ledger) (i : Agrees (s .relation .width) s l)
 
 -- ---- after a gate that accepted, with no bytes between
 module _ (s : State) (l : Ledger) (i : Agrees (s .relation .width) s l) (label publics scratch : List ℕ)
-    (gate : compileNo (s .relation) label (s .slots) (s .queries) (s .equations) (length publics) (length scratch) ≡ 0) where
+    (gate : compileNo (lentToGate s label publics scratch) ≡ 0) where
   pub held-checks : (steps : ℕ) (trace : List ℕ) → TraceHeld (s .relation .width) steps trace
       → Checks (s .relation .width) l (ins s l i) label (made s l i label publics scratch gate) (s .queries) (s .equations) steps trace
   held-checks steps trace =

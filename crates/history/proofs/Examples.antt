@@ -24,7 +24,7 @@ use Rattle.instance.specs.Parts.{partsOf}
 use Rattle.instance.specs.Held.{equationsSound, publicsSound, slotsSound}
 use Rattle.instance.specs.Validated.{validatedNo, gateNo}
 use Rattle.instance.specs.declared.PermutationInstance.{PermutationInstance}
-use Rattle.compile.specs.Gate.{publicsOf, compiledParts, instanceOf, compileNo, compile, compilePublics}
+use Rattle.compile.specs.Gate.{GateLent, gateLent, publicsOf, compiledParts, instanceOf, compileNo, compile, compilePublics}
 use Rattle.compile.specs.declared.Compiled.{Compiled}
 use Rattle.validity.specs.Check.{checkNo}
 use Rattle.validity.specs.Valid.{isWitnessValidNo, isWitnessValid}
@@ -165,11 +165,14 @@ looseSlots = 0 ∷ unassigned ∷ []
 abbrev looseEquations : ℕ → List ℕ
 looseEquations k = 1 ∷ 1 ∷ k ∷ 0 ∷ []
 
+abbrev looseLent : ℕ → GateLent
+looseLent k = gateLent (relation 1 2 0 1 4) [] looseSlots [] (looseEquations k) (length publics) (length scratch)
+
 abbrev loose : ℕ → Compiled
-loose k = compile (relation 1 2 0 1 4) [] looseSlots [] (looseEquations k) publics scratch
+loose k = compile (looseLent k)
 
 abbrev loosePublics : ℕ → List ℕ
-loosePublics k = compilePublics (relation 1 2 0 1 4) [] looseSlots [] (looseEquations k) publics scratch
+loosePublics k = compilePublics (looseLent k)
 
 -- the check without a label, under those parameters
 abbrev check : PermutationInstance → (publics queries equations : List ℕ) → (steps : ℕ) (trace : List ℕ) → Outcome

@@ -38,7 +38,7 @@ use Rattle.history.specs.Ledger.{Ledger}
 use Rattle.history.specs.Calls.{State}
 use Rattle.history.specs.Left.{publicCount, fileLength, instanceLength, instanceWriteLeft, instanceReadLeft}
 use Rattle.history.specs.Demand.{Accepted}
-use Rattle.history.specs.Whole.{Checks, TraceLent, witnessWritten, witnessReadBack, traceReadBack, FileLent, instanceWritten, instanceBytesMade, instanceReadBack, labelReadBack, publicsReadBack, queriesReadBack, equationsReadBack, SameFile, Filed}
+use Rattle.history.specs.Whole.{lentToGate, Checks, TraceLent, witnessWritten, witnessReadBack, traceReadBack, FileLent, instanceWritten, instanceBytesMade, instanceReadBack, labelReadBack, publicsReadBack, queriesReadBack, equationsReadBack, SameFile, Filed}
 use Rattle.history.proofs.Bridge.{ledgerParts}
 use Rattle.history.proofs.Keeps.{Agrees}
 use Rattle.history.proofs.Outcomes.{past-yes, past-width, then, accepted-no}
@@ -60,7 +60,7 @@ checks-as w l x y a b publics queries equations steps trace e h c =
 -- ---- after a gate that accepted, at the record's own width
 module _ (s : State) (l : Ledger) (i : Agrees (s .relation .width) s l)
     (gateLabel publics scratch : List ℕ)
-    (gate : compileNo (s .relation) gateLabel (s .slots) (s .queries) (s .equations) (length publics) (length scratch) ≡ 0) (f : FileLent) where
+    (gate : compileNo (lentToGate s gateLabel publics scratch) ≡ 0) (f : FileLent) where
   abbrev rel : PermutationRelation
   rel = s .relation
 

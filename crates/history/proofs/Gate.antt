@@ -24,7 +24,7 @@ use Rattle.permutation.specs.declared.PermutationRelation.{PermutationRelation}
 use Rattle.instance.specs.Parts.{pairVars, has}
 use Rattle.instance.specs.Held.{equationsSound}
 use Rattle.instance.specs.Validated.{termwiseAsks, validatedNo}
-use Rattle.compile.specs.Gate.{publicsFrom, publicsOf, compiledParts, compileNo}
+use Rattle.compile.specs.Gate.{gateLent, publicsFrom, publicsOf, compiledParts, compileNo}
 use Rattle.instance.proofs.Facts.{facts-allBelow, SoundSlot, facts-slotsSound}
 use Rattle.compile.proofs.Rising.{publicsOf-below}
 use Rattle.history.specs.Ledger.{Ledger}
@@ -179,7 +179,7 @@ module _ (w : ℕ) (s : State) (l : Ledger) (i : Agrees w s l) where
       then _ _ _ (past-fits 2 _ _ _ h ∙ past-fits 2 _ _ _ m)
 
   module _ (label : List ℕ) (publicRoom scratch : ℕ) where
-    pub compile-left : compileNo rel label (s .slots) (s .queries) (s .equations) publicRoom scratch
+    pub compile-left : compileNo (gateLent rel label (s .slots) (s .queries) (s .equations) publicRoom scratch)
         ≡ firstNo (compileLeft (lengthsOf s) l label publicRoom scratch)
     unfolding compileNo compileLeft validatedNo compiledParts publicsOf
     compile-left =

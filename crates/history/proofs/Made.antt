@@ -29,7 +29,7 @@ use Rattle.compile.proofs.Rising.{publicsOf-values}
 use Rattle.history.specs.Ledger.{Ledger}
 use Rattle.history.specs.Calls.{State}
 use Rattle.history.specs.Demand.{lengthsOf}
-use Rattle.history.specs.Whole.{compiled, publicsMade}
+use Rattle.history.specs.Whole.{lentToGate, compiled, publicsMade}
 use Rattle.history.proofs.Bridge.{ledgerParts}
 use Rattle.history.proofs.Keeps.{Agrees}
 use Rattle.history.proofs.Outcomes.{past-yes, past-fits}
@@ -127,7 +127,7 @@ module _ (s : State) (l : Ledger) (i : Agrees (s .relation .width) s l) where
 
   -- ---- the gate's yes
   module _ (label publics scratch : List ℕ)
-      (gate : compileNo rel label (s .slots) (s .queries) (s .equations) (length publics) (length scratch) ≡ 0) where
+      (gate : compileNo (lentToGate s label publics scratch) ≡ 0) where
     pub instance-is : compiled s label publics scratch .instance ≡ ins
     unfolding compile publicsOf
     instance-is = onYes-yes _ _ _ gate

@@ -13,7 +13,7 @@ use Rattle.history.specs.Ledger.{Ledger}
 use Rattle.history.specs.Calls.{Call, State, firstLedger}
 use Rattle.history.specs.Left.{Lengths, compileLeft}
 use Rattle.history.specs.Demand.{Accepted}
-use Rattle.history.specs.Whole.{compiled, publicsMade, Gated, begin, last, lastLedger, Whole}
+use Rattle.history.specs.Whole.{lentToGate, compiled, publicsMade, Gated, begin, last, lastLedger, Whole}
 use Rattle.history.proofs.Keeps.{Agrees, fresh-agrees, keeps-all}
 use Rattle.history.proofs.Outcomes.{accepted-no}
 use Rattle.history.proofs.Told.{told-all}
@@ -33,7 +33,7 @@ gated-as w queries equations x y a b label l e h g =
 
 -- at the width given to fresh
 gated-at : (w : ℕ) (s : State) (l : Ledger) → Agrees w s l → (label publics scratch : List ℕ)
-    → compileNo (s .relation) label (s .slots) (s .queries) (s .equations) (length publics) (length scratch) ≡ 0
+    → compileNo (lentToGate s label publics scratch) ≡ 0
     → Gated w (s .queries) (s .equations) (compiled s label publics scratch .instance) (publicsMade s label publics scratch) label l
 gated-at w s l i label publics scratch gate =
     let e = i .widthIs in

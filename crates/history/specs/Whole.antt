@@ -29,7 +29,7 @@ use Rattle.narg.specs.Reader.{Got}
 use Rattle.permute.specs.Parameters.{parametersOf, soundParameters}
 use Rattle.instance.specs.Parts.{heldPublics, heldQueries, heldEquations, partsOf}
 use Rattle.instance.specs.declared.PermutationInstance.{PermutationInstance}
-use Rattle.compile.specs.Gate.{compileAsks, compile, compilePublics}
+use Rattle.compile.specs.Gate.{GateLent, gateLent, compileAsks, compile, compilePublics}
 use Rattle.compile.specs.declared.Compiled.{Compiled}
 use Rattle.validity.specs.Valid.{stepsOf, isWitnessValid}
 use Rattle.decoding.specs.Read.{Rooms, File}
@@ -181,18 +181,22 @@ pub record Gated (w : ℕ) (queries equations : List ℕ) (ins : PermutationInst
   pub files : (f : FileLent) → Filed w queries equations ins made f l
 
 -- ---- the gate
--- its questions on a state
+-- what it is lent on a state
+abbrev pub lentToGate : State → (label publics scratch : List ℕ) → GateLent
+lentToGate s label publics scratch =
+    gateLent (s .relation) label (s .slots) (s .queries) (s .equations) (length publics) (length scratch)
+
+-- its questions
 abbrev pub compiledAsks : State → (label publics scratch : List ℕ) → List Question
-compiledAsks s label publics scratch =
-    compileAsks (s .relation) label (s .slots) (s .queries) (s .equations) (length publics) (length scratch)
+compiledAsks s label publics scratch = compileAsks (lentToGate s label publics scratch)
 
 -- its answer
 abbrev pub compiled : State → (label publics scratch : List ℕ) → Compiled
-compiled s label publics scratch = compile (s .relation) label (s .slots) (s .queries) (s .equations) publics scratch
+compiled s label publics scratch = compile (lentToGate s label publics scratch)
 
 -- the publics afterwards
 abbrev pub publicsMade : State → (label publics scratch : List ℕ) → List ℕ
-publicsMade s label publics scratch = compilePublics (s .relation) label (s .slots) (s .queries) (s .equations) publics scratch
+publicsMade s label publics scratch = compilePublics (lentToGate s label publics scratch)
 
 -- ---- the whole
 module _ (w : ℕ) (slots queries equations : List ℕ) (cs : List Call) where

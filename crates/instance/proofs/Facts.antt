@@ -1,21 +1,24 @@
 -- 11, 12 to 15 and 16 say yes exactly where these facts on lists hold; each test by itself. Assumes nothing.
-use Prim.Native.Nat.{ℕ, _≤_, _<_}
+use Prim.Native.Nat.{ℕ, _*_, _≤_, _<_}
 use mathlib.Core.Path.{_≡_, refl, sym, _∙_}
 use mathlib.Core.Bool.{Bool, true, false, _&&_, _||_, or-true}
-use mathlib.Core.List.{List, [], _∷_}
+use mathlib.Core.List.{List, [], _∷_, _++_}
 use mathlib.Core.Logic.{_⊎_, inl, inr}
 use borrow.Author.Tests.{lt-ltb, le-leb, eq-eqb, ltb-true, leb-true, eqb-true}
 use lib.Dec.{eqb, ltb}
 use lib.ListN.{length}
-use Rattle.limits.specs.Numbers.{prime, maxCount, unassigned}
+use Rattle.limits.specs.Numbers.{prime, maxCount, unassigned, labelEnd}
 use Rattle.limits.specs.Questions.{firstNo}
-use Rattle.limits.proofs.Questions.{ask-yes, says-yes, both, join, firstNo-append}
+use Rattle.limits.specs.Asks.{widthAsks}
+use Rattle.limits.proofs.Questions.{ask-yes, says-yes, both, join, firstNo-append, accepted-says}
 use Rattle.words.specs.Store.{allBelow, All}
-use Rattle.words.specs.Pieces.{flat}
+use Rattle.words.specs.Pieces.{flat, wordsOf}
+use Rattle.utf8.specs.Utf8.{isUtf8}
 use Rattle.expr.specs.Equation.{Term, Equation, termVars, termWeights, equationsAt, equationsEnd, equationsHeld}
-use Rattle.instance.specs.Parts.{Parts, pairVars}
-use Rattle.instance.specs.Held.{equationsSound, slotsSound}
-use Rattle.instance.specs.Validated.{bound, termsAsks, termwiseAsks, validatedNo, gateNo}
+use Rattle.instance.specs.Parts.{Parts, pairVars, heldPublics, heldQueries, heldEquations}
+use Rattle.instance.specs.Held.{labelAsks, partsAsks, equationsSound, publicsSound, slotsSound, heldAsks, instanceAsks}
+use Rattle.instance.specs.declared.PermutationInstance.{PermutationInstance}
+use Rattle.instance.specs.Validated.{bound, gateTermsAsks, termwiseAsks, validatedNo, gateNo}
 
 -- ---- tests that say yes
 and-both : (a b : Bool) → (a && b) ≡ true → (a ≡ true) × (b ≡ true)
@@ -119,6 +122,74 @@ unfolding slotsSound
 facts-slotsSound [] a = refl
 facts-slotsSound (x ∷ s) a = simp (fact-slot x (a .0)) (facts-slotsSound s (a .1))
 
+-- ---- 1, 2 and 11 of an instance's parts and its label: where nothing says no, these facts hold
+-- 2: each store has at most 2^30 words, and holds what the record counts
+pub record PartsFit (ins : PermutationInstance) (publics queries equations : ℕ) : Type 0 where
+  pub publics-high : publics ≤ maxCount
+  pub queries-high : queries ≤ maxCount
+  pub equations-high : equations ≤ maxCount
+  pub publics-held : 2 * ins .publics ≤ publics
+  pub queries-held : wordsOf (ins .width) (ins .queries) ≤ queries
+  pub words-held : ins .words ≤ equations
+  pub equations-held : 2 * ins .equations ≤ equations
+
+pub partsAsks-yes : (ins : PermutationInstance) (publics queries equations : ℕ) → firstNo (partsAsks ins publics queries equations) ≡ 0
+    → PartsFit ins publics queries equations
+partsAsks-yes ins publics queries equations e =
+    let says = accepted-says (partsAsks ins publics queries equations) tt e in
+    record {
+      publics-high = leb-true _ _ (says 0);
+      queries-high = leb-true _ _ (says 1);
+      equations-high = leb-true _ _ (says 2);
+      publics-held = leb-true _ _ (says 3);
+      queries-held = leb-true _ _ (says 4);
+      words-held = leb-true _ _ (says 5);
+      equations-held = leb-true _ _ (says 6);
+    }
+
+pub labelAsks-yes : (len : ℕ) → firstNo (labelAsks len) ≡ 0 → len < labelEnd
+labelAsks-yes len e = ltb-true _ _ (accepted-says (labelAsks len) tt e 0)
+
+-- 11
+pub record HeldSound (ins : PermutationInstance) (label publics queries equations : List ℕ) : Type 0 where
+  pub ends : equationsEnd (ins .equations) (heldEquations ins equations) ≡ length (heldEquations ins equations)
+  pub equations-sound : All SoundEquation (equationsAt (ins .equations) (heldEquations ins equations))
+  pub publics-sound : publicsSound (ins .publics) (heldPublics ins publics) ≡ true
+  pub queries-sound : Below maxCount (heldQueries ins queries)
+  pub label-sound : isUtf8 label ≡ true
+
+pub heldAsks-yes : (ins : PermutationInstance) (label publics queries equations : List ℕ)
+    → firstNo (heldAsks ins label publics queries equations) ≡ 0 → HeldSound ins label publics queries equations
+heldAsks-yes ins label publics queries equations e =
+    let says = accepted-says (heldAsks ins label publics queries equations) tt e in
+    let q = equationsSound-facts (ins .equations) (heldEquations ins equations) (says 0) in
+    record {
+      ends = q .0;
+      equations-sound = q .1;
+      publics-sound = says 1;
+      queries-sound = allBelow-facts maxCount (heldQueries ins queries) (says 2);
+      label-sound = says 3;
+    }
+
+pub record InstanceSound (ins : PermutationInstance) (label publics queries equations : List ℕ) : Type 0 where
+  pub parts : PartsFit ins (length publics) (length queries) (length equations)
+  pub label-high : length label < labelEnd
+  pub held : HeldSound ins label publics queries equations
+
+pub instanceAsks-yes : (ins : PermutationInstance) (label publics queries equations : List ℕ)
+    → firstNo (instanceAsks ins label publics queries equations) ≡ 0 → InstanceSound ins label publics queries equations
+instanceAsks-yes ins label publics queries equations e =
+    let parts = partsAsks ins (length publics) (length queries) (length equations) in
+    let held = heldAsks ins label publics queries equations in
+    let a = both _ _ (sym (firstNo-append (widthAsks (ins .width)) (parts ++ (labelAsks (length label) ++ held))) ∙ e) in
+    let b = both _ _ (sym (firstNo-append parts (labelAsks (length label) ++ held)) ∙ a .1) in
+    let c = both _ _ (sym (firstNo-append (labelAsks (length label)) held) ∙ b .1) in
+    record {
+      parts = partsAsks-yes _ _ _ _ (b .0);
+      label-high = labelAsks-yes _ (c .0);
+      held = heldAsks-yes _ _ _ _ _ (c .1);
+    }
+
 -- ---- 12 to 15
 -- a term's wire is below the count, and it is bound or its weight is 0
 abbrev pub ValidTerm : ℕ → (ℕ → Bool) → Term → Type 0
@@ -141,7 +212,7 @@ module _ (vars : ℕ) (binds : ℕ → Bool) where
   fact-weight t (inl e) = simp e
   fact-weight t (inr e) = simp (eq-eqb (t .weight) 0 e, or-true)
 
-  terms-valid : (ts : List Term) → firstNo (termsAsks vars binds ts) ≡ 0 → All (ValidTerm vars binds) ts
+  terms-valid : (ts : List Term) → firstNo (gateTermsAsks vars binds ts) ≡ 0 → All (ValidTerm vars binds) ts
   terms-valid [] e = tt
   terms-valid (t ∷ ts) e =
       let a = both _ _ e in
@@ -150,7 +221,7 @@ module _ (vars : ℕ) (binds : ℕ → Bool) where
         terms-valid ts (b .1),
       )
 
-  valid-terms : (ts : List Term) → All (ValidTerm vars binds) ts → firstNo (termsAsks vars binds ts) ≡ 0
+  valid-terms : (ts : List Term) → All (ValidTerm vars binds) ts → firstNo (gateTermsAsks vars binds ts) ≡ 0
   valid-terms [] a = refl
   valid-terms (t ∷ ts) a =
       join _ _ (ask-yes 14 _ (lt-ltb (t .var) vars (a .0 .0))) (join _ _ (ask-yes 15 _ (fact-weight t (a .0 .1))) (valid-terms ts (a .1)))
@@ -158,13 +229,13 @@ module _ (vars : ℕ) (binds : ℕ → Bool) where
   equations-valid : (es : List Equation) → firstNo (termwiseAsks vars binds es) ≡ 0 → All (ValidEquation vars binds) es
   equations-valid [] e = tt
   equations-valid (q ∷ es) e =
-      let a = both _ _ (sym (firstNo-append (termsAsks vars binds (q .terms)) (termwiseAsks vars binds es)) ∙ e) in
+      let a = both _ _ (sym (firstNo-append (gateTermsAsks vars binds (q .terms)) (termwiseAsks vars binds es)) ∙ e) in
       (terms-valid (q .terms) (a .0), equations-valid es (a .1))
 
   valid-equations : (es : List Equation) → All (ValidEquation vars binds) es → firstNo (termwiseAsks vars binds es) ≡ 0
   valid-equations [] a = refl
   valid-equations (q ∷ es) a =
-      firstNo-append (termsAsks vars binds (q .terms)) (termwiseAsks vars binds es)
+      firstNo-append (gateTermsAsks vars binds (q .terms)) (termwiseAsks vars binds es)
       ∙ join _ _ (valid-terms (q .terms) (a .0)) (valid-equations es (a .1))
 
 pub validated-facts : (parts : Parts) → validatedNo parts ≡ 0 → Valid parts

@@ -12,48 +12,29 @@ use lib.Seq.{set-set, getD-set-same, getD-set-other}
 use Rattle.limits.specs.Questions.{pick}
 use Rattle.words.specs.Store.{allBelow}
 use Rattle.instance.specs.Parts.{has, pairVars, pairsAt}
-use Rattle.instance.specs.Marks.{isMarked, marked}
+use Rattle.instance.specs.Marks.{isMarked, marked, Marking}
 
 -- ---- the loop
--- wires xs, marked on what is there: whether all are below the count, and the marks then
-abbrev pub Marking : ℕ → List ℕ → List ℕ → Bool → List ℕ → Type 0
-Marking vars xs marks says left = (allBelow vars xs ≡ says) × (marked vars xs marks ≡ left)
-
-module _ (vars : ℕ) (xs marks : List ℕ) (says : Bool) (left : List ℕ) (e : Marking vars xs marks says left) where
-  pub mark-done : xs ≡ [] → (true ≡ says) × (marks ≡ left)
+module _ (vars : ℕ) (marks : List ℕ) where
+  pub mark-done : Marking vars [] marks true marks
   unfolding allBelow marked
-  mark-done z = (rw z at (e .0), rw z at (e .1))
+  mark-done = record { below = refl; after = refl }
 
-  module _ (x : ℕ) (rest : List ℕ) (z : xs ≡ x ∷ rest) where
-    pub mark-no : vars ≤ x → (false ≡ says) × (marks ≡ left)
+  module _ (x : ℕ) (rest : List ℕ) where
+    pub mark-no : vars ≤ x → Marking vars (x ∷ rest) marks false marks
     unfolding allBelow marked
-    mark-no h =
-        let b = le-ltb x vars h in
-        (simp b at (rw z at (e .0)), simp b at (rw z at (e .1)))
+    mark-no h = let b = le-ltb x vars h in record { below = simp b; after = simp b }
 
-    pub mark-more : x < vars → Marking vars rest (set marks x 1) says left
+    pub mark-more : x < vars → {says : Bool} {left : List ℕ} → Marking vars rest (set marks x 1) says left → Marking vars (x ∷ rest) marks says left
     unfolding allBelow marked
-    mark-more h =
-        let b = lt-ltb x vars h in
-        (simp b at (rw z at (e .0)), simp b at (rw z at (e .1)))
+    mark-more h m = let b = lt-ltb x vars h in record { below = simp b (m .below); after = simp b (m .after) }
 
 -- pairs that are lacking name wire 0, which has its mark already
 pub mark-lacking : (vars n : ℕ) (marks : List ℕ) → 0 < vars → Marking vars (pairVars (pairsAt n [])) (set marks 0 1) true (set marks 0 1)
 unfolding allBelow marked
-mark-lacking vars zero marks h = (refl, refl)
+mark-lacking vars zero marks h = mark-done vars (set marks 0 1)
 mark-lacking vars (suc n) marks h =
-    let b = lt-ltb 0 vars h in
-    let r = mark-lacking vars n marks h in
-    (simp b (r .0), simp (b, set-set) (r .1))
-
--- so where the words are past their end, nothing is left to mark
-pub mark-ended : (vars n : ℕ) (s marks : List ℕ) (i : ℕ) (says : Bool) (left : List ℕ)
-    → Marking vars (pairVars (pairsAt n (drop i s))) (set marks 0 1) says left → length s ≤ i → 0 < vars
-    → (true ≡ says) × (set marks 0 1 ≡ left)
-mark-ended vars n s marks i says left e h k =
-    let d = drop-of-length-le s h in
-    let l = mark-lacking vars n marks k in
-    (sym (l .0) ∙ (rw d at (e .0)), sym (l .1) ∙ (rw d at (e .1)))
+    mark-more vars (set marks 0 1) 0 (pairVars (pairsAt n [])) h (rw set-set (mark-lacking vars n marks h))
 
 -- ---- which wires have a mark
 mark-one : (marks : List ℕ) (y x : ℕ) → y < length marks → isMarked (set marks y 1) x ≡ (eqb x y || isMarked marks x)

@@ -12,14 +12,14 @@ use lib.Seq.{drop-drop}
 use Rattle.limits.specs.Questions.{ask, _▸_, firstNo}
 use Rattle.limits.proofs.Questions.{ask-yes, ask-no, stays, goes-on, join, firstNo-append}
 use Rattle.expr.specs.Equation.{termsAt, equationAt, equationsAt, sizeAt}
-use Rattle.instance.specs.Validated.{termsAsks, termwiseAsks}
+use Rattle.instance.specs.Validated.{gateTermsAsks, termwiseAsks}
 use Rattle.instance.proofs.Pairs.{at-first, terms-at}
 
 module _ (vars : ℕ) (binds : ℕ → Bool) where
   -- ---- terms
   -- what the n terms from place i on answer
   unfoldable pub termsNo : ℕ → ℕ → List ℕ → ℕ
-  termsNo n i s = firstNo (termsAsks vars binds (termsAt n (drop i s)))
+  termsNo n i s = firstNo (gateTermsAsks vars binds (termsAt n (drop i s)))
 
   terms-step : (s : List ℕ) (i n : ℕ) → 0 < n
       → termsNo n i s
@@ -28,7 +28,7 @@ module _ (vars : ℕ) (binds : ℕ → Bool) where
   terms-step s i n h = rw (terms-at s i n h)
 
   -- terms that are lacking name wire 0 with weight 0
-  zeros : (n : ℕ) → 0 < vars → firstNo (termsAsks vars binds (termsAt n [])) ≡ 0
+  zeros : (n : ℕ) → 0 < vars → firstNo (gateTermsAsks vars binds (termsAt n [])) ≡ 0
   zeros zero h = refl
   zeros (suc n) h =
       join _ _ (ask-yes 14 (ltb 0 vars) (lt-ltb 0 vars h)) (join _ _ (ask-yes 15 (binds 0 || true) (or-true (binds 0))) (zeros n h))
@@ -52,7 +52,7 @@ module _ (vars : ℕ) (binds : ℕ → Bool) where
         unfolding termsNo
         terms-lacking l =
             let b : 0 < vars = omega arith in
-            sym (ap (λ (r : List ℕ). firstNo (termsAsks vars binds (termsAt n r))) (drop-of-length-le s l) ∙ zeros n b) ∙ e
+            sym (ap (λ (r : List ℕ). firstNo (gateTermsAsks vars binds (termsAt n r))) (drop-of-length-le s l) ∙ zeros n b) ∙ e
 
         pub terms-unbound : (getD s (i + 1) 0 ≡ 0 → ⊥) → binds (getD s i 0) ≡ false → 15 ≡ whole
         terms-unbound w b =
@@ -80,7 +80,7 @@ module _ (vars : ℕ) (binds : ℕ → Bool) where
   equations-step s at zero h = absurd (omega arith)
   equations-step s at (suc n) h =
       let z : suc n - 1 ≡ n = omega arith in
-      firstNo-append (termsAsks vars binds (equationAt (drop at s) .terms)) _
+      firstNo-append (gateTermsAsks vars binds (equationAt (drop at s) .terms)) _
       ∙ rw (z, at-first s at, drop-drop 1 at s, drop-drop (sizeAt (drop at s)) at s)
 
   -- equations that are lacking have no terms

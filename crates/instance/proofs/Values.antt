@@ -58,15 +58,17 @@ module _ (n : ℕ) (s : List ℕ) (x : ℕ) (whole : VarValue) (e : valueOf n s 
     value-earlier f = sym (step ∙ simp (ne-eqb (getD s (2 * (n - 1)) 0) x f)) ∙ e
 
 -- ---- the call: 1, 2 and 3, then the value
+-- where nothing says no, the store holds the pairs
+pub publicValue-fits : (ins : PermutationInstance) (publics x k : ℕ) → k ≡ publicValueNo ins publics x → k ≡ 0
+    → 2 * ins .publics ≤ publics
+unfolding publicValueNo
+publicValue-fits ins publics x k e z = leb-true _ _ (accepted-says (publicValueAsks ins publics x) tt (sym e ∙ z) 3)
+
 module _ (ins : PermutationInstance) (publics : List ℕ) (x k : ℕ) (e : k ≡ publicValueNo ins (length publics) x) where
-  pub value-refused : (k ≡ 0 → ⊥) → varValue.Refused k ≡ publicValue ins publics x
+  pub publicValue-refused : (k ≡ 0 → ⊥) → varValue.Refused k ≡ publicValue ins publics x
   unfolding publicValue
-  value-refused h = rw (← e) (sym (onYes-no k _ _ h))
+  publicValue-refused h = rw (← e) (sym (onYes-no k _ _ h))
 
-  pub value-accepted : k ≡ 0 → valueOf (ins .publics) publics x ≡ publicValue ins publics x
+  pub publicValue-accepted : k ≡ 0 → valueOf (ins .publics) publics x ≡ publicValue ins publics x
   unfolding publicValue valueOf
-  value-accepted z = rw (← e, z, pairsAt-take (ins .publics) publics)
-
-  pub value-fits : k ≡ 0 → 2 * ins .publics ≤ length publics
-  unfolding publicValueNo
-  value-fits z = leb-true _ _ (accepted-says (publicValueAsks ins (length publics) x) tt (sym e ∙ z) 3)
+  publicValue-accepted z = rw (← e, z, pairsAt-take (ins .publics) publics)

@@ -7,7 +7,7 @@ use lib.Dec.{eqb, ltb, leb}
 use lib.ListN.{length}
 use Rattle.limits.specs.Numbers.{prime, maxCount, unassigned, labelEnd}
 use Rattle.limits.specs.Questions.{Question, question}
-use Rattle.limits.specs.Asks.{storeAsks}
+use Rattle.limits.specs.Asks.{widthAsks, storeAsks}
 use Rattle.words.specs.Store.{allBelow}
 use Rattle.words.specs.Pieces.{wordsOf}
 use Rattle.utf8.specs.Utf8.{isUtf8}
@@ -51,3 +51,10 @@ heldAsks ins label publics queries equations =
     ∷ question 11 (allBelow maxCount (heldQueries ins queries))
     ∷ question 11 (isUtf8 label)
     ∷ []
+
+-- 1, 2 and 11 of an instance's parts and its label
+abbrev pub instanceAsks : PermutationInstance → (label publics queries equations : List ℕ) → List Question
+instanceAsks ins label publics queries equations =
+    widthAsks (ins .width)
+    ++ (partsAsks ins (length publics) (length queries) (length equations)
+    ++ (labelAsks (length label) ++ heldAsks ins label publics queries equations))

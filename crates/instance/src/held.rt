@@ -13,8 +13,9 @@ ghost use Rattle.limits.specs.Questions.{_▸_, ask, firstNo};
 ghost use Rattle.words.specs.Pieces.{wordsOf};
 ghost use Rattle.utf8.specs.Utf8.{isUtf8};
 ghost use Rattle.expr.specs.Equation.{equationAt, equationsHeld, sizeAt};
-ghost use Rattle.instance.specs.Held.{partsAsks, heldAsks, equationsSound, publicsSound, slotsSound};
+ghost use Rattle.instance.specs.Held.{partsAsks, heldAsks, instanceAsks, equationsSound, publicsSound, slotsSound};
 use crate::PermutationInstance;
+use limits::LABEL_END;
 use limits::MAX_COUNT;
 use limits::P;
 use limits::UNASSIGNED;
@@ -233,4 +234,20 @@ pub fn asked_held(
         11,
     );
     asked_utf8(c, label)
+}
+
+// Questions 1, 2 and 11 of an instance's parts and its label.
+pub fn asked_instance(
+    ins: PermutationInstance,
+    label: &[u8],
+    publics: &[u32],
+    queries: &[u32],
+    equations: &[u32],
+) -> u32
+    ensures { λ r. ⌜ r ≡ firstNo (instanceAsks ins (now (label .entry)) (now (publics .entry)) (now (queries .entry)) (now (equations .entry))) ⌝ }
+{
+    let a = limits::asked_width(0, ins.width);
+    let b = asked_parts(a, ins, publics.len(), queries.len(), equations.len());
+    let c = limits::asked(b, label.len() < LABEL_END, 2);
+    asked_held(c, ins, label, publics, queries, equations)
 }

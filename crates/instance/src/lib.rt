@@ -20,6 +20,7 @@ mod validated;
 
 pub use held::asked_equations_sound;
 pub use held::asked_held;
+pub use held::asked_instance;
 pub use held::asked_parts;
 pub use held::asked_publics_sound;
 pub use held::asked_slots_sound;

@@ -7,12 +7,11 @@
 ghost use mathlib.Core.Path.{_≡_};
 ghost use Prim.Native.Nat.{_≤_};
 ghost use lib.ListN.{length, drop, replicate};
-ghost use Rattle.limits.specs.Questions.{_▸_, firstNo};
-ghost use Rattle.words.specs.Store.{allBelow};
+ghost use Rattle.limits.specs.Questions.{firstNo};
 ghost use Rattle.expr.specs.Equation.{termsAt, equationsAt};
 ghost use Rattle.instance.specs.Parts.{pairVars, pairsAt, partsOf};
-ghost use Rattle.instance.specs.Validated.{termsAsks, termwiseAsks, gateNo};
-ghost use Rattle.instance.specs.Marks.{marked, isMarked};
+ghost use Rattle.instance.specs.Validated.{gateTermsAsks, termwiseAsks, gateNo, AsksValidated};
+ghost use Rattle.instance.specs.Marks.{isMarked, Marking};
 use crate::PermutationInstance;
 use crate::held::held_pieces;
 use crate::held::held_words;
@@ -22,7 +21,7 @@ use crate::held::word_at;
 // Mark the wires of the first n pairs. Is every one of them below the count?
 fn mark_publics(marks: &mut [u32], vars: u32, s: &[u32], n: u32) -> bool
     requires { ⌜ vars ≤ length (now marks) ⌝ }
-    ensures { λ r. ⌜ (r ≡ allBelow vars (pairVars (pairsAt n (now (s .entry))))) × (now (marks .exit) ≡ marked vars (pairVars (pairsAt n (now (s .entry)))) (now (marks .entry))) ⌝ }
+    ensures { λ r. ⌜ Marking vars (pairVars (pairsAt n (now (s .entry)))) (now (marks .entry)) r (now (marks .exit)) ⌝ }
 {
     let mut i: usize = 0;
     let mut left = n;
@@ -44,7 +43,7 @@ fn mark_publics(marks: &mut [u32], vars: u32, s: &[u32], n: u32) -> bool
 // Mark the wires of the queries. Is every one of them below the count?
 fn mark_queries(marks: &mut [u32], vars: u32, s: &[u32]) -> bool
     requires { ⌜ vars ≤ length (now marks) ⌝ }
-    ensures { λ r. ⌜ (r ≡ allBelow vars (now (s .entry))) × (now (marks .exit) ≡ marked vars (now (s .entry)) (now (marks .entry))) ⌝ }
+    ensures { λ r. ⌜ Marking vars (now (s .entry)) (now (marks .entry)) r (now (marks .exit)) ⌝ }
 {
     let mut i = 0;
     while i < s.len() {
@@ -61,7 +60,7 @@ fn mark_queries(marks: &mut [u32], vars: u32, s: &[u32]) -> bool
 // 14 and 15 of the t terms from place `at` on.
 fn asked_terms(vars: u32, marks: &[u32], s: &[u32], at: usize, t: u32) -> u32
     requires { ⌜ vars ≤ length (now marks) ⌝ }
-    ensures { λ r. ⌜ r ≡ firstNo (termsAsks vars (isMarked (now (marks .entry))) (termsAt t (drop at (now (s .entry))))) ⌝ }
+    ensures { λ r. ⌜ r ≡ firstNo (gateTermsAsks vars (isMarked (now (marks .entry))) (termsAt t (drop at (now (s .entry))))) ⌝ }
 {
     let mut i = at;
     let mut left = t;
@@ -146,7 +145,8 @@ pub fn asked_validated(
     equations: &[u32],
     scratch: &mut [u32],
 ) -> u32
-    ensures { λ r. ⌜ (r ≡ no ▸ gateNo (partsOf ins (now (publics .entry)) (now (queries .entry)) (now (equations .entry))) (length (now (scratch .entry)))) × (now (scratch .exit) ≡ replicate (length (now (scratch .entry))) 0) ⌝ }
+    ensures { λ r. ⌜ AsksValidated no (partsOf ins (now (publics .entry)) (now (queries .entry)) (now (equations .entry)))
+        (length (now (scratch .entry))) r (now (scratch .exit)) ⌝ }
 {
     words::fill(scratch, 0);
     if no != 0 {

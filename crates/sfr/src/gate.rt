@@ -1,9 +1,9 @@
 // The gate, the value of a wire in an instance and its heading, for C.
 
 ghost use mathlib.Core.Path.{_≡_};
-ghost use lib.ListN.{length, replicate};
+ghost use lib.ListN.{length};
 ghost use Rattle.instance.specs.Looks.{publicValue};
-ghost use Rattle.compile.specs.Gate.{compile, compilePublics};
+ghost use Rattle.compile.specs.Gate.{gateLent, Compiles};
 ghost use Rattle.sfr.specs.Relation.{valueAnswer};
 ghost use Rattle.sfr.specs.Gate.{compiledAnswer, headingAnswer};
 use crate::relation::SfrValue;
@@ -31,9 +31,8 @@ pub extern "C" fn sfr_compile(
     publics: &mut [u32],
     scratch: &mut [u32],
 ) -> SfrInstanceAnswer
-    ensures { λ r. ⌜ (r ≡ compiledAnswer (compile rel (now (label .entry)) (now (slots .entry)) (now (queries .entry)) (now (equations .entry)) (now (publics .entry)) (now (scratch .entry))))
-        × (now (publics .exit) ≡ compilePublics rel (now (label .entry)) (now (slots .entry)) (now (queries .entry)) (now (equations .entry)) (now (publics .entry)) (now (scratch .entry)))
-        × (now (scratch .exit) ≡ replicate (length (now (scratch .entry))) 0) ⌝ }
+    ensures { λ r. ⌜ Compiles compiledAnswer (gateLent rel (now (label .entry)) (now (slots .entry)) (now (queries .entry)) (now (equations .entry))
+        (length (now (publics .entry))) (length (now (scratch .entry)))) r (now (publics .exit)) (now (scratch .exit)) ⌝ }
 {
     let made = compile::compile(rel, label, slots, queries, equations, publics, scratch);
     let o = made.outcome;

@@ -2,7 +2,7 @@
 
 ghost use mathlib.Core.Path.{_≡_};
 ghost use lib.ListN.{length};
-ghost use Rattle.encoding.specs.Answers.{writtenOf, writtenOut, instanceToBytesNo, instanceToBytes};
+ghost use Rattle.encoding.specs.Answers.{InstanceWrites};
 ghost use Rattle.decoding.specs.Answers.{stores, InstanceReads};
 ghost use Rattle.sfr.specs.Trace.{writtenAnswer};
 ghost use Rattle.sfr.specs.Sfri.{readAnswer};
@@ -30,8 +30,8 @@ pub extern "C" fn sfr_instance_to_bytes(
     equations: &[u32],
     out: &mut [u8],
 ) -> SfrWritten
-    ensures { λ r. ⌜ (r ≡ writtenAnswer (writtenOf (instanceToBytesNo ins (now (label .entry)) (now (publics .entry)) (now (queries .entry)) (now (equations .entry)) (length (now (out .entry)))) (instanceToBytes ins (now (label .entry)) (now (publics .entry)) (now (queries .entry)) (now (equations .entry)))))
-        × (now (out .exit) ≡ writtenOut (instanceToBytesNo ins (now (label .entry)) (now (publics .entry)) (now (queries .entry)) (now (equations .entry)) (length (now (out .entry)))) (instanceToBytes ins (now (label .entry)) (now (publics .entry)) (now (queries .entry)) (now (equations .entry))) (now (out .entry))) ⌝ }
+    ensures { λ r. ⌜ InstanceWrites writtenAnswer ins (now (label .entry)) (now (publics .entry)) (now (queries .entry)) (now (equations .entry))
+        (now (out .entry)) r (now (out .exit)) ⌝ }
 {
     written_answer(encoding::instance_to_bytes(ins, label, publics, queries, equations, out))
 }

@@ -4,7 +4,7 @@ ghost use mathlib.Core.Path.{_≡_};
 ghost use lib.ListN.{length};
 ghost use Rattle.permute.specs.Parameters.{permuteNo, permuted};
 ghost use Rattle.witness.specs.Trace.{appendStep, appendStepTrace, evaluateStep, evaluateStepTrace};
-ghost use Rattle.encoding.specs.Answers.{writtenOf, writtenOut, witnessToBytesNo, witnessToBytes};
+ghost use Rattle.encoding.specs.Answers.{WitnessWrites};
 ghost use Rattle.decoding.specs.Answers.{witnessFromBytes, witnessAnswer, traceAfter};
 ghost use Rattle.sfr.specs.Trace.{tracedAnswer, writtenAnswer, traceRead};
 use crate::relation::outcome_no;
@@ -92,7 +92,7 @@ pub extern "C" fn sfr_witness_to_bytes(
     trace: &[u32],
     out: &mut [u8],
 ) -> SfrWritten
-    ensures { λ r. ⌜ (r ≡ writtenAnswer (writtenOf (witnessToBytesNo (rec .width) (rec .steps) (now (trace .entry)) (length (now (out .entry)))) (witnessToBytes (rec .width) (rec .steps) (now (trace .entry))))) × (now (out .exit) ≡ writtenOut (witnessToBytesNo (rec .width) (rec .steps) (now (trace .entry)) (length (now (out .entry)))) (witnessToBytes (rec .width) (rec .steps) (now (trace .entry))) (now (out .entry))) ⌝ }
+    ensures { λ r. ⌜ WitnessWrites writtenAnswer (rec .width) (rec .steps) (now (trace .entry)) (now (out .entry)) r (now (out .exit)) ⌝ }
 {
     written_answer(encoding::witness_to_bytes(rec.width, rec.steps, trace, out))
 }

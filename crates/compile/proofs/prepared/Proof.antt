@@ -2,6 +2,7 @@
 -- Assumes nothing.
 use borrow.Author.Needs.{needs}
 use denote.Ref.{now}
+use Rattle.compile.specs.Gate.{gateLent}
 use Rattle.compile.proofs.Gate.{prepared-by}
 use Rattle.compile.proofs.prepared.Statement.{statement}
 use Rattle.compile.proofs.prepared.Tie as tie
@@ -18,7 +19,7 @@ asked-sound-requires c κs = search needs
 returns : tie.Need-returns
 returns c =
     let a = c .before .before .before .before .before .before .before .args in
-    prepared-by (a .rel) (now (a .label)) (now (a .slots)) (now (a .queries)) (now (a .equations)) (a .publics) (a .scratch) _ _ _
+    prepared-by (gateLent (a .rel) (now (a .label)) (now (a .slots)) (now (a .queries)) (now (a .equations)) (a .publics) (a .scratch)) _ _ _
     (c .before .before .asked-relation .ensures) (c .before .asked-stores .ensures) (c .asked-sound .ensures)
 
 pub prepared-spec : {M : Type 1} → statement M

@@ -124,13 +124,15 @@ returns c =
     let l = c .before .loop in
     let a = c .before .before .args in
     let d = publics-done (now (a .slots)) (l .i) (c .loop-test .left) in
-    let k = ap length d in (
-      omega arith,
-      λ f. sym (stored-none (l .out) (l .to))
+    let k = ap length d in
+    record {
+      count = omega arith;
+      stored = λ f.
+          sym (stored-none (l .out) (l .to))
           ∙ ap (stored (l .out) (l .to)) (sym d)
           ∙ l .inv .5 f .1
-          ∙ stored-put (now (a .out)) (publicsFrom 0 (now (a .slots))) f,
-    )
+          ∙ stored-put (now (a .out)) (publicsFrom 0 (now (a .slots))) f;
+    }
 
 pub put-publics-spec : {M : Type 1} → statement M
 put-publics-spec =

@@ -1,12 +1,15 @@
--- `value` meets its contract: 1, 2 and 3, then the last pair that lists the wire.
+-- `public_value` meets its contract: 1, 2 and 3, then the last pair that lists the wire.
 -- Assumes nothing.
 use borrow.Author.Needs.{needs}
 use denote.Ref.{now}
+use Prim.Native.Nat.{ℕ}
 use mathlib.Core.Path.{_≡_, _∙_}
+use mathlib.Core.List.{List}
 use lib.ListN.{length}
 use Rattle.limits.proofs.Questions.{▸-assoc, zero-▸, ▸-zero}
 use Rattle.instance.specs.Looks.{publicValueNo}
-use Rattle.instance.proofs.Values.{valueOf, value-refused, value-accepted, value-fits}
+use Rattle.instance.specs.declared.PermutationInstance.{PermutationInstance}
+use Rattle.instance.proofs.Values.{valueOf, publicValue-refused, publicValue-accepted, publicValue-fits}
 use Rattle.instance.proofs.public_value.Statement.{statement}
 use Rattle.instance.proofs.public_value.Tie as tie
 
@@ -28,35 +31,26 @@ asked-requires c κs = search needs
 asked-requires-2 : tie.Need-asked-requires-2
 asked-requires-2 c κs = search needs
 
-returns : tie.Need-returns
+-- the chain of questions is the list
+abbrev Number : tie.Start → ℕ → Type 0
+Number o k = k ≡ publicValueNo (o .args .ins) (length (now (o .args .publics))) (o .args .var .0)
+
+number : (s : tie.After-asked2) → Number (s .before .before .before .before .before) (s .asked2 .result)
 unfolding publicValueNo
-returns c =
-    let d = c .before in
-    let a = d .before .before .before .before .before .args in
-    let e : d .asked2 .result ≡ publicValueNo (a .ins) (length (now (a .publics))) (a .var .0) =
-    rw (d .asked2 .ensures, d .before .asked .ensures, d .before .before .asked-store .ensures, d .before .before .before .asked-width .ensures)
-    (simp (▸-assoc, zero-▸, ▸-zero)) in
-    value-refused (a .ins) (now (a .publics)) (a .var .0) _ e (c .if1 .taken)
+number s =
+    rw (s .asked2 .ensures, s .before .asked .ensures, s .before .before .asked-store .ensures, s .before .before .before .asked-width .ensures)
+    (simp (▸-assoc, zero-▸, ▸-zero))
+
+returns : tie.Need-returns
+returns c = publicValue-refused _ _ _ _ (number (c .before)) (c .if1 .taken)
 
 last-value-requires : tie.Need-last-value-requires
-unfolding publicValueNo
-last-value-requires c κs =
-    let d = c .before in
-    let a = d .before .before .before .before .before .args in
-    let e : d .asked2 .result ≡ publicValueNo (a .ins) (length (now (a .publics))) (a .var .0) =
-    rw (d .asked2 .ensures, d .before .asked .ensures, d .before .before .asked-store .ensures, d .before .before .before .asked-width .ensures)
-    (simp (▸-assoc, zero-▸, ▸-zero)) in
-    value-fits (a .ins) (now (a .publics)) (a .var .0) _ e (c .if1 .left)
+last-value-requires c κs = publicValue-fits _ _ _ _ (number (c .before)) (c .if1 .left)
 
 returns-2 : tie.Need-returns-2
-unfolding publicValueNo valueOf
+unfolding valueOf
 returns-2 c =
-    let d = c .before .before in
-    let a = d .before .before .before .before .before .args in
-    let e : d .asked2 .result ≡ publicValueNo (a .ins) (length (now (a .publics))) (a .var .0) =
-    rw (d .asked2 .ensures, d .before .asked .ensures, d .before .before .asked-store .ensures, d .before .before .before .asked-width .ensures)
-    (simp (▸-assoc, zero-▸, ▸-zero)) in
-    c .last-value .ensures ∙ value-accepted (a .ins) (now (a .publics)) (a .var .0) _ e (c .before .if1 .left)
+    c .last-value .ensures ∙ publicValue-accepted _ _ _ _ (number (c .before .before)) (c .before .if1 .left)
 
 pub public-value-spec : {M : Type 1} → statement M
 public-value-spec =

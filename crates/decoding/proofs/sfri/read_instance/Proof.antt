@@ -70,7 +70,7 @@ returns-2 c =
     let f = file-told _ _ _ _ _ _ _ _ _ _ _ _ _ (c .before .before .before .before .before .before .before .before .before .before .file .given .1) (r .read-file .ensures) in
     let held = parts-held _ _ _ _ _ _ _ _ _ (f .holds) in
     let v = c .before .before .before .before in
-    let gate = v .asked-validated .ensures .0 ∙ zero-▸ _ ∙ ap (λ (x : Parts). gateNo x (length (now (a .scratch)))) held in
+    let gate = v .asked-validated .ensures .answer ∙ zero-▸ _ ∙ ap (λ (x : Parts). gateNo x (length (now (a .scratch)))) held in
     let x = after-stop (a .width) (instanceGot (a .width) (length (now (a .publics))) (length (now (a .queries))) (length (now (a .equations))) (length (now (a .scratch))) (now (a .bytes))) _ _ _ _ _ _ _ _ _ (gate-refused (a .width) (length (now (a .publics))) (length (now (a .queries))) (length (now (a .equations))) (length (now (a .scratch))) (now (a .bytes)) (f .file) (c .before .before .before .before .before .before .before .before .before .before .file .given .0 .1 .1 .0 .at) (f .reads) _ gate (c .before .if1 .taken)) in
     (c .refused2 .ensures ∙ x .0, x .1)
 
@@ -96,7 +96,7 @@ returns-3 c =
     let f = file-told _ _ _ _ _ _ _ _ _ _ _ _ _ (c .before .before .before .before .before .before .before .before .before .before .before .before .file .given .1) (r .read-file .ensures) in
     let held = parts-held _ _ _ _ _ _ _ _ _ (f .holds) in
     let v = c .before .before .before .before .before .before in
-    let gate = v .asked-validated .ensures .0 ∙ zero-▸ _ ∙ ap (λ (x : Parts). gateNo x (length (now (a .scratch)))) held in
+    let gate = v .asked-validated .ensures .answer ∙ zero-▸ _ ∙ ap (λ (x : Parts). gateNo x (length (now (a .scratch)))) held in
     let x = after-stop (a .width) (instanceGot (a .width) (length (now (a .publics))) (length (now (a .queries))) (length (now (a .equations))) (length (now (a .scratch))) (now (a .bytes))) _ _ _ _ _ _ _ _ _ (end-refused (a .width) (length (now (a .publics))) (length (now (a .queries))) (length (now (a .equations))) (length (now (a .scratch))) (now (a .bytes)) (f .file) (c .before .before .before .before .before .before .before .before .before .before .before .before .file .given .0 .1 .1 .0 .at) (f .reads) (sym gate ∙ c .before .before .before .if1 .left) (c .before .if2 .taken)) in
     (c .refused3 .ensures ∙ x .0, x .1)
 
@@ -122,9 +122,9 @@ returns-4 c =
     let f = file-told _ _ _ _ _ _ _ _ _ _ _ _ _ (c .before .before .before .before .before .before .before .before .before .before .before .file .given .1) (r .read-file .ensures) in
     let held = parts-held _ _ _ _ _ _ _ _ _ (f .holds) in
     let v = c .before .before .before .before .before in
-    let gate = v .asked-validated .ensures .0 ∙ zero-▸ _ ∙ ap (λ (x : Parts). gateNo x (length (now (a .scratch)))) held in
+    let gate = v .asked-validated .ensures .answer ∙ zero-▸ _ ∙ ap (λ (x : Parts). gateNo x (length (now (a .scratch)))) held in
     after-got (a .width) (instanceGot (a .width) (length (now (a .publics))) (length (now (a .queries))) (length (now (a .equations))) (length (now (a .scratch))) (now (a .bytes))) _ _ _ _ _ _ _ _ (f .file) _ (instance-yes (a .width) (length (now (a .publics))) (length (now (a .queries))) (length (now (a .equations))) (length (now (a .scratch))) (now (a .bytes)) (f .file) (c .before .before .before .before .before .before .before .before .before .before .before .file .given .0 .1 .1 .0 .at) (f .reads) (sym gate ∙ c .before .before .if1 .left) (c .if2 .left))
-    _ _ (f .holds) (f .labelIs) (v .asked-validated .ensures .1)
+    _ _ (f .holds) (f .labelIs) (v .asked-validated .ensures .scratch)
 
 pub read-instance-spec : {M : Type 1} → statement M
 read-instance-spec =

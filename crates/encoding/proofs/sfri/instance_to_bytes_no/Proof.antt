@@ -1,39 +1,39 @@
--- `sfri::instance_to_bytes_no` meets its contract: the chain of calls is the list of questions, with 10 by the
--- held words.
+-- `sfri::instance_to_bytes_no` meets its contract: 1, 2 and 11 are asked in one call, and 10 by the held words.
 -- Assumes nothing.
-use mathlib.Core.Path.{sym, ap, _∙_}
+use mathlib.Core.Path.{sym, _∙_}
 use native.Mathlib.Omega.{arith}
-use denote.Ref.{now}
-use lib.ListN.{length}
-use Rattle.limits.proofs.Questions.{zero-▸}
-use Rattle.encoding.specs.Answers.{instanceAsks, instanceToBytesNo}
-use Rattle.encoding.proofs.Stored.{asks-stay, asks-go}
-use Rattle.encoding.proofs.Held.{asks-no, good, instanceRoomAsk, instance-room}
 use borrow.Author.Needs.{needs}
+use denote.Ref.{now}
+use Rattle.limits.proofs.Questions.{zero-▸}
+use Rattle.instance.proofs.Facts.{instanceAsks-yes}
+use Rattle.encoding.proofs.Held.{Few, few, instanceToBytes-first, instanceToBytes-then}
 use Rattle.encoding.proofs.sfri.instance_to_bytes_no.Statement.{statement}
 use Rattle.encoding.proofs.sfri.instance_to_bytes_no.Tie as tie
 
-asked-width-requires : tie.Need-asked-width-requires
-asked-width-requires c κs = search needs
+abbrev start : tie.After-asked-instance → tie.Start
+start s = s .before .before .before .before .before
 
-asked-parts-requires : tie.Need-asked-parts-requires
-asked-parts-requires c κs = search needs
+-- where 1, 2 and 11 say yes, what is held is few
+held-few : (c : tie.After-held-words2) → let h = c .before .before .before in
+    Few (now (start (h .before .before .before) .args .label)) (now (h .held-words .result)) (now (c .before .before .held-pieces .result))
+    (now (c .held-words2 .result))
+held-few c =
+    let h = c .before .before .before in
+    let s = h .before .before .before in
+    let a = start s .args in
+    rw (h .held-words .ensures, c .before .before .held-pieces .ensures, c .held-words2 .ensures)
+    (few _ _ _ _ _
+    (instanceAsks-yes (a .ins) (now (a .label)) (now (a .publics)) (now (a .queries)) (now (a .equations))
+    (sym (s .asked-instance .ensures) ∙ h .before .before .if1 .left)))
 
-asked-requires : tie.Need-asked-requires
-asked-requires c κs = search needs
-
-asked-held-requires : tie.Need-asked-held-requires
-asked-held-requires c κs = search needs
+asked-instance-requires : tie.Need-asked-instance-requires
+asked-instance-requires c κs = search needs
 
 returns : tie.Need-returns
-unfolding instanceToBytesNo
 returns c =
-    let h = c .before in
-    let a = h .before .before .before .before .before .before .before .before .args in
-    let e = asks-no (a .ins) (now (a .label)) (now (a .publics)) (now (a .queries)) (now (a .equations)) _ _ _ _
-    (h .before .before .before .asked-width .ensures) (h .before .before .asked-parts .ensures) (h .before .asked .ensures) (h .asked-held .ensures) in
-    asks-stay (instanceAsks (a .ins) (now (a .label)) (now (a .publics)) (now (a .queries)) (now (a .equations)))
-    (instanceRoomAsk (a .ins) (now (a .label)) (now (a .publics)) (now (a .queries)) (now (a .equations)) (a .room)) _ e (c .if1 .taken)
+    let s = c .before in
+    let a = start s .args in
+    instanceToBytes-first (a .ins) (now (a .label)) (now (a .publics)) (now (a .queries)) (now (a .equations)) (a .room) _ (s .asked-instance .ensures) (c .if1 .taken)
 
 cast-held-words : tie.Need-cast-held-words
 cast-held-words c = search needs
@@ -61,55 +61,34 @@ add-size-2 c = search needs
 
 mul-size : tie.Need-mul-size
 mul-size c =
-    let h = c .before .before .before .before .before .before in
-    let a = h .before .before .before .before .before .before .before .before .args in
-    let e = asks-no (a .ins) (now (a .label)) (now (a .publics)) (now (a .queries)) (now (a .equations)) _ _ _ _
-    (h .before .before .before .asked-width .ensures) (h .before .before .asked-parts .ensures) (h .before .asked .ensures) (h .asked-held .ensures) in
-    let g = good (a .ins) (now (a .label)) (now (a .publics)) (now (a .queries)) (now (a .equations)) (sym e ∙ c .before .before .before .before .before .if1 .left) in
-    omega (arith, g .publicsLength, g .queriesLength, g .equationsLength, g .labelFits, ap length (c .before .before .before .held-words .ensures), ap length (c .before .before .held-pieces .ensures), ap length (c .held-words2 .ensures))
+    let f = held-few c in
+    omega arith
 
 add-asked : tie.Need-add-asked
-add-asked c =
-    let h = c .before .before .before .before .before .before in
-    let a = h .before .before .before .before .before .before .before .before .args in
-    let e = asks-no (a .ins) (now (a .label)) (now (a .publics)) (now (a .queries)) (now (a .equations)) _ _ _ _
-    (h .before .before .before .asked-width .ensures) (h .before .before .asked-parts .ensures) (h .before .asked .ensures) (h .asked-held .ensures) in
-    let g = good (a .ins) (now (a .label)) (now (a .publics)) (now (a .queries)) (now (a .equations)) (sym e ∙ c .before .before .before .before .before .if1 .left) in
-    omega (arith, g .publicsLength, g .queriesLength, g .equationsLength, g .labelFits, ap length (c .before .before .before .held-words .ensures), ap length (c .before .before .held-pieces .ensures), ap length (c .held-words2 .ensures))
+add-asked c = search needs
 
 add-asked-2 : tie.Need-add-asked-2
 add-asked-2 c =
-    let h = c .before .before .before .before .before .before in
-    let a = h .before .before .before .before .before .before .before .before .args in
-    let e = asks-no (a .ins) (now (a .label)) (now (a .publics)) (now (a .queries)) (now (a .equations)) _ _ _ _
-    (h .before .before .before .asked-width .ensures) (h .before .before .asked-parts .ensures) (h .before .asked .ensures) (h .asked-held .ensures) in
-    let g = good (a .ins) (now (a .label)) (now (a .publics)) (now (a .queries)) (now (a .equations)) (sym e ∙ c .before .before .before .before .before .if1 .left) in
-    omega (arith, g .publicsLength, g .queriesLength, g .equationsLength, g .labelFits, ap length (c .before .before .before .held-words .ensures), ap length (c .before .before .held-pieces .ensures), ap length (c .held-words2 .ensures))
+    let f = held-few c in
+    omega arith
 
-asked-requires-2 : tie.Need-asked-requires-2
-asked-requires-2 c κs = search needs
+asked-requires : tie.Need-asked-requires
+asked-requires c κs = search needs
 
 returns-2 : tie.Need-returns-2
-unfolding instanceToBytesNo
 returns-2 c =
-    let h = c .before .before .before .before .before .before .before in
-    let a = h .before .before .before .before .before .before .before .before .args in
-    let e = asks-no (a .ins) (now (a .label)) (now (a .publics)) (now (a .queries)) (now (a .equations)) _ _ _ _
-    (h .before .before .before .asked-width .ensures) (h .before .before .asked-parts .ensures) (h .before .asked .ensures) (h .asked-held .ensures) in
-    let g = good (a .ins) (now (a .label)) (now (a .publics)) (now (a .queries)) (now (a .equations)) (sym e ∙ c .before .before .before .before .before .before .if1 .left) in
-    asks-go (instanceAsks (a .ins) (now (a .label)) (now (a .publics)) (now (a .queries)) (now (a .equations)))
-    (instanceRoomAsk (a .ins) (now (a .label)) (now (a .publics)) (now (a .queries)) (now (a .equations)) (a .room)) _ e (c .before .before .before .before .before .before .if1 .left) _
-    (instance-room (a .ins) (now (a .label)) (now (a .publics)) (now (a .queries)) (now (a .equations)) g (a .room) _
-    (c .asked2 .ensures ∙ rw (c .before .before .before .before .held-words .ensures, c .before .before .before .held-pieces .ensures, c .before .held-words2 .ensures) (simp zero-▸)))
+    let h = c .before in
+    let s = h .before .before .before .before .before .before in
+    let a = start s .args in
+    instanceToBytes-then (a .ins) (now (a .label)) (now (a .publics)) (now (a .queries)) (now (a .equations)) (a .room) _ (s .asked-instance .ensures)
+    (h .before .before .before .before .before .if1 .left) _
+    (c .asked .ensures ∙ zero-▸ _ ∙ rw (h .before .before .before .held-words .ensures, h .before .before .held-pieces .ensures, h .held-words2 .ensures))
 
 pub instance-to-bytes-no-spec : {M : Type 1} → statement M
 instance-to-bytes-no-spec =
     tie.close
     (tie.spec
-    asked-width-requires
-    asked-parts-requires
-    asked-requires
-    asked-held-requires
+    asked-instance-requires
     returns
     cast-held-words
     mul-held-words
@@ -122,5 +101,5 @@ instance-to-bytes-no-spec =
     mul-size
     add-asked
     add-asked-2
-    asked-requires-2
+    asked-requires
     returns-2)

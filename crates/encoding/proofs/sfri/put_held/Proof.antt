@@ -1,25 +1,51 @@
 -- `sfri::put_held` meets its contract: header, label, wire count and lists, one after the other.
 -- Assumes nothing.
-use Prim.Native.Nat.{_+_, _*_}
+use Prim.Native.Nat.{ℕ, _+_, _*_}
+use mathlib.Core.Path.{_≡_, _∙_}
+use mathlib.Core.List.{List}
 use native.Mathlib.Omega.{arith}
+use borrow.Author.Needs.{needs}
 use denote.Ref.{now}
 use lib.ListN.{length}
-use Rattle.encoding.proofs.Held.{held-stored}
-use borrow.Author.Needs.{needs}
+use Rattle.encoding.specs.Form.{headerLength}
+use Rattle.encoding.proofs.Length.{length-labelBytes, length-listBytes}
+use Rattle.encoding.proofs.Held.{held-put}
 use Rattle.encoding.proofs.sfri.put_held.Statement.{statement}
 use Rattle.encoding.proofs.sfri.put_held.Tie as tie
 
-add-at : tie.Need-add-at
-add-at c = search needs
+abbrev start : tie.After-put-header-arg → tie.Start
+start h = h .before .before .before .before .before .before
 
-add-after-publics : tie.Need-add-after-publics
-add-after-publics c = search needs
+-- ---- after label, publics and queries: the place past them, and the output is as long as it was
+record Placed (o : tie.Start) (at place : ℕ) (out : List ℕ) : Type 0 where
+  past : at ≡ place
+  kept : length out ≡ length (now (o .args .out))
 
-mul-after-publics : tie.Need-mul-after-publics
-mul-after-publics c = search needs
+label-placed : (s : tie.After-put-label) → let o = start (s .before .before .before .before .before) in
+    Placed o (s .put-label .result) (headerLength + 4 + length (now (o .args .label))) (s .put-label .last .0)
+label-placed s =
+    let h = s .before .before .before .before in
+    let l = length-labelBytes (now (start (h .before) .args .label)) in
+    record { past = omega (arith, s .put-label .ensures .past); kept = s .put-label .kept .0 ∙ h .put-header .kept .0 }
 
-add-after-publics-2 : tie.Need-add-after-publics-2
-add-after-publics-2 c = search needs
+publics-placed : (s : tie.After-put-list) → let b = s .before .before .before .before .before .before .before .before in
+    let o = start (b .before .before .before .before .before) in
+    Placed o (s .put-list .result) (b .put-label .result + 8 + 4 * length (now (o .args .publics))) (s .put-list .last .0)
+publics-placed s =
+    let v = s .before .before .before .before in
+    let b = v .before .before .before .before in
+    let a = start (b .before .before .before .before .before) .args in
+    let l = length-listBytes (a .ins .publics) (now (a .publics)) in
+    record { past = omega (arith, s .put-list .ensures .past); kept = s .put-list .kept .0 ∙ v .put-u32 .kept .0 ∙ label-placed b .kept }
+
+queries-placed : (s : tie.After-put-list2) → let p = s .before .before .before .before in
+    let o = start (p .before .before .before .before .before .before .before .before .before .before .before .before .before) in
+    Placed o (s .put-list2 .result) (p .put-list .result + 4 + 4 * length (now (o .args .queries))) (s .put-list2 .last .0)
+queries-placed s =
+    let p = s .before .before .before .before in
+    let a = start (p .before .before .before .before .before .before .before .before .before .before .before .before .before) .args in
+    let l = length-listBytes (a .ins .queries) (now (a .queries)) in
+    record { past = omega (arith, s .put-list2 .ensures .past); kept = s .put-list2 .kept .0 ∙ publics-placed p .kept }
 
 put-header-requires : tie.Need-put-header-requires
 put-header-requires c κs = search needs
@@ -31,62 +57,62 @@ put-u32-requires : tie.Need-put-u32-requires
 put-u32-requires c κs = search needs
 
 add-put-list : tie.Need-add-put-list
-add-put-list c = search needs
+add-put-list c =
+    let b = c .before .before .before .before .before .before .before in
+    let l = label-placed b in
+    omega (arith, start (b .before .before .before .before .before) .pre .room)
 
 put-list-requires : tie.Need-put-list-requires
-put-list-requires c κs = search needs
+put-list-requires c κs =
+    let v = c .before .before .before in
+    let b = v .before .before .before .before in
+    let l = label-placed b in
+    omega (arith, v .put-u32 .kept .0, start (b .before .before .before .before .before) .pre .room)
 
 put-list-requires-2 : tie.Need-put-list-requires-2
-put-list-requires-2 c κs = search needs
-
-add-put-list-2 : tie.Need-add-put-list-2
-add-put-list-2 c = search needs
-
-mul-put-list : tie.Need-mul-put-list
-mul-put-list c = search needs
-
-add-put-list-3 : tie.Need-add-put-list-3
-add-put-list-3 c = search needs
+put-list-requires-2 c κs =
+    let s = c .before .before .before in
+    let b = s .before .before .before .before .before .before .before .before in
+    let p = publics-placed s in
+    let l = label-placed b in
+    omega (arith, start (b .before .before .before .before .before) .pre .room)
 
 put-list-requires-3 : tie.Need-put-list-requires-3
-put-list-requires-3 c κs = search needs
+put-list-requires-3 c κs =
+    let s = c .before .before .before in
+    let t = s .before .before .before .before in
+    let b = t .before .before .before .before .before .before .before .before in
+    let q = queries-placed s in
+    let p = publics-placed t in
+    let l = label-placed b in
+    omega (arith, start (b .before .before .before .before .before) .pre .room)
 
 same-length : tie.Need-same-length
 same-length c = search needs
 
 returns : tie.Need-returns
 returns c =
-    let l3 = c .before .before in
-    let l2 = c .before .before .before .before .before .before in
-    let l1 = c .before .before .before .before .before .before .before .before .before .before in
-    let v = c .before .before .before .before .before .before .before .before .before .before .before .before .before .before in
-    let b = c .before .before .before .before .before .before .before .before .before .before .before .before .before .before .before .before .before .before in
-    let h = c .before .before .before .before .before .before .before .before .before .before .before .before .before .before .before .before .before .before .before .before .before .before in
-    let a = c .before .before .before .before .before .before .before .before .before .before .before .before .before .before .before .before .before .before .before .before .before .before .before .before .before .before .before .before .before .args in
-    let at = 17 + length (now (a .label)) in
-    let after = at + 8 + 4 * length (now (a .publics)) in
-    held-stored (a .ins) (now (a .label)) (now (a .publics)) (now (a .queries)) (now (a .equations)) (now (a .out)) (c .before .before .before .before .before .before .before .before .before .before .before .before .before .before .before .before .before .before .before .before .before .before .before .before .before .before .before .before .before .pre .0)
-    _ _ _ _ _ _ at (at + 4) after (after + 4 + 4 * length (now (a .queries)))
-    (h .put-header .ensures) (b .put-label .ensures) (v .put-u32 .ensures .1) (l1 .put-list .ensures) (l2 .put-list2 .ensures) (l3 .put-list3 .ensures)
-    (omega arith) (omega arith) (omega arith) (omega arith)
+    let q = c .before .before .before .before .before .before in
+    let p = q .before .before .before .before in
+    let v = p .before .before .before .before in
+    let b = v .before .before .before .before in
+    let h = b .before .before .before .before in
+    let o = start (h .before) in
+    let a = o .args in
+    held-put (a .ins) (now (a .label)) (now (a .publics)) (now (a .queries)) (now (a .equations)) (now (a .out)) (o .pre)
+    (h .put-header .ensures) (b .put-label .ensures) (v .put-u32 .ensures .1) (p .put-list .ensures) (q .put-list2 .ensures)
+    (c .before .before .put-list3 .ensures)
 
 pub put-held-spec : {M : Type 1} → statement M
 put-held-spec =
     tie.close
     (tie.spec
-    add-at
-    add-after-publics
-    mul-after-publics
-    add-after-publics-2
     put-header-requires
     put-label-requires
     put-u32-requires
     add-put-list
     put-list-requires
     put-list-requires-2
-    add-put-list-2
-    mul-put-list
-    add-put-list-3
     put-list-requires-3
     same-length
     returns)

@@ -1,15 +1,32 @@
 -- `sfrw::witness_to_bytes_no` meets its contract: the chain of calls is the list of questions, with 10 by the held
 -- words.
 -- Assumes nothing.
-use mathlib.Core.Path.{_∙_}
+use Prim.Native.Nat.{ℕ}
+use mathlib.Core.Path.{_≡_, _∙_}
 use borrow.Author.Needs.{needs}
 use denote.Ref.{now}
+use Rattle.limits.specs.Questions.{firstNo}
 use Rattle.limits.proofs.Questions.{▸-assoc, zero-▸, ▸-zero}
-use Rattle.encoding.specs.Answers.{witnessToBytesNo, stepsAsks}
-use Rattle.encoding.proofs.Stored.{asks-stay, asks-go}
-use Rattle.encoding.proofs.Steps.{roomAsk, witness-room}
+use Rattle.encoding.specs.Answers.{stepsAsks}
+use Rattle.encoding.proofs.Steps.{witnessToBytes-first, witnessToBytes-then}
 use Rattle.encoding.proofs.sfrw.witness_to_bytes_no.Statement.{statement}
 use Rattle.encoding.proofs.sfrw.witness_to_bytes_no.Tie as tie
+
+abbrev start : tie.After-shared-slice-known → tie.Start
+start k = k .before
+
+-- 1, 2 and 11
+first-asked : (s : tie.After-asked-below) → let a = start (s .before .before .before .before .before) .args in
+    s .asked-below .result ≡ firstNo (stepsAsks (a .width) (a .steps) (now (a .trace)))
+first-asked s =
+    rw (
+      s .asked-below .ensures,
+      s .before .before .before .before .held-pieces .ensures,
+      s .before .asked-pieces .ensures,
+      s .before .before .asked-store .ensures,
+      s .before .before .before .asked-width .ensures,
+    )
+    (simp (▸-assoc, zero-▸, ▸-zero))
 
 held-pieces-requires : tie.Need-held-pieces-requires
 held-pieces-requires c κs = search needs
@@ -27,14 +44,10 @@ asked-below-requires : tie.Need-asked-below-requires
 asked-below-requires c κs = search needs
 
 returns : tie.Need-returns
-unfolding witnessToBytesNo
 returns c =
-    let h = c .before .before .before .before .before in
-    let a = h .before .before .args in
-    asks-stay (stepsAsks (a .width) (a .steps) (now (a .trace))) (roomAsk (a .width) (a .steps) (now (a .trace)) (a .room)) _
-    (rw (c .before .asked-below .ensures, h .held-pieces .ensures, c .before .before .asked-pieces .ensures, c .before .before .before .asked-store .ensures, c .before .before .before .before .asked-width .ensures)
-    (simp (▸-assoc, zero-▸, ▸-zero)))
-    (c .if1 .taken)
+    let s = c .before in
+    let a = start (s .before .before .before .before .before) .args in
+    witnessToBytes-first (a .width) (a .steps) (now (a .trace)) (a .room) _ (first-asked s) (c .if1 .taken)
 
 mul-asked : tie.Need-mul-asked
 mul-asked c = search needs
@@ -46,17 +59,12 @@ asked-requires : tie.Need-asked-requires
 asked-requires c κs = search needs
 
 returns-2 : tie.Need-returns-2
-unfolding witnessToBytesNo
 returns-2 c =
-    let b = c .before .before in
-    let h = b .before .before .before .before in
-    let a = h .before .before .args in
-    asks-go (stepsAsks (a .width) (a .steps) (now (a .trace))) (roomAsk (a .width) (a .steps) (now (a .trace)) (a .room)) _
-    (rw (b .asked-below .ensures, h .held-pieces .ensures, b .before .asked-pieces .ensures, b .before .before .asked-store .ensures, b .before .before .before .asked-width .ensures)
-    (simp (▸-assoc, zero-▸, ▸-zero)))
-    (c .before .if1 .left) _
-    (witness-room (a .width) (a .steps) (now (a .trace)) (a .room) _
-    (c .asked .ensures ∙ rw (h .held-pieces .ensures) (simp zero-▸)))
+    let s = c .before .before in
+    let h = s .before .before .before .before in
+    let a = start (h .before) .args in
+    witnessToBytes-then (a .width) (a .steps) (now (a .trace)) (a .room) _ (first-asked s) (c .before .if1 .left) _
+    (c .asked .ensures ∙ zero-▸ _ ∙ rw (h .held-pieces .ensures))
 
 pub witness-to-bytes-no-spec : {M : Type 1} → statement M
 witness-to-bytes-no-spec =

@@ -20,7 +20,7 @@ same-length c = search needs
 returns : tie.Need-returns
 returns c =
     let a = c .before .before .before .before .before .before .before .before .before .args in
-    (sym (stays (a .no) _ (c .if1 .taken)), c .before .before .before .fill .ensures)
+    record { answer = sym (stays (a .no) _ (c .if1 .taken)); scratch = c .before .before .before .fill .ensures }
 
 validated-requires : tie.Need-validated-requires
 validated-requires c κs =
@@ -39,12 +39,14 @@ returns-2 c =
     let v = c .before .before .before .before .before .before in
     let f = v .before .before .before .before .before in
     let a = f .before .before .before .before .before .before .args in
-    let n : length (f .fill .last .0) ≡ length (now (a .scratch)) = ap length (f .fill .ensures) ∙ length-replicate _ _ in (
-      v .validated .ensures
+    let n : length (f .fill .last .0) ≡ length (now (a .scratch)) = ap length (f .fill .ensures) ∙ length-replicate _ _ in
+    record {
+      answer =
+          v .validated .ensures
           ∙ ap (gateNo (partsOf (a .ins) (now (a .publics)) (now (a .queries)) (now (a .equations)))) n
-          ∙ sym (goes-on (a .no) _ (v .before .before .if1 .left)),
-      c .before .before .fill2 .ensures ∙ ap (λ (k : ℕ). replicate {A = ℕ} k 0) (v .validated .kept .1 .1 .1 .1 .0 ∙ n),
-    )
+          ∙ sym (goes-on (a .no) _ (v .before .before .if1 .left));
+      scratch = c .before .before .fill2 .ensures ∙ ap (λ (k : ℕ). replicate {A = ℕ} k 0) (v .validated .kept .1 .1 .1 .1 .0 ∙ n);
+    }
 
 pub asked-validated-spec : {M : Type 1} → statement M
 asked-validated-spec =

@@ -3,27 +3,28 @@
 use borrow.Author.Needs.{needs}
 use native.Mathlib.Omega.{arith}
 use denote.Ref.{now}
-use Prim.Native.Nat.{_≤_, _<_, _-_, _+_}
-use mathlib.Core.Path.{_≡_, refl, ap, _∙_}
-use lib.ListN.{length, drop, getD, length-set, List·getD-eq-default}
-use Rattle.words.specs.Store.{allBelow}
+use Prim.Native.Nat.{ℕ, _≤_, _<_, _-_, _+_}
+use mathlib.Core.Path.{_≡_, refl, _∙_}
+use mathlib.Core.Bool.{Bool}
+use mathlib.Core.List.{List}
+use lib.ListN.{length, drop, getD, length-set, drop-of-length-le, List·getD-eq-default}
 use Rattle.instance.specs.Parts.{pairVars, pairsAt}
-use Rattle.instance.specs.Marks.{marked}
+use Rattle.instance.specs.Marks.{Marking}
 use Rattle.instance.proofs.Pairs.{pairs-at}
-use Rattle.instance.proofs.Marks.{Marking, mark-done, mark-no, mark-more, mark-ended}
+use Rattle.instance.proofs.Marks.{mark-done, mark-no, mark-more, mark-lacking}
 use Rattle.instance.proofs.validated.mark_publics.Statement.{statement}
 use Rattle.instance.proofs.validated.mark_publics.Tie as tie
 
 abbrev Inv-loop : tie.InvT-loop
 Inv-loop marks₀ vars s n i₀ left₀ marks i left =
-    Marking vars (pairVars (pairsAt left (drop i s))) marks (allBelow vars (pairVars (pairsAt n s))) (marked vars (pairVars (pairsAt n s)) marks₀)
+    ((says : Bool) (end : List ℕ) → Marking vars (pairVars (pairsAt left (drop i s))) marks says end → Marking vars (pairVars (pairsAt n s)) marks₀ says end)
     × (length marks ≡ length marks₀)
 
 abbrev μ-loop : tie.MeasureT-loop
 μ-loop marks₀ vars s n i₀ left₀ marks i left = left
 
 loop-holds : tie.Need-loop-holds Inv-loop μ-loop
-loop-holds c = ((refl, refl), refl)
+loop-holds c = (λ says end m. m, refl)
 
 word-at-requires : tie.Need-word-at-requires Inv-loop μ-loop
 word-at-requires c κs = search needs
@@ -38,7 +39,7 @@ returns c =
     let a = t .before .before .before .before .args in
     let s = now (a .s) in
     let h : a .vars ≤ getD s (l .i) 0 = rw (c .before .word-at .ensures) at (c .if1 .taken) in
-    mark-no (a .vars) _ (l .marks) _ _ (l .inv .0) _ _ (ap pairVars (pairs-at s (l .i) (l .left) (t .loop-test .taken))) h
+    l .inv .0 _ _ (rw (pairs-at s (l .i) (l .left) (t .loop-test .taken)) (mark-no (a .vars) (l .marks) _ _ h))
 
 cast-marks : tie.Need-cast-marks Inv-loop μ-loop
 cast-marks c = search needs
@@ -60,10 +61,12 @@ returns-2 c =
     let s = now (a .s) in
     let e = c .before .before .word-at .ensures in
     let z : getD s (l .i) 0 ≡ 0 = List·getD-eq-default s 0 (c .if2 .taken) in
-    let h : getD s (l .i) 0 < a .vars = rw e at (c .before .if1 .left) in
-    let k : 0 < a .vars = rw z at h in
-    let m = mark-more (a .vars) _ (l .marks) _ _ (l .inv .0) _ _ (ap pairVars (pairs-at s (l .i) (l .left) (t .loop-test .taken))) h in
-    rw (e, z) (mark-ended (a .vars) (l .left - 1) s (l .marks) (l .i + 2) _ _ (rw z at m) (omega arith) k)
+    let k : 0 < a .vars = rw (e, z) at (c .before .if1 .left) in
+    let d : length s ≤ l .i + 2 = omega arith in
+    rw (e, z)
+    (l .inv .0 _ _
+    (rw (pairs-at s (l .i) (l .left) (t .loop-test .taken), z, drop-of-length-le s d)
+    (mark-more (a .vars) (l .marks) 0 _ k (mark-lacking (a .vars) (l .left - 1) (l .marks) k))))
 
 add-i : tie.Need-add-i Inv-loop μ-loop
 add-i c = omega arith
@@ -83,7 +86,8 @@ loop-again c =
     let e = c .before .before .word-at .ensures in
     let h : getD s (l .i) 0 < a .vars = rw e at (c .before .if1 .left) in
     rw e (
-      mark-more (a .vars) _ (l .marks) _ _ (l .inv .0) _ _ (ap pairVars (pairs-at s (l .i) (l .left) (t .loop-test .taken))) h,
+      λ says end m.
+          l .inv .0 says end (rw (pairs-at s (l .i) (l .left) (t .loop-test .taken)) (mark-more (a .vars) (l .marks) _ _ h m)),
       length-set (l .marks) (getD s (l .i) 0) 1 ∙ l .inv .1,
     )
 
@@ -95,7 +99,7 @@ returns-3 c =
     let l = c .before .loop in
     let a = c .before .before .before .before .args in
     let z : l .left ≡ 0 = omega arith in
-    mark-done (a .vars) _ (l .marks) _ _ (l .inv .0) (rw z)
+    l .inv .0 _ _ (rw z (mark-done (a .vars) (l .marks)))
 
 pub mark-publics-spec : {M : Type 1} → statement M
 mark-publics-spec =

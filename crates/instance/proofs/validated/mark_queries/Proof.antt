@@ -3,20 +3,21 @@
 use borrow.Author.Needs.{needs}
 use native.Mathlib.Omega.{arith}
 use denote.Ref.{now}
-use Prim.Native.Nat.{_≤_, _-_}
+use Prim.Native.Nat.{ℕ, _≤_, _-_}
 use mathlib.Core.Path.{_≡_, refl, _∙_}
+use mathlib.Core.Bool.{Bool}
+use mathlib.Core.List.{List}
 use native.Mathlib.Numerals.{add-one}
 use lib.ListN.{length, drop, length-set, drop-of-length-le}
 use lib.Seq.{drop-cons}
-use Rattle.words.specs.Store.{allBelow}
-use Rattle.instance.specs.Marks.{marked}
-use Rattle.instance.proofs.Marks.{Marking, mark-done, mark-no, mark-more}
+use Rattle.instance.specs.Marks.{Marking}
+use Rattle.instance.proofs.Marks.{mark-done, mark-no, mark-more}
 use Rattle.instance.proofs.validated.mark_queries.Statement.{statement}
 use Rattle.instance.proofs.validated.mark_queries.Tie as tie
 
 abbrev Inv-loop : tie.InvT-loop
 Inv-loop marks₀ vars s i₀ marks i =
-    Marking vars (drop i s) marks (allBelow vars s) (marked vars s marks₀)
+    ((says : Bool) (end : List ℕ) → Marking vars (drop i s) marks says end → Marking vars s marks₀ says end)
     × (i ≤ length s)
     × (length marks ≡ length marks₀)
 
@@ -24,7 +25,7 @@ abbrev μ-loop : tie.MeasureT-loop
 μ-loop marks₀ vars s i₀ marks i = length s - i
 
 loop-holds : tie.Need-loop-holds Inv-loop μ-loop
-loop-holds c = ((refl, refl), omega arith, refl)
+loop-holds c = (λ says end m. m, omega arith, refl)
 
 mul-x : tie.Need-mul-x Inv-loop μ-loop
 mul-x c = search needs
@@ -41,7 +42,7 @@ returns c =
     let l = t .before .loop in
     let a = t .before .before .args in
     let s = now (a .s) in
-    mark-no (a .vars) _ (l .marks) _ _ (l .inv .0) _ _ (drop-cons s (l .i) 0 (t .loop-test .taken)) (c .if1 .taken)
+    l .inv .0 _ _ (rw (drop-cons s (l .i) 0 (t .loop-test .taken)) (mark-no (a .vars) (l .marks) _ _ (c .if1 .taken)))
 
 cast-marks : tie.Need-cast-marks Inv-loop μ-loop
 cast-marks c = search needs
@@ -65,7 +66,7 @@ loop-again c =
     let a = t .before .before .args in
     let s = now (a .s) in (
       rw add-one
-          (mark-more (a .vars) _ (l .marks) _ _ (l .inv .0) _ _ (drop-cons s (l .i) 0 (t .loop-test .taken)) (c .if1 .left)),
+          (λ says end m. l .inv .0 says end (rw (drop-cons s (l .i) 0 (t .loop-test .taken)) (mark-more (a .vars) (l .marks) _ _ (c .if1 .left) m))),
       omega arith,
       length-set (l .marks) _ 1 ∙ l .inv .2,
     )
@@ -77,7 +78,7 @@ returns-2 : tie.Need-returns-2 Inv-loop μ-loop
 returns-2 c =
     let l = c .before .loop in
     let a = c .before .before .args in
-    mark-done (a .vars) _ (l .marks) _ _ (l .inv .0) (drop-of-length-le (now (a .s)) (c .loop-test .left))
+    l .inv .0 _ _ (rw (drop-of-length-le (now (a .s)) (c .loop-test .left)) (mark-done (a .vars) (l .marks)))
 
 pub mark-queries-spec : {M : Type 1} → statement M
 mark-queries-spec =

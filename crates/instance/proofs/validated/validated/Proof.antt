@@ -2,21 +2,33 @@
 -- Assumes nothing.
 use borrow.Author.Needs.{needs}
 use denote.Ref.{now}
-use Prim.Native.Nat.{ℕ, _*_, _≤_}
-use mathlib.Core.Path.{_≡_, sym, ap, _∙_}
-use mathlib.Core.Bool.{true, false, _||_}
-use mathlib.Core.List.{List}
+use mathlib.Core.Path.{_∙_}
 use borrow.Author.Tests.{not-true, not-false}
-use lib.ListN.{length, take}
-use Rattle.words.specs.Store.{allBelow}
-use Rattle.words.specs.Pieces.{wordsOf}
-use Rattle.instance.specs.Parts.{pairVars, pairsAt, has, partsOf}
-use Rattle.instance.specs.Marks.{isMarked, marked}
-use Rattle.instance.specs.Validated.{bound}
+use lib.ListN.{length}
+use Rattle.words.specs.Pieces.{flat}
+use Rattle.instance.specs.Parts.{Parts, pairVars, partsOf}
+use Rattle.instance.specs.Marks.{Marking}
 use Rattle.instance.proofs.Parts.{flat-held}
-use Rattle.instance.proofs.Gate.{gate-16, gate-12, gate-13, gate-terms, marks-bind}
+use Rattle.instance.proofs.Gate.{gate-16, gate-12, gate-13, gate-terms}
 use Rattle.instance.proofs.validated.validated.Statement.{statement}
 use Rattle.instance.proofs.validated.validated.Tie as tie
+
+-- ---- what was lent, and what is known once publics and then queries are marked
+abbrev parts : tie.Start → Parts
+parts o = partsOf (o .args .ins) (now (o .args .publics)) (now (o .args .queries)) (now (o .args .equations))
+
+abbrev start : tie.Else1 → tie.Start
+start e = e .before .before .before .before .before
+
+publics-marked : (s : tie.After-mark-publics) → let o = start (s .before .before .before) in
+    Marking (o .args .ins .vars) (pairVars (parts o .publics)) (now (o .args .marks)) (s .mark-publics .result) (s .mark-publics .last .0)
+unfolding partsOf
+publics-marked s = rw (s .before .held-words .ensures) at (s .mark-publics .ensures)
+
+queries-marked : (s : tie.After-mark-queries) → let m = s .before .before .before .before .before .before in let o = start (m .before .before .before) in
+    Marking (o .args .ins .vars) (flat (parts o .queries)) (m .mark-publics .last .0) (s .mark-queries .result) (s .mark-queries .last .0)
+unfolding partsOf
+queries-marked s = rw (flat-held, ← s .before .held-pieces .ensures) (s .mark-queries .ensures)
 
 cast-if1 : tie.Need-cast-if1
 cast-if1 c = search needs
@@ -24,8 +36,8 @@ cast-if1 c = search needs
 returns : tie.Need-returns
 unfolding partsOf
 returns c =
-    let a = c .before .before .before .before .before .args in
-    gate-16 (partsOf (a .ins) (now (a .publics)) (now (a .queries)) (now (a .equations))) (length (now (a .marks))) (c .if1 .taken)
+    let o = c .before .before .before .before .before in
+    gate-16 (parts o) (length (now (o .args .marks))) (c .if1 .taken)
 
 cast-held-words : tie.Need-cast-held-words
 cast-held-words c = search needs
@@ -45,12 +57,9 @@ same-length c = search needs
 returns-2 : tie.Need-returns-2
 unfolding partsOf
 returns-2 c =
-    let d = c .before .before .before in
-    let a = d .before .before .before .before .before .before .before .before .args in
-    let parts = partsOf (a .ins) (now (a .publics)) (now (a .queries)) (now (a .equations)) in
-    let p : allBelow (a .ins .vars) (pairVars (pairsAt (a .ins .publics) (take (2 * a .ins .publics) (now (a .publics))))) ≡ false =
-    rw (d .before .held-words .ensures) at (sym (d .mark-publics .ensures .0) ∙ not-true _ (c .if2 .taken)) in
-    gate-12 parts (length (now (a .marks))) (d .before .before .before .if1 .left) p
+    let p = c .before .before .before in
+    let e = p .before .before .before in
+    gate-12 (parts (start e)) _ (e .if1 .left) _ (start e .pre) (publics-marked p) (not-true _ (c .if2 .taken))
 
 held-pieces-requires : tie.Need-held-pieces-requires
 held-pieces-requires c κs = search needs
@@ -64,16 +73,11 @@ same-length-2 c = search needs
 returns-3 : tie.Need-returns-3
 unfolding partsOf
 returns-3 c =
-    let f = c .before .before .before in
-    let d = f .before .before .before .before .before .before in
-    let a = d .before .before .before .before .before .before .before .before .args in
-    let parts = partsOf (a .ins) (now (a .publics)) (now (a .queries)) (now (a .equations)) in
-    let p : allBelow (a .ins .vars) (pairVars (pairsAt (a .ins .publics) (take (2 * a .ins .publics) (now (a .publics))))) ≡ true =
-    rw (d .before .held-words .ensures) at (sym (d .mark-publics .ensures .0) ∙ not-false _ (f .before .before .before .if2 .left)) in
-    let q : allBelow (a .ins .vars) (take (wordsOf (a .ins .width) (a .ins .queries)) (now (a .queries))) ≡ false =
-    rw (f .before .held-pieces .ensures) at (sym (f .mark-queries .ensures .0) ∙ not-true _ (c .if3 .taken)) in
-    gate-13 parts (length (now (a .marks))) (d .before .before .before .if1 .left) p
-    (ap (allBelow (a .ins .vars)) (flat-held (a .ins .width) (a .ins .queries) (now (a .queries))) ∙ q)
+    let q = c .before .before .before in
+    let p = q .before .before .before .before .before .before in
+    let e = p .before .before .before in
+    gate-13 (parts (start e)) _ (e .if1 .left) _ (start e .pre) (publics-marked p) (not-false _ (q .before .before .before .if2 .left)) (queries-marked q)
+    (not-true _ (c .if3 .taken))
 
 cast-held-words-2 : tie.Need-cast-held-words-2
 cast-held-words-2 c = search needs
@@ -90,31 +94,12 @@ same-length-3 c = search needs
 returns-4 : tie.Need-returns-4
 unfolding partsOf
 returns-4 c =
-    let f = c .before .before .before .before .before .before in
-    let d = f .before .before .before .before .before .before in
-    let o = d .before .before .before .before .before .before .before .before in
-    let a = o .args in
-    let vars = a .ins .vars in
-    let parts = partsOf (a .ins) (now (a .publics)) (now (a .queries)) (now (a .equations)) in
-    let xs = pairVars (pairsAt (a .ins .publics) (take (2 * a .ins .publics) (now (a .publics)))) in
-    let ys = take (wordsOf (a .ins .width) (a .ins .queries)) (now (a .queries)) in
-    let fl = flat-held (a .ins .width) (a .ins .queries) (now (a .queries)) in
-    let h : vars ≤ length (now (a .marks)) = d .before .before .before .if1 .left in
-    let p : allBelow vars xs ≡ true =
-    rw (d .before .held-words .ensures) at (sym (d .mark-publics .ensures .0) ∙ not-false _ (f .before .before .before .if2 .left)) in
-    let q : allBelow vars ys ≡ true =
-    rw (f .before .held-pieces .ensures) at (sym (f .mark-queries .ensures .0) ∙ not-false _ (c .before .before .before .if3 .left)) in
-    let m1 : d .mark-publics .last .0 ≡ marked vars xs (now (a .marks)) =
-    rw (d .before .held-words .ensures) at (d .mark-publics .ensures .1) in
-    let m2 : f .mark-queries .last .0 ≡ marked vars ys (d .mark-publics .last .0) =
-    rw (f .before .held-pieces .ensures) at (f .mark-queries .ensures .1) in
-    let marks = f .mark-queries .last .0 in
-    let binds : (x : ℕ) → isMarked marks x ≡ bound parts x = λ x.
-    ap (λ (m : List ℕ). isMarked m x) (m2 ∙ ap (marked vars ys) (m1 ∙ ap (marked vars xs) (o .pre)))
-    ∙ marks-bind vars (length (now (a .marks))) xs ys h p q x
-    ∙ ap (λ (l : List ℕ). has xs x || has l x) (sym fl) in
+    let q = c .before .before .before .before .before .before in
+    let p = q .before .before .before .before .before .before in
+    let e = p .before .before .before in
     (rw (c .before .held-words2 .ensures) at (c .asked-equations .ensures))
-    ∙ gate-terms parts (length (now (a .marks))) h p (ap (allBelow vars) fl ∙ q) (isMarked marks) binds
+    ∙ gate-terms (parts (start e)) _ (e .if1 .left) _ (start e .pre) (publics-marked p) (not-false _ (q .before .before .before .if2 .left)) (queries-marked q)
+    (not-false _ (c .before .before .before .if3 .left))
 
 pub validated-spec : {M : Type 1} → statement M
 validated-spec =

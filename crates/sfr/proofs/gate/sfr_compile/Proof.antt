@@ -21,7 +21,11 @@ same-length-2 c = search needs
 returns : tie.Need-returns
 returns c =
     let r = c .before .before .before .before .before .before .compile in
-    (rw (c .outcome-no .ensures) (ap compiledAnswer (r .ensures .0)), r .ensures .1, r .ensures .2)
+    record {
+      answer = rw (c .outcome-no .ensures) (ap compiledAnswer (r .ensures .answer));
+      publics = r .ensures .publics;
+      scratch = r .ensures .scratch;
+    }
 
 pub sfr-compile-spec : {M : Type 1} → statement M
 sfr-compile-spec =

@@ -18,7 +18,7 @@ same-length c = search needs
 returns : tie.Need-returns
 returns c =
     let r = c .before .before .before .instance-to-bytes in
-    (c .written-answer .ensures ∙ ap writtenAnswer (r .ensures .0), r .ensures .1)
+    record { answer = c .written-answer .ensures ∙ ap writtenAnswer (r .ensures .answer); out = r .ensures .out }
 
 pub sfr-instance-to-bytes-spec : {M : Type 1} → statement M
 sfr-instance-to-bytes-spec =
