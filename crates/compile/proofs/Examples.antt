@@ -10,7 +10,7 @@ use Rattle.allocator.specs.Slots.{pair}
 use Rattle.expr.specs.Equation.{equationAt, sizeAt}
 use Rattle.permutation.specs.Answers.{relation}
 use Rattle.permutation.specs.declared.PermutationRelation.{PermutationRelation}
-use Rattle.instance.specs.Held.{equationsSound, slotsSound}
+use Rattle.held.specs.Held.{equationsSound, slotsSound}
 use Rattle.compile.specs.Gate.{GateLent, gateLent, publicsOf, compiledParts, compileNo, compilePublics}
 
 -- two wires, of which 1 is unassigned and in no query, and an equation weight · wire 1 = 0

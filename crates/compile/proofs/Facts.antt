@@ -16,8 +16,9 @@ use Rattle.utf8.specs.Utf8.{isUtf8}
 use Rattle.expr.specs.Equation.{equationsAt, equationsEnd}
 use Rattle.permutation.specs.Relation.{relationAsks}
 use Rattle.permutation.specs.declared.PermutationRelation.{PermutationRelation}
-use Rattle.instance.proofs.Facts.{Below, allBelow-facts, facts-allBelow, SoundEquation, equationsSound-facts, facts-equationsSound, SoundSlot, slotsSound-facts, facts-slotsSound, Valid, validated-facts, facts-validated, gate-facts, facts-gate}
-use Rattle.compile.specs.Gate.{GateLent, publicsOf, compiledParts, storesAsks, soundAsks, preparedNo, compileNo}
+use Rattle.held.proofs.Facts.{Below, allBelow-facts, facts-allBelow, SoundEquation, equationsSound-facts, facts-equationsSound, SoundSlot, slotsSound-facts, facts-slotsSound}
+use Rattle.validated.proofs.Facts.{Valid, validated-facts, facts-validated, gate-facts, facts-gate}
+use Rattle.compile.specs.Gate.{GateLent, publicsOf, compiledParts, storesAsks, soundAsks, lentStoresAsks, lentSoundAsks, preparedNo, compileNo}
 use Rattle.compile.proofs.Gate.{compileNo-is}
 
 fits : {a b : ℕ} → a ≤ b → ask 2 (leb a b) ≡ 0
@@ -136,11 +137,8 @@ module _ (l : GateLent) where
   pub prepared-facts : preparedNo l ≡ 0 → Prepared
   unfolding preparedNo
   prepared-facts e =
-      let relation = relationAsks rel (length (l .slots)) in
-      let stores = storesAsks rel (length (l .label)) (length (l .queries)) (length (l .equations)) (l .publics) (l .scratch) in
-      let sound = soundAsks rel (l .label) (l .slots) (l .queries) (l .equations) in
-      let a = both _ _ (sym (firstNo-append relation (stores ++ sound)) ∙ e) in
-      let b = both _ _ (sym (firstNo-append stores sound) ∙ a .1) in
+      let a = both _ _ (sym (firstNo-append (relationAsks rel (length (l .slots))) (lentStoresAsks l ++ lentSoundAsks l)) ∙ e) in
+      let b = both _ _ (sym (firstNo-append (lentStoresAsks l) (lentSoundAsks l)) ∙ a .1) in
       record {
         relation = relationAsks-yes _ _ (a .0);
         stores = storesAsks-yes _ _ _ _ _ _ (b .0);
@@ -150,12 +148,10 @@ module _ (l : GateLent) where
   facts-prepared : Prepared → preparedNo l ≡ 0
   unfolding preparedNo
   facts-prepared p =
-      let relation = relationAsks rel (length (l .slots)) in
-      let stores = storesAsks rel (length (l .label)) (length (l .queries)) (length (l .equations)) (l .publics) (l .scratch) in
-      let sound = soundAsks rel (l .label) (l .slots) (l .queries) (l .equations) in
-      firstNo-append relation (stores ++ sound)
+      firstNo-append (relationAsks rel (length (l .slots))) (lentStoresAsks l ++ lentSoundAsks l)
       ∙ join _ _ (yes-relationAsks _ _ (p .relation))
-      (firstNo-append stores sound ∙ join _ _ (yes-storesAsks _ _ _ _ _ _ (p .stores)) (yes-soundAsks _ _ _ _ _ (p .sound)))
+      (firstNo-append (lentStoresAsks l) (lentSoundAsks l)
+      ∙ join _ _ (yes-storesAsks _ _ _ _ _ _ (p .stores)) (yes-soundAsks _ _ _ _ _ (p .sound)))
 
   pub compile-facts : compileNo l ≡ 0 → CompileFacts
   unfolding compiledParts

@@ -17,9 +17,9 @@ use Rattle.permutation.specs.Relation.{relationAsks}
 use Rattle.limits.specs.declared.Outcome.the-variants as outcome
 use Rattle.permutation.specs.declared.PermutationRelation.{PermutationRelation}
 use Rattle.instance.specs.Parts.{Parts, pairWords, partsOf}
-use Rattle.instance.specs.Validated.{gateNo}
+use Rattle.validated.specs.Validated.{gateNo}
 use Rattle.instance.proofs.Parts.{pairsAt-pairWords, pairsAt-take}
-use Rattle.compile.specs.Gate.{GateLent, publicsOf, publicsStore, PutsPublics, instanceOf, refusedBy, compiledParts, storesAsks, soundAsks, preparedAsks, preparedNo, madeAsks, compileNo, compile, compilePublics}
+use Rattle.compile.specs.Gate.{GateLent, publicsOf, publicsStore, PutsPublics, instanceOf, refusedBy, compiledParts, lentStoresAsks, lentSoundAsks, preparedAsks, preparedNo, madeAsks, compileNo, compile, compilePublics}
 use Rattle.compile.proofs.Publics.{put-zeros}
 
 -- ---- the parts that the gate judges are those of the instance that it makes
@@ -40,13 +40,12 @@ module _ (rel : PermutationRelation) (slots queries equations : List ℕ) where
 
 -- ---- the questions in parts
 pub prepared-by : (l : GateLent) (a b r : ℕ) → a ≡ firstNo (relationAsks (l .relation) (length (l .slots)))
-    → b ≡ a ▸ firstNo (storesAsks (l .relation) (length (l .label)) (length (l .queries)) (length (l .equations)) (l .publics) (l .scratch))
-    → r ≡ b ▸ firstNo (soundAsks (l .relation) (l .label) (l .slots) (l .queries) (l .equations)) → r ≡ preparedNo l
+    → b ≡ a ▸ firstNo (lentStoresAsks l) → r ≡ b ▸ firstNo (lentSoundAsks l) → r ≡ preparedNo l
 unfolding preparedNo
 prepared-by l a b r ea eb er =
     let relation = relationAsks (l .relation) (length (l .slots)) in
-    let stores = storesAsks (l .relation) (length (l .label)) (length (l .queries)) (length (l .equations)) (l .publics) (l .scratch) in
-    let sound = soundAsks (l .relation) (l .label) (l .slots) (l .queries) (l .equations) in
+    let stores = lentStoresAsks l in
+    let sound = lentSoundAsks l in
     rw (er, eb, ea)
     (▸-assoc (firstNo relation) (firstNo stores) (firstNo sound)
     ∙ sym (firstNo-append relation (stores ++ sound) ∙ ap (λ (n : ℕ). firstNo relation ▸ n) (firstNo-append stores sound)))

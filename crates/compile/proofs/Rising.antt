@@ -17,9 +17,9 @@ use Rattle.words.proofs.Lists.{all-map}
 use Rattle.allocator.specs.Slots.{Pair, pair}
 use Rattle.permutation.specs.declared.PermutationRelation.{PermutationRelation}
 use Rattle.instance.specs.Parts.{pairVars, pairValues}
-use Rattle.instance.specs.Held.{publicsSound}
+use Rattle.held.specs.Held.{publicsSound}
 use Rattle.instance.proofs.Parts.{pairsAt-pairWords, pairsAt-take}
-use Rattle.instance.proofs.Facts.{Below, SoundSlot, facts-allBelow}
+use Rattle.held.proofs.Facts.{Below, SoundSlot, facts-allBelow}
 use Rattle.compile.specs.Gate.{GateLent, publicsFrom, publicsOf, publicsStore}
 use Rattle.compile.proofs.Publics.{take-few}
 use Rattle.compile.proofs.Facts.{Prepared}

@@ -18,8 +18,8 @@ use Rattle.limits.specs.Outcome.{outcomeOf}
 use Rattle.limits.specs.declared.Outcome.the-variants as outcome
 use Rattle.permutation.specs.declared.PermutationRelation.{PermutationRelation}
 use Rattle.instance.specs.Parts.{Parts, pairWords}
-use Rattle.instance.specs.Held.{labelAsks, equationsSound, slotsSound}
-use Rattle.instance.specs.Validated.{gateAsks}
+use Rattle.held.specs.Held.{labelAsks, equationsSound, slotsSound}
+use Rattle.validated.specs.Validated.{gateAsks}
 use Rattle.instance.specs.Looks.{noInstance}
 use Rattle.instance.specs.declared.PermutationInstance.{PermutationInstance}
 use Rattle.compile.specs.declared.Compiled.{Compiled}
@@ -101,12 +101,18 @@ soundAsks rel label slots queries equations =
     ∷ question 11 (isUtf8 label)
     ∷ []
 
+-- 2 of what is lent
+abbrev pub lentStoresAsks : GateLent → List Question
+lentStoresAsks l =
+    storesAsks (l .relation) (length (l .label)) (length (l .queries)) (length (l .equations)) (l .publics) (l .scratch)
+
+-- 11 of what is lent
+abbrev pub lentSoundAsks : GateLent → List Question
+lentSoundAsks l = soundAsks (l .relation) (l .label) (l .slots) (l .queries) (l .equations)
+
 -- 1, 2, 11: what is asked before the publics are made
 abbrev pub preparedAsks : GateLent → List Question
-preparedAsks l =
-    relationAsks (l .relation) (length (l .slots))
-    ++ (storesAsks (l .relation) (length (l .label)) (length (l .queries)) (length (l .equations)) (l .publics) (l .scratch)
-    ++ soundAsks (l .relation) (l .label) (l .slots) (l .queries) (l .equations))
+preparedAsks l = relationAsks (l .relation) (length (l .slots)) ++ (lentStoresAsks l ++ lentSoundAsks l)
 
 -- their first no, or 0
 unfoldable pub preparedNo : GateLent → ℕ

@@ -83,19 +83,19 @@ fn asked_sound(
 {
     let words = rel.words;
     let vars = rel.vars;
-    let a = instance::asked_equations_sound(
+    let a = held::asked_equations_sound(
         no,
-        instance::held_words(equations, words as usize),
+        held::held_words(equations, words as usize),
         rel.equations,
     );
     let b = words::asked_below(
         a,
-        instance::held_pieces(queries, rel.width, rel.queries),
+        held::held_pieces(queries, rel.width, rel.queries),
         MAX_COUNT,
         11,
     );
-    let c = instance::asked_slots_sound(b, instance::held_words(slots, vars as usize));
-    instance::asked_utf8(c, label)
+    let c = held::asked_slots_sound(b, held::held_words(slots, vars as usize));
+    held::asked_utf8(c, label)
 }
 
 // What is asked before the publics are made: 1, 2, 11.
@@ -170,7 +170,7 @@ pub fn compile(
         return refused(first);
     }
     let vars = rel.vars;
-    let count = put_publics(publics, instance::held_words(slots, vars as usize));
+    let count = put_publics(publics, held::held_words(slots, vars as usize));
     let instance = PermutationInstance {
         width: rel.width,
         vars,
@@ -180,7 +180,7 @@ pub fn compile(
         publics: count,
     };
     let room = limits::asked(0, 2 * count as usize <= publics.len(), 10);
-    let no = instance::asked_validated(room, instance, publics, queries, equations, scratch);
+    let no = validated::asked_validated(room, instance, publics, queries, equations, scratch);
     if no != 0 {
         words::fill(publics, 0);
         return refused(no);

@@ -25,7 +25,7 @@ use Rattle.allocator.specs.Slots.{Pair, pair}
 use Rattle.expr.specs.Equation.{Equation, equationsWords}
 use Rattle.expr.proofs.Held.{equations-words}
 use Rattle.instance.specs.Parts.{Parts, pairWords, pairsAt, partsOf}
-use Rattle.instance.specs.Validated.{gateNo}
+use Rattle.validated.specs.Validated.{gateNo}
 use Rattle.instance.specs.declared.PermutationInstance.{PermutationInstance}
 use Rattle.instance.proofs.Pairs.{pairs-at}
 use Rattle.instance.proofs.Parts.{pairsAt-take, pairsAt-pairWords, pairWords-length}

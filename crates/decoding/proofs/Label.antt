@@ -21,7 +21,7 @@ use Rattle.narg.proofs.Fields.{never, word-rest, part-short as cut, part-long a
 use Rattle.narg.proofs.At.{readU32-read, readU32-stop, word-next}
 use Rattle.reader.specs.At.{partAt, placeAt}
 use Rattle.reader.proofs.Found.{partAt-none, partAt-some, placeAt-some, part-short, part-long}
-use Rattle.instance.specs.Validated.{gateNo}
+use Rattle.validated.specs.Validated.{gateNo}
 use Rattle.header.specs.Form.{letterI, version}
 use Rattle.header.specs.Read.{readHeader}
 use Rattle.header.specs.Answers.{headerField}

@@ -13,7 +13,7 @@ use Rattle.narg.specs.Reader.{Reader, _>>=_, _>>_, give, need, number, word, pa
 use Rattle.allocator.specs.Slots.{Pair, pair}
 use Rattle.expr.specs.Equation.{Term, Equation, equation, equationSize}
 use Rattle.instance.specs.Parts.{Parts}
-use Rattle.instance.specs.Validated.{gateNo}
+use Rattle.validated.specs.Validated.{gateNo}
 use Rattle.header.specs.Form.{letterI, letterW}
 use Rattle.header.specs.Read.{readHeader}
 

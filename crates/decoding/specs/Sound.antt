@@ -15,7 +15,7 @@ use Rattle.narg.specs.Reader.{Got, stop}
 use Rattle.allocator.specs.Slots.{Pair}
 use Rattle.expr.specs.Equation.{Term, Equation, equationsWords}
 use Rattle.instance.specs.Parts.{Parts}
-use Rattle.instance.specs.Validated.{gateAsks}
+use Rattle.validated.specs.Validated.{gateAsks}
 use Rattle.decoding.specs.Read.{Rooms, increasing}
 
 -- ---- sound items: wires are below 2^30, units below p

@@ -95,7 +95,7 @@ fn read_instance(
     let FileRead::Read(ins, len, end) = file else {
         return refused(file_number(file));
     };
-    let no = instance::asked_validated(0, ins, publics, queries, equations, scratch);
+    let no = validated::asked_validated(0, ins, publics, queries, equations, scratch);
     if no != 0 {
         return refused(no);
     }

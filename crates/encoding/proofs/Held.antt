@@ -17,10 +17,10 @@ use Rattle.narg.proofs.Fields.{length-u32Bytes}
 use Rattle.narg.proofs.Words.{length-words}
 use Rattle.expr.specs.Equation.{termWords, equationWords, equationsWords, termsAt, equationAt, sizeAt, equationsAt, equationsEnd}
 use Rattle.instance.specs.Parts.{pairWords, pairsAt, heldPublics, heldQueries, heldEquations, partsOf}
-use Rattle.instance.specs.Held.{instanceAsks}
+use Rattle.held.specs.Held.{instanceAsks}
 use Rattle.instance.specs.declared.PermutationInstance.{PermutationInstance}
 use Rattle.instance.proofs.Parts.{flat-held}
-use Rattle.instance.proofs.Facts.{InstanceSound, instanceAsks-yes}
+use Rattle.held.proofs.Facts.{InstanceSound, instanceAsks-yes}
 use Rattle.header.specs.Form.{letterI, version, headerBytes}
 use Rattle.encoding.specs.Form.{headerLength, labelBytes, instanceBytes}
 use Rattle.encoding.specs.Answers.{instanceToBytes, instanceToBytesNo}

@@ -11,7 +11,7 @@ use Rattle.words.specs.Store.{allBelow, putWords}
 use Rattle.words.specs.Pieces.{wordsOf, pieces}
 use Rattle.limits.specs.Outcome.{outcomeOf}
 use Rattle.instance.specs.Parts.{partsOf}
-use Rattle.instance.specs.Held.{instanceAsks}
+use Rattle.held.specs.Held.{instanceAsks}
 use Rattle.instance.specs.declared.PermutationInstance.{PermutationInstance}
 use Rattle.header.specs.Form.{version}
 use Rattle.encoding.specs.Form.{instanceBytes, witnessBytes}

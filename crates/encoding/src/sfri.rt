@@ -12,9 +12,9 @@ use crate::put::put_bytes;
 use crate::put::put_header;
 use crate::put::put_list;
 use header::VERSION;
+use held::held_pieces;
+use held::held_words;
 use instance::PermutationInstance;
-use instance::held_pieces;
-use instance::held_words;
 use limits::Outcome;
 use narg::Cursor;
 
@@ -65,7 +65,7 @@ fn instance_to_bytes_no(
 ) -> u32
     ensures { λ r. ⌜ r ≡ instanceToBytesNo ins (now (label .entry)) (now (publics .entry)) (now (queries .entry)) (now (equations .entry)) room ⌝ }
 {
-    let no = instance::asked_instance(ins, label, publics, queries, equations);
+    let no = held::asked_instance(ins, label, publics, queries, equations);
     if no != 0 {
         return no;
     }

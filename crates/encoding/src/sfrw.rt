@@ -16,7 +16,7 @@ const FIXED: usize = HEADER_LEN + 4;
 fn witness_to_bytes_no(width: u32, steps: u32, trace: &[u32], room: usize) -> u32
     ensures { λ r. ⌜ r ≡ witnessToBytesNo width steps (now (trace .entry)) room ⌝ }
 {
-    let held = instance::held_pieces(trace, width, steps);
+    let held = held::held_pieces(trace, width, steps);
     let a = limits::asked_width(0, width);
     let b = limits::asked_store(a, trace.len());
     let c = words::asked_pieces(b, width, steps, trace.len(), 2);
@@ -38,7 +38,7 @@ pub fn witness_to_bytes(width: u32, steps: u32, trace: &[u32], out: &mut [u8]) -
             len: 0,
         };
     }
-    let held = instance::held_pieces(trace, width, steps);
+    let held = held::held_pieces(trace, width, steps);
     put_header(out, b'W', VERSION, width);
     let len = put_list(out, HEADER_LEN, steps, held);
     Written {

@@ -18,7 +18,8 @@ use Rattle.permutation.specs.declared.PermutationRelation.{PermutationRelation}
 use Rattle.limits.specs.Outcome.{outcomeOf}
 use Rattle.permute.specs.Parameters.{parametersOf, soundParameters, isEvaluation}
 use Rattle.instance.specs.Parts.{Parts, partsOf}
-use Rattle.instance.proofs.Facts.{allBelow-facts, Valid}
+use Rattle.held.proofs.Facts.{allBelow-facts}
+use Rattle.validated.proofs.Facts.{Valid}
 use Rattle.compile.specs.Gate.{compileNo}
 use Rattle.validity.specs.Check.{checkNo}
 use Rattle.validity.specs.Valid.{stepsOf, isWitnessValidAsks, isWitnessValidNo, isWitnessValid}

@@ -5,7 +5,7 @@ use Prim.Native.Nat.{ℕ}
 use mathlib.Core.Path.{_≡_, refl, ap}
 use mathlib.Core.List.{List, [], _∷_, map}
 use native.Mathlib.Omega.{arith}
-use lib.ListN.{replicate}
+use lib.ListN.{length, replicate}
 use Rattle.limits.specs.Numbers.{unassigned}
 use Rattle.limits.specs.Questions.{ask, _▸_}
 use Rattle.limits.specs.declared.Outcome.{Outcome}
@@ -21,8 +21,8 @@ use Rattle.permutation.specs.Answers.{relation, newRelation, setVarsRun}
 use Rattle.permute.specs.Permute.{addConstants, raise, timesMatrix, runRound, runRounds, permute}
 use Rattle.permute.specs.Parameters.{roundsOf, rowsOf, parametersOf, soundKinds, unitConstants, unitRows, soundParameters, permuteNo, sameWords, isEvaluation}
 use Rattle.instance.specs.Parts.{partsOf}
-use Rattle.instance.specs.Held.{equationsSound, publicsSound, slotsSound}
-use Rattle.instance.specs.Validated.{validatedNo, gateNo}
+use Rattle.held.specs.Held.{equationsSound, publicsSound, slotsSound}
+use Rattle.validated.specs.Validated.{validatedNo, gateNo}
 use Rattle.instance.specs.declared.PermutationInstance.{PermutationInstance}
 use Rattle.compile.specs.Gate.{GateLent, gateLent, publicsOf, compiledParts, instanceOf, compileNo, compile, compilePublics}
 use Rattle.compile.specs.declared.Compiled.{Compiled}

@@ -19,10 +19,11 @@ use Rattle.expr.proofs.Held.{two-each}
 use Rattle.permutation.specs.declared.PermutationRelation.{PermutationRelation}
 use Rattle.instance.specs.declared.PermutationInstance.{PermutationInstance}
 use Rattle.instance.specs.Parts.{Parts, pairWords, heldPublics, heldQueries, heldEquations}
-use Rattle.instance.specs.Validated.{validatedNo}
+use Rattle.validated.specs.Validated.{validatedNo}
 use Rattle.compile.specs.Gate.{publicsOf, publicsStore, compileNo}
 use Rattle.limits.specs.Outcome.{outcomeOf}
-use Rattle.instance.proofs.Facts.{allBelow-facts, facts-validated}
+use Rattle.held.proofs.Facts.{allBelow-facts}
+use Rattle.validated.proofs.Facts.{facts-validated}
 use Rattle.instance.proofs.Parts.{pairWords-length}
 use Rattle.header.specs.Form.{version}
 use Rattle.encoding.specs.Form.{instanceBytes}

@@ -22,10 +22,10 @@ use Rattle.expr.specs.Equation.{equationsWords, equationsAt, equationsEnd, equa
 use Rattle.expr.proofs.Held.{equations-held, end-held, two-each}
 use Rattle.permutation.specs.declared.PermutationRelation.{PermutationRelation}
 use Rattle.instance.specs.Parts.{pairVars, has}
-use Rattle.instance.specs.Held.{equationsSound}
-use Rattle.instance.specs.Validated.{termwiseAsks, validatedNo}
+use Rattle.held.specs.Held.{equationsSound}
+use Rattle.validated.specs.Validated.{termwiseAsks, validatedNo}
 use Rattle.compile.specs.Gate.{gateLent, publicsFrom, publicsOf, compiledParts, compileNo}
-use Rattle.instance.proofs.Facts.{facts-allBelow, SoundSlot, facts-slotsSound}
+use Rattle.held.proofs.Facts.{facts-allBelow, SoundSlot, facts-slotsSound}
 use Rattle.compile.proofs.Rising.{publicsOf-below}
 use Rattle.history.specs.Ledger.{Ledger}
 use Rattle.history.specs.Calls.{State}

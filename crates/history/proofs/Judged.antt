@@ -15,8 +15,8 @@ use Rattle.allocator.specs.Slots.{Pair}
 use Rattle.allocator.specs.Values.{isSome, nothing, putAll, look}
 use Rattle.permutation.specs.State.{HoldsSlots}
 use Rattle.instance.specs.Parts.{pairVars, has}
-use Rattle.instance.specs.Validated.{bound}
-use Rattle.instance.proofs.Facts.{Valid}
+use Rattle.validated.specs.Validated.{bound}
+use Rattle.validated.proofs.Facts.{Valid}
 use Rattle.compile.specs.Gate.{publicsFrom}
 use Rattle.validity.specs.Check.{checkNo}
 use Rattle.history.specs.Ledger.{Ledger, known}

@@ -21,10 +21,11 @@ use Rattle.expr.proofs.Held.{two-each}
 use Rattle.permutation.specs.declared.PermutationRelation.{PermutationRelation}
 use Rattle.instance.specs.declared.PermutationInstance.{PermutationInstance}
 use Rattle.instance.specs.Parts.{pairVars, pairValues, pairWords, pairsAt, heldPublics, heldQueries, heldEquations, partsOf}
-use Rattle.instance.specs.Held.{publicsSound, equationsSound}
+use Rattle.held.specs.Held.{publicsSound, equationsSound}
 use Rattle.compile.specs.Gate.{publicsFrom, publicsOf, instanceOf, publicsStore, compileNo, compile, compilePublics}
 use Rattle.instance.proofs.Parts.{pairWords-length, pairsAt-pairWords}
-use Rattle.instance.proofs.Facts.{facts-allBelow, Valid, validated-facts}
+use Rattle.held.proofs.Facts.{facts-allBelow}
+use Rattle.validated.proofs.Facts.{Valid, validated-facts}
 use Rattle.compile.proofs.Rising.{publicsOf-values}
 use Rattle.history.specs.Ledger.{Ledger}
 use Rattle.history.specs.Calls.{State}

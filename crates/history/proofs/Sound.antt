@@ -17,7 +17,7 @@ use Rattle.expr.specs.Equation.{Term, Equation, termVars, termWeights, equation
 use Rattle.expr.proofs.Held.{length-equation}
 use Rattle.instance.specs.Parts.{pairVars, pairValues}
 use Rattle.compile.specs.Gate.{publicsFrom}
-use Rattle.instance.proofs.Facts.{allBelow-facts}
+use Rattle.held.proofs.Facts.{allBelow-facts}
 use Rattle.decoding.specs.Read.{increasing}
 use Rattle.decoding.specs.Sound.{SoundPair, SoundTerm, SoundEquation, SoundPiece}
 use Rattle.history.proofs.Shapes.{all-left, all-right}

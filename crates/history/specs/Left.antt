@@ -15,8 +15,8 @@ use Rattle.expr.specs.Equation.{equationsWords}
 use Rattle.expr.specs.Weighted.{termsOf}
 use Rattle.permutation.specs.Left.{allocateVarsLeft, setVarLeft, setVarsLeft, addPermutationLeft, allocatePermutationLeft, addEquationLeft}
 use Rattle.instance.specs.Parts.{pairVars, has}
-use Rattle.instance.specs.Held.{labelAsks}
-use Rattle.instance.specs.Validated.{termwiseAsks}
+use Rattle.held.specs.Held.{labelAsks}
+use Rattle.validated.specs.Validated.{termwiseAsks}
 use Rattle.decoding.specs.Read.{Rooms}
 use Rattle.history.specs.Ledger.{Ledger, known}
 use Rattle.history.specs.Calls.{Call, Allocate, Set, SetList, Record, Mint, Equate}

@@ -1,8 +1,3 @@
 pub mod Pairs
-pub mod Sound
 pub mod Parts
-pub mod Terms
-pub mod Marks
-pub mod Values
-pub mod Gate
-pub mod Facts
+pub mod Looks

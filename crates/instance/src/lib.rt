@@ -1,9 +1,10 @@
-// Instances of a relation (the second half of the source's permutation.rs): what is asked of one, the value
-// of a wire in it, and its heading. The gate that makes one is the crate `compile`.
+// Instances of a relation (the second half of the source's permutation.rs): the record, the value of a wire in
+// one, and its heading.
 //
 // An instance is a record by value, and parts that lie in lent stores: publics as wire and unit pairs,
-// queries and equations as a relation holds them, and the label as bytes. What is asked of held parts stands
-// in held.rt (2 and 11) and validated.rt (16, 12 to 15). Every open function answers on every input.
+// queries and equations as a relation holds them, and the label as bytes. What is asked of held parts is in the
+// crates `held` (2 and 11) and `validated` (16, 12 to 15); the gate that makes an instance is the crate `compile`.
+// Every open function answers on every input.
 
 ghost use mathlib.Core.Path.{_≡_};
 ghost use Prim.Native.Nat.{_*_, _≤_};
@@ -14,23 +15,6 @@ ghost use Rattle.instance.specs.Looks.{publicValue, lastValue, heading};
 use allocator::FieldVar;
 use allocator::VarValue;
 use limits::MAX_COUNT;
-
-mod held;
-mod validated;
-
-pub use held::asked_equations_sound;
-pub use held::asked_held;
-pub use held::asked_instance;
-pub use held::asked_parts;
-pub use held::asked_publics_sound;
-pub use held::asked_slots_sound;
-pub use held::asked_utf8;
-pub use held::equations_sound;
-pub use held::held_pieces;
-pub use held::held_words;
-pub use held::publics_sound;
-pub use held::slots_sound;
-pub use validated::asked_validated;
 
 // An instance's record: a relation's, and the count of public pairs.
 #[repr(C)]

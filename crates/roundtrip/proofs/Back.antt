@@ -22,7 +22,7 @@ use Rattle.narg.proofs.Lists.{passed, need-got, items-cons, items-back}
 use Rattle.allocator.specs.Slots.{Pair}
 use Rattle.expr.specs.Equation.{Equation}
 use Rattle.instance.specs.Parts.{Parts}
-use Rattle.instance.specs.Validated.{gateNo}
+use Rattle.validated.specs.Validated.{gateNo}
 use Rattle.header.specs.Form.{letterI, letterW, magic, headerBytes}
 use Rattle.encoding.specs.Form.{labelBytes, pairBytes, pieceBytes, equationBytes, partsBytes, instanceBytes, witnessBytes}
 use Rattle.header.specs.Read.{readMagic, readHeader}

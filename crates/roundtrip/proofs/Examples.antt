@@ -12,7 +12,7 @@ use Rattle.narg.specs.Reader.{Got, got, stop, word, part, below}
 use Rattle.allocator.specs.Slots.{Pair, pair}
 use Rattle.expr.specs.Equation.{equation}
 use Rattle.instance.specs.Parts.{Parts}
-use Rattle.instance.specs.Validated.{gateNo}
+use Rattle.validated.specs.Validated.{gateNo}
 use Rattle.header.specs.Form.{version, headerBytes}
 use Rattle.encoding.specs.Form.{instanceBytes}
 use Rattle.header.specs.Read.{readMagic, readHeader}

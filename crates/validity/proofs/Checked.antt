@@ -20,7 +20,7 @@ use Rattle.allocator.specs.Slots.{Pair}
 use Rattle.allocator.specs.Values.{nothing, putAll}
 use Rattle.expr.specs.Equation.{equationsAt}
 use Rattle.instance.specs.Parts.{heldPublics, heldQueries, heldEquations, pairsAt, partsOf}
-use Rattle.instance.specs.Held.{publicsSound, equationsSound}
+use Rattle.held.specs.Held.{publicsSound, equationsSound}
 use Rattle.instance.specs.declared.PermutationInstance.{PermutationInstance}
 use Rattle.validity.specs.Values.{cells}
 use Rattle.validity.specs.Check.{publicsNo, stepsNo, equationsNo, checkNo}

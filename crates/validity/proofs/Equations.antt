@@ -15,7 +15,7 @@ use Rattle.limits.proofs.Below.{both-true}
 use Rattle.words.specs.Store.{allBelow}
 use Rattle.allocator.specs.Values.{Values}
 use Rattle.expr.specs.Equation.{Equation, termVars, termWeights, equationSize, equationAt, sizeAt, equationsAt, equationsEnd, equationsHeld}
-use Rattle.instance.specs.Held.{equationsSound}
+use Rattle.held.specs.Held.{equationsSound}
 use Rattle.validity.specs.Check.{equationNo, equationsNo}
 use Rattle.validity.proofs.Sums.{size-at}
 

@@ -13,7 +13,7 @@ use Rattle.permute.specs.Parameters.{roundsOf, rowsOf, soundKinds, unitConstant
 use Rattle.limits.specs.declared.Outcome.{Outcome}
 use Rattle.limits.specs.declared.Outcome.the-variants.{Accepted, Refused}
 use Rattle.instance.specs.Parts.{partsOf}
-use Rattle.instance.specs.Held.{equationsSound, publicsSound}
+use Rattle.held.specs.Held.{equationsSound, publicsSound}
 use Rattle.instance.specs.declared.PermutationInstance.{PermutationInstance}
 use Rattle.validity.specs.Check.{checkNo}
 use Rattle.validity.specs.Valid.{isWitnessValidNo, isWitnessValid}

@@ -16,7 +16,7 @@ use Rattle.words.specs.Store.{allBelow}
 use Rattle.allocator.specs.Slots.{Pair, pair}
 use Rattle.allocator.specs.Values.{Values, put, putAll}
 use Rattle.instance.specs.Parts.{pairsAt, pairVars, pairValues}
-use Rattle.instance.specs.Held.{publicsSound}
+use Rattle.held.specs.Held.{publicsSound}
 use Rattle.validity.specs.Check.{publicsNo}
 use Rattle.validity.specs.Scratch.{valueAt, Walked}
 use Rattle.validity.proofs.Scratch.{put-entry, put-units, Walking, stopped, ended}

@@ -16,7 +16,7 @@ use Rattle.limits.specs.Outcome.{outcomeOf}
 use Rattle.limits.specs.declared.Outcome.{Outcome}
 use Rattle.permute.specs.Parameters.{soundParameters, isEvaluation}
 use Rattle.instance.specs.Parts.{heldPublics, heldEquations, partsOf}
-use Rattle.instance.specs.Held.{labelAsks, partsAsks, heldAsks, publicsSound, equationsSound}
+use Rattle.held.specs.Held.{labelAsks, partsAsks, heldAsks, publicsSound, equationsSound}
 use Rattle.instance.specs.declared.PermutationInstance.{PermutationInstance}
 use Rattle.validity.specs.Check.{checkNo}
 

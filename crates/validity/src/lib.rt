@@ -18,14 +18,14 @@ ghost use Rattle.allocator.specs.Values.{putAll, fits};
 ghost use Rattle.expr.specs.Equation.{termWeights, equationAt, sizeAt, equationsAt};
 ghost use Rattle.permute.specs.Parameters.{isEvaluation, leading};
 ghost use Rattle.instance.specs.Parts.{pairsAt, partsOf};
-ghost use Rattle.instance.specs.Held.{publicsSound, equationsSound};
+ghost use Rattle.held.specs.Held.{publicsSound, equationsSound};
 ghost use Rattle.validity.specs.Values.{cells};
 ghost use Rattle.validity.specs.Check.{publicsNo, cellsNo, stepsNo, equationNo, equationsNo, checkNo};
 ghost use Rattle.validity.specs.Scratch.{entry, valueAt, Walked};
 ghost use Rattle.validity.specs.Valid.{stepsOf, isWitnessValidAsks, isWitnessValidNo, isWitnessValid, Sound};
+use held::held_pieces;
+use held::held_words;
 use instance::PermutationInstance;
-use instance::held_pieces;
-use instance::held_words;
 use limits::LABEL_END;
 use limits::Outcome;
 use limits::P;
@@ -269,14 +269,14 @@ fn asked_valid(
     let width = ins.width;
     let vars = ins.vars as usize;
     let a = limits::asked_width(0, width);
-    let b = instance::asked_parts(a, ins, publics.len(), queries.len(), equations.len());
+    let b = held::asked_parts(a, ins, publics.len(), queries.len(), equations.len());
     let c = limits::asked_store(b, trace.len());
     let d = limits::asked_store(c, params.len());
     let e = limits::asked_store(d, scratch);
     let f = limits::asked(e, label.len() < LABEL_END, 2);
     let g = words::asked_pieces(f, width, steps, trace.len(), 2);
     let h = permute::parameters_no(g, width, rounds, params);
-    let i = instance::asked_held(h, ins, label, publics, queries, equations);
+    let i = held::asked_held(h, ins, label, publics, queries, equations);
     let j = words::asked_below(i, held_pieces(trace, width, steps), P, 11);
     limits::asked(j, vars <= scratch, 16)
 }

@@ -12,7 +12,7 @@ use Rattle.limits.specs.Numbers.{maxCount}
 use Rattle.limits.specs.Questions.{ask, _▸_}
 use Rattle.limits.proofs.Questions.{zero-▸}
 use Rattle.instance.specs.Parts.{partsOf}
-use Rattle.instance.specs.Validated.{gateNo}
+use Rattle.validated.specs.Validated.{gateNo}
 use Rattle.compile.specs.Gate.{GateLent, gateLent, PutsPublics, instanceOf, preparedNo}
 use Rattle.compile.proofs.Publics.{take-few}
 use Rattle.compile.proofs.Gate.{refuses-first, refuses-made, accepts}

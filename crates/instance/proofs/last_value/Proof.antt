@@ -4,7 +4,7 @@ use native.Mathlib.Omega.{arith}
 use denote.Ref.{now}
 use Prim.Native.Nat.{_≤_, _-_}
 use mathlib.Core.Path.{_≡_, refl}
-use Rattle.instance.proofs.Values.{valueOf, value-none, value-found, value-earlier}
+use Rattle.instance.proofs.Looks.{valueOf, value-none, value-found, value-earlier}
 use Rattle.instance.proofs.last_value.Statement.{statement}
 use Rattle.instance.proofs.last_value.Tie as tie
 

@@ -9,7 +9,7 @@ use lib.ListN.{length}
 use Rattle.limits.proofs.Questions.{▸-assoc, zero-▸, ▸-zero}
 use Rattle.instance.specs.Looks.{publicValueNo}
 use Rattle.instance.specs.declared.PermutationInstance.{PermutationInstance}
-use Rattle.instance.proofs.Values.{valueOf, publicValue-refused, publicValue-accepted, publicValue-fits}
+use Rattle.instance.proofs.Looks.{valueOf, publicValue-refused, publicValue-accepted, publicValue-fits}
 use Rattle.instance.proofs.public_value.Statement.{statement}
 use Rattle.instance.proofs.public_value.Tie as tie
 

@@ -11,7 +11,7 @@ use Rattle.limits.specs.Asks.{widthAsks, storeAsks}
 use Rattle.words.specs.Store.{allBelow}
 use Rattle.words.specs.Pieces.{wordsOf}
 use Rattle.permute.specs.Parameters.{soundParameters}
-use Rattle.instance.specs.Held.{partsAsks, heldAsks}
+use Rattle.held.specs.Held.{partsAsks, heldAsks}
 use Rattle.validity.proofs.Asked.{in-order}
 use Rattle.validity.proofs.asked_valid.Statement.{statement}
 use Rattle.validity.proofs.asked_valid.Tie as tie

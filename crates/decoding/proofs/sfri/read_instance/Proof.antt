@@ -5,7 +5,7 @@ use denote.Ref.{now}
 use lib.ListN.{length}
 use Rattle.limits.proofs.Questions.{zero-▸}
 use Rattle.instance.specs.Parts.{Parts}
-use Rattle.instance.specs.Validated.{gateNo}
+use Rattle.validated.specs.Validated.{gateNo}
 use Rattle.decoding.specs.Answers.{refusedInstance}
 use Rattle.decoding.specs.Given.{fileNumberOf}
 use Rattle.decoding.proofs.Files.{instanceGot, file-told-stop, file-told, parts-held, file-refused, gate-refused, end-refused, instance-yes, after-stop, after-got}

@@ -5,7 +5,7 @@ use native.Mathlib.Omega.{arith}
 use borrow.Author.Needs.{needs}
 use denote.Ref.{now}
 use Rattle.limits.proofs.Questions.{zero-▸}
-use Rattle.instance.proofs.Facts.{instanceAsks-yes}
+use Rattle.held.proofs.Facts.{instanceAsks-yes}
 use Rattle.encoding.proofs.Held.{Few, few, instanceToBytes-first, instanceToBytes-then}
 use Rattle.encoding.proofs.sfri.instance_to_bytes_no.Statement.{statement}
 use Rattle.encoding.proofs.sfri.instance_to_bytes_no.Tie as tie

@@ -9,6 +9,7 @@ use lib.ListN.{length}
 use denote.Ref.{RefT, now}
 use borrow.Author.Needs.{needs}
 use Rattle.limits.specs.Questions.{pick}
+use Rattle.instance.proofs.Looks.{heading-told}
 use Rattle.sfr.proofs.gate.sfr_heading.Statement.{statement}
 use Rattle.sfr.proofs.gate.sfr_heading.Tie as tie
 
@@ -16,19 +17,15 @@ named-is : (b : Bool) → b ≡ pick b true false
 named-is true = refl
 named-is false = refl
 
-length-is : (b : Bool) (label name : RefT (List ℕ)) → length (now (pick b name label)) ≡ pick b (length (now name)) (length (now label))
-length-is true label name = refl
-length-is false label name = refl
-
 heading-requires : tie.Need-heading-requires
 heading-requires c κs = search needs
 
 returns : tie.Need-returns
 returns c =
     let a = c .before .before .before .args in
-    let b = eqb (length (now (a .label))) 0 in
-    let l = ap (λ (p : RefT (List ℕ)). length (now p)) (c .heading .ensures) ∙ length-is b (a .label) (a .name) in
-    λ i. record { named = named-is b i; len = l i }
+    let long : RefT (List ℕ) → ℕ = λ p. length (now p) in
+    let l = ap long (c .heading .ensures) ∙ heading-told (length (now (a .label))) (a .label) (a .name) long in
+    λ i. record { named = named-is (eqb (length (now (a .label))) 0) i; len = l i }
 
 pub sfr-heading-spec : {M : Type 1} → statement M
 sfr-heading-spec = tie.close (tie.spec heading-requires returns)

@@ -1,0 +1,4 @@
+pub mod Terms
+pub mod Marks
+pub mod Gate
+pub mod Facts
