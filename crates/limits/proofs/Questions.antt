@@ -131,16 +131,12 @@ pub data Puts (k : ℕ) (says : Bool) : List Question → Type 0 where
   here : {qs : List Question} → Puts k says (question k says ∷ qs)
   there : {q : Question} {qs : List Question} → Puts k says qs → Puts k says (q ∷ qs)
 
-pub puts-before : {k : ℕ} {says : Bool} {ps : List Question} (qs : List Question) → Puts k says ps → Puts k says (ps ++ qs)
-puts-before qs here = here
-puts-before qs (there p) = there (puts-before qs p)
-
 pub puts-after : {k : ℕ} {says : Bool} (ps : List Question) {qs : List Question} → Puts k says qs → Puts k says (ps ++ qs)
 puts-after [] p = p
 puts-after (q ∷ ps) p = there (puts-after ps p)
 
 -- a question is found in a list by what it says: `search puts depth 20`
-pub ruleset puts = (here, there, puts-before, puts-after)
+pub ruleset puts = (here, there, puts-after)
 
 -- accepted: a question that is put says yes, wherever it stands
 pub puts-yes : (qs : List Question) → firstNo qs ≡ 0 → (k : ℕ) (says : Bool) → T (ltb 0 k) → Puts k says qs → says ≡ true

@@ -18,3 +18,7 @@ outcomeNumber (outcome.Refused k) = k
 abbrev pub isAccepted : Outcome → Bool
 isAccepted outcome.Accepted = true
 isAccepted (outcome.Refused k) = false
+
+-- an answer as the call gives it, where a contract says how it is told
+abbrev pub asIs : {A : Type 0} → A → A
+asIs a = a

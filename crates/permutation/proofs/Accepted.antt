@@ -6,7 +6,7 @@ use mathlib.Core.List.{List}
 use borrow.Author.Tests.{ltb-true, leb-true, eqb-true}
 use lib.ListN.{length}
 use Rattle.limits.specs.Numbers.{prime, maxCount, maxWidth}
-use Rattle.limits.proofs.Questions.{both, firstNo-append, accepted-says}
+use Rattle.limits.proofs.Questions.{both, firstNo-append, puts, puts-yes}
 use Rattle.words.specs.Store.{allBelow}
 use Rattle.words.specs.Pieces.{wordsOf}
 use Rattle.allocator.specs.Slots.{Pair, pairAsks, pairNo}
@@ -25,12 +25,12 @@ pub record New (width len : ℕ) : Type 0 where
 pub new-yes : (width len : ℕ) → newRelationNo width len ≡ 0 → New width len
 unfolding newRelationNo
 new-yes width len e =
-    let says = accepted-says (newRelationAsks width len) tt e in
+    let says = puts-yes (newRelationAsks width len) e in
     record {
-      least = leb-true _ _ (says 0);
-      most = leb-true _ _ (says 1);
-      store = leb-true _ _ (says 2);
-      room = leb-true _ _ (says 3);
+      least = leb-true _ _ (says 1 _ tt (search puts depth 20));
+      most = leb-true _ _ (says 1 _ tt (search puts depth 20));
+      store = leb-true _ _ (says 2 _ tt (search puts depth 20));
+      room = leb-true _ _ (says 6 _ tt (search puts depth 20));
     }
 
 -- ---- allocate
@@ -41,8 +41,8 @@ pub record AllocateVars (rel : PermutationRelation) (len n : ℕ) : Type 0 where
 pub allocateVars-yes : (rel : PermutationRelation) (len n : ℕ) → allocateVarsNo rel len n ≡ 0 → AllocateVars rel len n
 unfolding allocateVarsNo
 allocateVars-yes rel len n e =
-    let says = accepted-says (allocateVarsAsks rel len n) tt e in
-    record { most = leb-true _ _ (says 6); room = leb-true _ _ (says 7) }
+    let says = puts-yes (allocateVarsAsks rel len n) e in
+    record { most = leb-true _ _ (says 5 _ tt (search puts depth 20)); room = leb-true _ _ (says 6 _ tt (search puts depth 20)) }
 
 -- ---- set: what the pair answers
 pub setVar-yes : (rel : PermutationRelation) (slots : List ℕ) (p : Pair) → setVarNo rel slots p ≡ 0 → pairNo (rel .vars) slots p ≡ 0
@@ -54,12 +54,13 @@ setVar-yes rel slots p e =
 pub setVars-yes : (rel : PermutationRelation) (len : ℕ) (vars values : List ℕ) → setVarsNo rel len vars values ≡ 0
     → length vars ≤ maxCount
 unfolding setVarsNo
-setVars-yes rel len vars values e = leb-true _ _ (accepted-says (setVarsAsks rel len vars values) tt e 6)
+setVars-yes rel len vars values e =
+    leb-true _ _ (puts-yes (setVarsAsks rel len vars values) e 2 _ tt (search puts depth 20))
 
 -- ---- value: the slots hold the wires
 pub value-yes : (rel : PermutationRelation) (len var : ℕ) → valueOfNo rel len var ≡ 0 → rel .vars ≤ len
 unfolding valueOfNo
-value-yes rel len var e = leb-true _ _ (accepted-says (valueOfAsks rel len var) tt e 5)
+value-yes rel len var e = leb-true _ _ (puts-yes (valueOfAsks rel len var) e 2 _ tt (search puts depth 20))
 
 -- ---- record
 pub record AddPermutation (rel : PermutationRelation) (len : ℕ) (input output : List ℕ) : Type 0 where
@@ -76,16 +77,16 @@ pub addPermutation-yes : (rel : PermutationRelation) (len : ℕ) (input output :
     → AddPermutation rel len input output
 unfolding addPermutationNo
 addPermutation-yes rel len input output e =
-    let says = accepted-says (addPermutationAsks rel len input output) tt e in
+    let says = puts-yes (addPermutationAsks rel len input output) e in
     record {
-      least = leb-true _ _ (says 0);
-      store = leb-true _ _ (says 2);
-      held = leb-true _ _ (says 3);
-      inputs = eqb-true _ _ (says 8);
-      outputs = eqb-true _ _ (says 9);
-      inputVars = says 10;
-      outputVars = says 11;
-      room = leb-true _ _ (says 12);
+      least = leb-true _ _ (says 1 _ tt (search puts depth 20));
+      store = leb-true _ _ (says 2 _ tt (search puts depth 20));
+      held = leb-true _ _ (says 2 _ tt (search puts depth 20));
+      inputs = eqb-true _ _ (says 9 _ tt (search puts depth 20));
+      outputs = eqb-true _ _ (says 9 _ tt (search puts depth 20));
+      inputVars = says 3 _ tt (search puts depth 20);
+      outputVars = says 3 _ tt (search puts depth 20);
+      room = leb-true _ _ (says 10 _ tt (search puts depth 20));
     }
 
 -- ---- mint
@@ -103,16 +104,16 @@ pub allocatePermutation-yes : (rel : PermutationRelation) (slots len : ℕ) (inp
     → allocatePermutationNo rel slots len input ≡ 0 → AllocatePermutation rel slots len input
 unfolding allocatePermutationNo
 allocatePermutation-yes rel slots len input e =
-    let says = accepted-says (allocatePermutationAsks rel slots len input) tt e in
+    let says = puts-yes (allocatePermutationAsks rel slots len input) e in
     record {
-      least = leb-true _ _ (says 0);
-      store = leb-true _ _ (says 6);
-      held = leb-true _ _ (says 7);
-      inputs = eqb-true _ _ (says 9);
-      inputVars = says 10;
-      most = leb-true _ _ (says 11);
-      slotRoom = leb-true _ _ (says 12);
-      room = leb-true _ _ (says 13);
+      least = leb-true _ _ (says 1 _ tt (search puts depth 20));
+      store = leb-true _ _ (says 2 _ tt (search puts depth 20));
+      held = leb-true _ _ (says 2 _ tt (search puts depth 20));
+      inputs = eqb-true _ _ (says 9 _ tt (search puts depth 20));
+      inputVars = says 3 _ tt (search puts depth 20);
+      most = leb-true _ _ (says 5 _ tt (search puts depth 20));
+      slotRoom = leb-true _ _ (says 6 _ tt (search puts depth 20));
+      room = leb-true _ _ (says 10 _ tt (search puts depth 20));
     }
 
 -- ---- equation
@@ -128,12 +129,12 @@ pub addEquation-yes : (rel : PermutationRelation) (len : ℕ) (terms : List Term
     → addEquationNo rel len terms image ≡ 0 → AddEquation rel len terms image
 unfolding addEquationNo
 addEquation-yes rel len terms image e =
-    let says = accepted-says (addEquationAsks rel len terms image) tt e in
+    let says = puts-yes (addEquationAsks rel len terms image) e in
     record {
-      store = leb-true _ _ (says 2);
-      held = leb-true _ _ (says 4);
-      vars = says 7;
-      weights = says 8;
-      unit = ltb-true _ _ (says 9);
-      room = leb-true _ _ (says 10);
+      store = leb-true _ _ (says 2 _ tt (search puts depth 20));
+      held = leb-true _ _ (says 2 _ tt (search puts depth 20));
+      vars = says 3 _ tt (search puts depth 20);
+      weights = says 4 _ tt (search puts depth 20);
+      unit = ltb-true _ _ (says 4 _ tt (search puts depth 20));
+      room = leb-true _ _ (says 10 _ tt (search puts depth 20));
     }

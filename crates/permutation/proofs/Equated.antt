@@ -5,6 +5,7 @@ use mathlib.Core.Path.{_≡_, sym, ap, _∙_}
 use mathlib.Core.List.{List, _++_}
 use native.Mathlib.Omega.{arith}
 use lib.ListN.{length}
+use Rattle.limits.specs.Outcome.{asIs}
 use Rattle.limits.specs.Questions.{_▸_, firstNo}
 use Rattle.limits.proofs.Answered.{store-refused, store-accepted}
 use Rattle.limits.proofs.Questions.{▸-assoc, firstNo-append}
@@ -16,7 +17,8 @@ use Rattle.expr.proofs.Terms.{length-termsOf}
 use Rattle.expr.proofs.Write.{fit-equation}
 use Rattle.permutation.specs.Relation.{addEquationSizes, imageAsks, equationRoom}
 use Rattle.permutation.specs.Numbers.{addEquationNo}
-use Rattle.permutation.specs.Answers.{recordedOf, oneEquation, EquationFits, addEquation, addEquationEquations}
+use Rattle.permutation.specs.Answers.{recordedOf, oneEquation, EquationFits, addEquation}
+use Rattle.permutation.specs.Contracts.{AddsEquation}
 use Rattle.permutation.specs.declared.PermutationRelation.{PermutationRelation}
 use Rattle.permutation.specs.declared.Recorded.{Recorded}
 use Rattle.permutation.proofs.Accepted.{addEquation-yes}
@@ -47,14 +49,23 @@ module _ (rel : PermutationRelation) (s : List ℕ) (ts : List Weighted) (image 
         words = omega arith;
       }
 
-  pub equated-answer : (r : Recorded) → r ≡ recordedOf k (oneEquation rel (length ts)) rel → r ≡ addEquation rel s terms image
-  equated-answer r e = e ∙ rw (number-is, length-termsOf ts)
+  module _ (r : Recorded) (e : r ≡ recordedOf k (oneEquation rel (length ts)) rel) where
+    answered : r ≡ addEquation rel s terms image
+    answered = e ∙ rw (number-is, length-termsOf ts)
 
-  pub equated-kept : (k ≡ 0 → ⊥) → s ≡ addEquationEquations rel s terms image
-  equated-kept h = store-refused _ k number-is (putWords (rel .words) (equationWords (equation terms image)) s) s h
+    pub equated-kept : (k ≡ 0 → ⊥) → AddsEquation asIs rel s terms image r s
+    equated-kept h = record {
+      answer = answered;
+      equations = store-refused _ k number-is (putWords (rel .words) (equationWords (equation terms image)) s) s h;
+    }
 
-  pub equated-stored : k ≡ 0 → fitEquation (rel .words) (equation terms image) s ≡ addEquationEquations rel s terms image
-  equated-stored z =
-      let y = addEquation-yes rel (length s) terms image (sym number-is ∙ z) in
-      fit-equation (rel .words) (equation terms image) s (omega arith) (y .room)
-      ∙ store-accepted _ k number-is (putWords (rel .words) (equationWords (equation terms image)) s) s z
+    pub equated-stored : k ≡ 0 → (t : List ℕ) → t ≡ fitEquation (rel .words) (equation terms image) s → AddsEquation asIs rel s terms image r t
+    equated-stored z t f =
+        let y = addEquation-yes rel (length s) terms image (sym number-is ∙ z) in
+        record {
+          answer = answered;
+          equations =
+              f
+              ∙ fit-equation (rel .words) (equation terms image) s (omega arith) (y .room)
+              ∙ store-accepted _ k number-is (putWords (rel .words) (equationWords (equation terms image)) s) s z;
+        }

@@ -7,16 +7,16 @@ use mathlib.Core.List.{List, [], _∷_, _++_, append-assoc}
 use mathlib.Core.Option.{Option, none, some}
 use native.Mathlib.Nat.{not-suc-le-zero}
 use native.Mathlib.Omega.{arith}
-use borrow.Author.Tests.{ltb-true, eqb-true, eqb-false}
+use borrow.Author.Tests.{eqb-true, eqb-false}
 use lib.Dec.{eqb, eqb·suc-zero}
 use lib.ListN.{length, getD, set, take, drop, replicate, length-set, length-append, length-take, length-drop, length-replicate}
 use lib.Seq.{getD-set-same, getD-set-other, getD-take, length-take-le, take-set-lt, take-at}
 use Rattle.limits.specs.Numbers.{prime, unassigned, maxCount}
 use Rattle.limits.specs.Questions.{pick, onYes}
-use Rattle.limits.proofs.Questions.{accepted-says}
 use Rattle.words.proofs.Lists.{all-map}
-use Rattle.allocator.specs.Slots.{Pair, pair, pairAsks, pairNo, SetRun, setRun, grownSlots}
+use Rattle.allocator.specs.Slots.{Pair, pair, pairNo, SetRun, setRun, grownSlots}
 use Rattle.allocator.specs.Values.{look, joins, fits, slotUnit}
+use Rattle.allocator.proofs.Accepted.{SetPair, pair-yes}
 use Rattle.allocator.proofs.Values.{put-same, put-grows, put-units, slot-some, slot-fits}
 use Rattle.permutation.specs.State.{HoldsSlots}
 
@@ -72,41 +72,35 @@ module _ (n a : ℕ) (slots : List ℕ) (h : n + a ≤ length slots) where
 
 -- ---- one pair that is accepted
 module _ (n : ℕ) (slots : List ℕ) (p : Pair) (z : pairNo n slots p ≡ 0) where
-  pair-unit : p .value < prime
-  unfolding pairNo
-  pair-unit = ltb-true _ _ (accepted-says (pairAsks n slots p) tt z 1)
-
-  pair-below : p .var < n
-  unfolding pairNo
-  pair-below = ltb-true _ _ (accepted-says (pairAsks n slots p) tt z 2)
+  asked : SetPair n slots p
+  asked = pair-yes n slots p z
 
   pair-fits : fits (slotUnit (getD slots (p .var) unassigned)) (p .value) ≡ true
-  unfolding pairNo
-  pair-fits = slot-fits (getD slots (p .var) unassigned) (p .value) ∙ accepted-says (pairAsks n slots p) tt z 3
+  pair-fits = slot-fits (getD slots (p .var) unassigned) (p .value) ∙ asked .takes
 
   pub set-holds : (sets : List Pair) → HoldsSlots n slots sets → HoldsSlots n (set slots (p .var) (p .value)) (p ∷ sets)
   set-holds sets o =
       let k : length (take n slots) ≡ n = length-take-le n slots (o .room) in
-      let live = take-set-lt n slots (p .var) (p .value) pair-below in
+      let live = take-set-lt n slots (p .var) (p .value) (asked .below) in
       let free : fits (look sets (p .var)) (p .value) ≡ true =
-      ap (λ (q : Option ℕ). fits q (p .value)) (sym (o .held (p .var)) ∙ ap slotUnit (getD-take n slots (p .var) unassigned pair-below)) ∙ pair-fits in
+      ap (λ (q : Option ℕ). fits q (p .value)) (sym (o .held (p .var)) ∙ ap slotUnit (getD-take n slots (p .var) unassigned (asked .below))) ∙ pair-fits in
       record {
         least = o .least;
         room = rw (length-set slots (p .var) (p .value)) (o .room);
         most = rw (length-set slots (p .var) (p .value)) (o .most);
         held = λ x. ap (λ (l : List ℕ). slotUnit (getD l x unassigned)) live ∙ go k o x (eqb x (p .var)) refl;
         agree = (put-same p (look sets), all-map _ _ sets (λ q. put-grows (look sets) p free (q .var) (q .value)) (o .agree));
-        units = put-units (look sets) p (o .units) pair-unit;
+        units = put-units (look sets) p (o .units) (asked .unit);
         zeroth = put-grows (look sets) p free 0 0 (o .zeroth);
       }
     where
       go : length (take n slots) ≡ n → HoldsSlots n slots sets → (x : ℕ) (b : Bool) → eqb x (p .var) ≡ b
           → slotUnit (getD (set (take n slots) (p .var) (p .value)) x unassigned) ≡ pick b (some (p .value)) (look sets x)
       go k o x true e =
-          let below : p .var < length (take n slots) = rw k pair-below in
+          let below : p .var < length (take n slots) = rw k (asked .below) in
           ap (λ (y : ℕ). slotUnit (getD (set (take n slots) (p .var) (p .value)) y unassigned)) (eqb-true x (p .var) e)
           ∙ ap slotUnit (getD-set-same (take n slots) (p .var) (p .value) unassigned below)
-          ∙ slot-some (p .value) pair-unit
+          ∙ slot-some (p .value) (asked .unit)
       go k o x false e = ap slotUnit (getD-set-other (take n slots) (p .var) x (p .value) unassigned (eqb-false x (p .var) e)) ∙ o .held x
 
 -- ---- pairs in turn: as many join the sets as were accepted

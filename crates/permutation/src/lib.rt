@@ -7,14 +7,16 @@
 
 ghost use mathlib.Core.Path.{_≡_};
 ghost use mathlib.Core.List.{_++_};
+ghost use Rattle.limits.specs.Outcome.{asIs};
 ghost use Rattle.limits.specs.Questions.{_▸_, firstNo};
 ghost use Rattle.limits.specs.Asks.{widthAsks};
 ghost use Rattle.allocator.specs.Slots.{pair, slotsAsks};
 ghost use Rattle.expr.specs.Weighted.{termsOf};
 ghost use Rattle.permutation.specs.Relation.{addEquationSizes, imageAsks, equationRoom};
-ghost use Rattle.permutation.specs.Numbers.{newRelationNo, allocateVarsNo, setVarsNo, valueOfNo, isAllocatedNo, addPermutationNo, allocatePermutationNo};
-ghost use Rattle.permutation.specs.Answers.{newRelation, newSlots, allocateVars, allocateVarsSlots, setVar, setVarSlots, setVars, setVarsSlots, valueOf, isAllocated, recordedOf, oneEquation};
-ghost use Rattle.permutation.specs.Answers.{addPermutation, addPermutationQueries, allocatePermutation, allocatePermutationSlots, allocatePermutationQueries, fitVars, EquationFits, addEquation, addEquationEquations};
+ghost use Rattle.permutation.specs.Numbers.{newRelationNo, allocateVarsNo, setVarsNo, valueOfNo, isAllocatedNo};
+ghost use Rattle.permutation.specs.Numbers.{addPermutationNo, allocatePermutationNo};
+ghost use Rattle.permutation.specs.Answers.{valueOf, isAllocated, recordedOf, oneEquation, fitVars, EquationFits};
+ghost use Rattle.permutation.specs.Contracts.{MakesRelation, AllocatesVars, SetsVar, SetsVars, AddsPermutation, AllocatesPermutation, AddsEquation};
 use allocator::FieldVar;
 use allocator::VarValue;
 use baby_bear::BabyBearUnit;
@@ -77,7 +79,7 @@ fn new_relation_no(width: u32, len: usize) -> u32
 
 // A relation with wire 0 alone, which has the value 0 (document 01: fresh). Questions 1, 2, 6.
 pub fn new_relation(width: u32, slots: &mut [u32]) -> Recorded
-    ensures { λ r. ⌜ (r ≡ newRelation width (now (slots .entry))) × (now (slots .exit) ≡ newSlots width (now (slots .entry))) ⌝ }
+    ensures { λ r. ⌜ MakesRelation asIs width (now (slots .entry)) r (now (slots .exit)) ⌝ }
 {
     let no = new_relation_no(width, slots.len());
     if no != 0 {
@@ -125,7 +127,7 @@ fn allocate_vars_no(rel: PermutationRelation, len: usize, n: u32) -> u32
 
 // The next n wires, their slots unassigned (the source's `allocate_vars_vec`). Questions 1, 2, 5, 6.
 pub fn allocate_vars(rel: PermutationRelation, slots: &mut [u32], n: u32) -> Allocated
-    ensures { λ r. ⌜ (r ≡ allocateVars rel (now (slots .entry)) n) × (now (slots .exit) ≡ allocateVarsSlots rel (now (slots .entry)) n) ⌝ }
+    ensures { λ r. ⌜ AllocatesVars asIs rel (now (slots .entry)) n r (now (slots .exit)) ⌝ }
 {
     let no = allocate_vars_no(rel, slots.len(), n);
     if no != 0 {
@@ -155,7 +157,7 @@ pub fn set_var(
     var: FieldVar,
     value: BabyBearUnit,
 ) -> Outcome
-    ensures { λ r. ⌜ (r ≡ setVar rel (now (slots .entry)) (pair (var .0) (value .0))) × (now (slots .exit) ≡ setVarSlots rel (now (slots .entry)) (pair (var .0) (value .0))) ⌝ }
+    ensures { λ r. ⌜ SetsVar asIs rel (now (slots .entry)) (pair (var .0) (value .0)) r (now (slots .exit)) ⌝ }
 {
     let count = rel.vars;
     let no = asked_relation(rel.width, count, slots.len());
@@ -188,7 +190,7 @@ pub fn set_vars(
     vars: &[u32],
     values: &[u32],
 ) -> SetVars
-    ensures { λ r. ⌜ (r ≡ setVars rel (now (slots .entry)) (now (vars .entry)) (now (values .entry))) × (now (slots .exit) ≡ setVarsSlots rel (now (slots .entry)) (now (vars .entry)) (now (values .entry))) ⌝ }
+    ensures { λ r. ⌜ SetsVars asIs rel (now (slots .entry)) (now (vars .entry)) (now (values .entry)) r (now (slots .exit)) ⌝ }
 {
     let no = set_vars_no(rel, slots.len(), vars, values);
     if no != 0 {
@@ -293,7 +295,7 @@ pub fn add_permutation(
     input: &[u32],
     output: &[u32],
 ) -> Recorded
-    ensures { λ r. ⌜ (r ≡ addPermutation rel (now (queries .entry)) (now (input .entry)) (now (output .entry))) × (now (queries .exit) ≡ addPermutationQueries rel (now (queries .entry)) (now (input .entry)) (now (output .entry))) ⌝ }
+    ensures { λ r. ⌜ AddsPermutation asIs rel (now (queries .entry)) (now (input .entry)) (now (output .entry)) r (now (queries .exit)) ⌝ }
 {
     let no = add_permutation_no(rel, queries.len(), input, output);
     if no != 0 {
@@ -370,7 +372,7 @@ pub fn allocate_permutation(
     queries: &mut [u32],
     input: &[u32],
 ) -> Allocated
-    ensures { λ r. ⌜ (r ≡ allocatePermutation rel (now (slots .entry)) (now (queries .entry)) (now (input .entry))) × (now (slots .exit) ≡ allocatePermutationSlots rel (now (slots .entry)) (now (queries .entry)) (now (input .entry))) × (now (queries .exit) ≡ allocatePermutationQueries rel (now (slots .entry)) (now (queries .entry)) (now (input .entry))) ⌝ }
+    ensures { λ r. ⌜ AllocatesPermutation asIs rel (now (slots .entry)) (now (queries .entry)) (now (input .entry)) r (now (slots .exit)) (now (queries .exit)) ⌝ }
 {
     let no = allocate_permutation_no(rel, slots.len(), queries.len(), input);
     if no != 0 {
@@ -461,7 +463,7 @@ pub fn add_equation(
     terms: &[Weighted],
     image: BabyBearUnit,
 ) -> Recorded
-    ensures { λ r. ⌜ (r ≡ addEquation rel (now (equations .entry)) (termsOf (now (terms .entry))) (image .0)) × (now (equations .exit) ≡ addEquationEquations rel (now (equations .entry)) (termsOf (now (terms .entry))) (image .0)) ⌝ }
+    ensures { λ r. ⌜ AddsEquation asIs rel (now (equations .entry)) (termsOf (now (terms .entry))) (image .0) r (now (equations .exit)) ⌝ }
 {
     let no = add_equation_sizes(rel, equations.len());
     let no = expr::asked_terms(no, terms);

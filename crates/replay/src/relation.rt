@@ -8,7 +8,8 @@ ghost use mathlib.Core.Path.{_≡_};
 ghost use Prim.Native.Nat.{_≤_};
 ghost use lib.ListN.{drop};
 ghost use Rattle.expr.specs.Weighted.{termsOf};
-ghost use Rattle.permutation.specs.Answers.{addEquation, addEquationEquations};
+ghost use Rattle.limits.specs.Outcome.{asIs};
+ghost use Rattle.permutation.specs.Contracts.{AddsEquation};
 use crate::sample::Found;
 use crate::sample::Seen;
 use crate::sample::WORDS;
@@ -219,7 +220,7 @@ fn equate(
     image: BabyBearUnit,
 ) -> Recorded
     requires { ⌜ from ≤ 8 ⌝ }
-    ensures { λ r. ⌜ (r ≡ addEquation rel (now (equations .entry)) (termsOf (drop from terms)) (image .0)) × (now (equations .exit) ≡ addEquationEquations rel (now (equations .entry)) (termsOf (drop from terms)) (image .0)) ⌝ }
+    ensures { λ r. ⌜ AddsEquation asIs rel (now (equations .entry)) (termsOf (drop from terms)) (image .0) r (now (equations .exit)) ⌝ }
 {
     permutation::add_equation(rel, equations, &terms[from..], image)
 }

@@ -4,8 +4,8 @@ ghost use mathlib.Core.Path.{_≡_};
 ghost use Rattle.allocator.specs.Slots.{pair};
 ghost use Rattle.expr.specs.Weighted.{termsOf, scale, scaleTerms};
 ghost use Rattle.limits.specs.Outcome.{outcomeNumber};
-ghost use Rattle.permutation.specs.Answers.{newRelation, newSlots, allocateVars, allocateVarsSlots, setVar, setVarSlots, setVars, setVarsSlots, valueOf, isAllocated};
-ghost use Rattle.permutation.specs.Answers.{addPermutation, addPermutationQueries, allocatePermutation, allocatePermutationSlots, allocatePermutationQueries, addEquation, addEquationEquations};
+ghost use Rattle.permutation.specs.Answers.{valueOf, isAllocated};
+ghost use Rattle.permutation.specs.Contracts.{MakesRelation, AllocatesVars, SetsVar, SetsVars, AddsPermutation, AllocatesPermutation, AddsEquation};
 ghost use Rattle.sfr.specs.Relation.{recordedAnswer, allocatedAnswer, tallyOf, scaledNumber, valueAnswer, flagOf};
 use allocator::FieldVar;
 use allocator::VarValue;
@@ -95,7 +95,7 @@ fn allocated_answer(r: Allocated) -> SfrRelationAnswer
 // A relation with wire 0 alone, which has the value 0.
 #[no_mangle]
 pub extern "C" fn sfr_new_relation(width: u32, slots: &mut [u32]) -> SfrRelationAnswer
-    ensures { λ r. ⌜ (r ≡ recordedAnswer (newRelation width (now (slots .entry)))) × (now (slots .exit) ≡ newSlots width (now (slots .entry))) ⌝ }
+    ensures { λ r. ⌜ MakesRelation recordedAnswer width (now (slots .entry)) r (now (slots .exit)) ⌝ }
 {
     recorded_answer(permutation::new_relation(width, slots))
 }
@@ -107,7 +107,7 @@ pub extern "C" fn sfr_allocate_vars(
     slots: &mut [u32],
     n: u32,
 ) -> SfrRelationAnswer
-    ensures { λ r. ⌜ (r ≡ allocatedAnswer (allocateVars rel (now (slots .entry)) n)) × (now (slots .exit) ≡ allocateVarsSlots rel (now (slots .entry)) n) ⌝ }
+    ensures { λ r. ⌜ AllocatesVars allocatedAnswer rel (now (slots .entry)) n r (now (slots .exit)) ⌝ }
 {
     allocated_answer(permutation::allocate_vars(rel, slots, n))
 }
@@ -120,7 +120,7 @@ pub extern "C" fn sfr_set_var(
     var: u32,
     value: u32,
 ) -> u32
-    ensures { λ r. ⌜ (r ≡ outcomeNumber (setVar rel (now (slots .entry)) (pair var value))) × (now (slots .exit) ≡ setVarSlots rel (now (slots .entry)) (pair var value)) ⌝ }
+    ensures { λ r. ⌜ SetsVar outcomeNumber rel (now (slots .entry)) (pair var value) r (now (slots .exit)) ⌝ }
 {
     outcome_no(permutation::set_var(rel, slots, FieldVar(var), BabyBearUnit(value)))
 }
@@ -133,7 +133,7 @@ pub extern "C" fn sfr_set_vars(
     vars: &[u32],
     values: &[u32],
 ) -> SfrTally
-    ensures { λ r. ⌜ (r ≡ tallyOf (setVars rel (now (slots .entry)) (now (vars .entry)) (now (values .entry)))) × (now (slots .exit) ≡ setVarsSlots rel (now (slots .entry)) (now (vars .entry)) (now (values .entry))) ⌝ }
+    ensures { λ r. ⌜ SetsVars tallyOf rel (now (slots .entry)) (now (vars .entry)) (now (values .entry)) r (now (slots .exit)) ⌝ }
 {
     let r = permutation::set_vars(rel, slots, vars, values);
     let o = r.outcome;
@@ -152,7 +152,7 @@ pub extern "C" fn sfr_add_permutation(
     input: &[u32],
     output: &[u32],
 ) -> SfrRelationAnswer
-    ensures { λ r. ⌜ (r ≡ recordedAnswer (addPermutation rel (now (queries .entry)) (now (input .entry)) (now (output .entry)))) × (now (queries .exit) ≡ addPermutationQueries rel (now (queries .entry)) (now (input .entry)) (now (output .entry))) ⌝ }
+    ensures { λ r. ⌜ AddsPermutation recordedAnswer rel (now (queries .entry)) (now (input .entry)) (now (output .entry)) r (now (queries .exit)) ⌝ }
 {
     recorded_answer(permutation::add_permutation(rel, queries, input, output))
 }
@@ -165,7 +165,7 @@ pub extern "C" fn sfr_allocate_permutation(
     queries: &mut [u32],
     input: &[u32],
 ) -> SfrRelationAnswer
-    ensures { λ r. ⌜ (r ≡ allocatedAnswer (allocatePermutation rel (now (slots .entry)) (now (queries .entry)) (now (input .entry)))) × (now (slots .exit) ≡ allocatePermutationSlots rel (now (slots .entry)) (now (queries .entry)) (now (input .entry))) × (now (queries .exit) ≡ allocatePermutationQueries rel (now (slots .entry)) (now (queries .entry)) (now (input .entry))) ⌝ }
+    ensures { λ r. ⌜ AllocatesPermutation allocatedAnswer rel (now (slots .entry)) (now (queries .entry)) (now (input .entry)) r (now (slots .exit)) (now (queries .exit)) ⌝ }
 {
     allocated_answer(permutation::allocate_permutation(rel, slots, queries, input))
 }
@@ -178,7 +178,7 @@ pub extern "C" fn sfr_add_equation(
     terms: &[Weighted],
     image: u32,
 ) -> SfrRelationAnswer
-    ensures { λ r. ⌜ (r ≡ recordedAnswer (addEquation rel (now (equations .entry)) (termsOf (now (terms .entry))) image)) × (now (equations .exit) ≡ addEquationEquations rel (now (equations .entry)) (termsOf (now (terms .entry))) image) ⌝ }
+    ensures { λ r. ⌜ AddsEquation recordedAnswer rel (now (equations .entry)) (termsOf (now (terms .entry))) image r (now (equations .exit)) ⌝ }
 {
     recorded_answer(permutation::add_equation(rel, equations, terms, BabyBearUnit(image)))
 }

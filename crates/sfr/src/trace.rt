@@ -3,7 +3,7 @@
 ghost use mathlib.Core.Path.{_≡_};
 ghost use lib.ListN.{length};
 ghost use Rattle.permute.specs.Parameters.{permuteNo, permuted};
-ghost use Rattle.witness.specs.Trace.{appendStep, appendStepTrace, evaluateStep, evaluateStepTrace};
+ghost use Rattle.witness.specs.Trace.{AppendsStep, EvaluatesStep};
 ghost use Rattle.encoding.specs.Answers.{WitnessWrites};
 ghost use Rattle.decoding.specs.Answers.{witnessFromBytes, witnessAnswer, traceAfter};
 ghost use Rattle.sfr.specs.Trace.{tracedAnswer, writtenAnswer, traceRead};
@@ -55,7 +55,7 @@ pub extern "C" fn sfr_append_step(
     input: &[u32],
     output: &[u32],
 ) -> SfrTraceAnswer
-    ensures { λ r. ⌜ (r ≡ tracedAnswer (appendStep rec (now (trace .entry)) (now (input .entry)) (now (output .entry)))) × (now (trace .exit) ≡ appendStepTrace rec (now (trace .entry)) (now (input .entry)) (now (output .entry))) ⌝ }
+    ensures { λ r. ⌜ AppendsStep tracedAnswer rec (now (trace .entry)) (now (input .entry)) (now (output .entry)) r (now (trace .exit)) ⌝ }
 {
     traced_answer(witness::append_step(rec, trace, input, output))
 }
@@ -69,7 +69,7 @@ pub extern "C" fn sfr_evaluate_step(
     rounds: u32,
     params: &[u32],
 ) -> SfrTraceAnswer
-    ensures { λ r. ⌜ (r ≡ tracedAnswer (evaluateStep rec (now (trace .entry)) (now (input .entry)) rounds (now (params .entry)))) × (now (trace .exit) ≡ evaluateStepTrace rec (now (trace .entry)) (now (input .entry)) rounds (now (params .entry))) ⌝ }
+    ensures { λ r. ⌜ EvaluatesStep tracedAnswer rec (now (trace .entry)) (now (input .entry)) rounds (now (params .entry)) r (now (trace .exit)) ⌝ }
 {
     traced_answer(witness::evaluate_step(rec, trace, input, rounds, params))
 }

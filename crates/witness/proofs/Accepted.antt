@@ -8,7 +8,7 @@ use borrow.Author.Tests.{leb-true, eqb-true}
 use lib.ListN.{length}
 use Rattle.limits.specs.Numbers.{prime, maxCount, maxWidth, wordEnd}
 use Rattle.limits.specs.Questions.{question}
-use Rattle.limits.proofs.Questions.{both, firstNo-append, accepted-says}
+use Rattle.limits.proofs.Questions.{both, firstNo-append, puts, puts-yes}
 use Rattle.words.specs.Store.{allBelow}
 use Rattle.words.specs.Pieces.{wordsOf}
 use Rattle.words.proofs.Pieces.{pieces-few}
@@ -22,7 +22,7 @@ pub steps-few : (wit : PermutationWitness) (len : ℕ) → 1 ≤ wit .width → 
 steps-few wit len w m h = omega (arith, pieces-few (wit .width) (wit .steps + 1) len w h)
 
 -- ---- a given step
-pub record AddPermutation (wit : PermutationWitness) (len : ℕ) (input output : List ℕ) : Type 0 where
+pub record AppendStep (wit : PermutationWitness) (len : ℕ) (input output : List ℕ) : Type 0 where
   pub held : wordsOf (wit .width) (wit .steps) ≤ len
   pub inputs : length input ≡ wit .width
   pub outputs : length output ≡ wit .width
@@ -32,18 +32,21 @@ pub record AddPermutation (wit : PermutationWitness) (len : ℕ) (input output :
   pub few : wit .steps + 1 < wordEnd
 
 pub appendStep-yes : (wit : PermutationWitness) (len : ℕ) (input output : List ℕ) → appendStepNo wit len input output ≡ 0
-    → AddPermutation wit len input output
+    → AppendStep wit len input output
 unfolding appendStepNo
 appendStep-yes wit len input output e =
-    let says = accepted-says (appendStepAsks wit len input output) tt e in
+    let says = puts-yes (appendStepAsks wit len input output) e in
+    let least : 1 ≤ wit .width = leb-true _ _ (says 1 _ tt (search puts depth 20)) in
+    let store : len ≤ maxCount = leb-true _ _ (says 2 _ tt (search puts depth 20)) in
+    let room : wordsOf (wit .width) (wit .steps + 1) ≤ len = leb-true _ _ (says 10 _ tt (search puts depth 20)) in
     record {
-      held = leb-true _ _ (says 3);
-      inputs = eqb-true _ _ (says 6);
-      outputs = eqb-true _ _ (says 7);
-      inputUnits = says 8;
-      outputUnits = says 9;
-      room = leb-true _ _ (says 10);
-      few = steps-few wit len (leb-true _ _ (says 0)) (leb-true _ _ (says 2)) (leb-true _ _ (says 10));
+      held = leb-true _ _ (says 2 _ tt (search puts depth 20));
+      inputs = eqb-true _ _ (says 9 _ tt (search puts depth 20));
+      outputs = eqb-true _ _ (says 9 _ tt (search puts depth 20));
+      inputUnits = says 4 _ tt (search puts depth 20);
+      outputUnits = says 4 _ tt (search puts depth 20);
+      room = room;
+      few = steps-few wit len least store room;
     }
 
 -- ---- an evaluated step, up to the parameters
@@ -61,33 +64,36 @@ pub input-yes : (wit : PermutationWitness) (len : ℕ) (input params : List ℕ)
     → Input wit len input params
 unfolding inputNo
 input-yes wit len input params e =
-    let says = accepted-says (inputAsks wit len input params) tt e in
+    let says = puts-yes (inputAsks wit len input params) e in
     record {
-      least = leb-true _ _ (says 0);
-      most = leb-true _ _ (says 1);
-      store = leb-true _ _ (says 2);
-      held = leb-true _ _ (says 3);
-      inputStore = leb-true _ _ (says 4);
-      paramsStore = leb-true _ _ (says 5);
-      inputs = eqb-true _ _ (says 6);
-      inputUnits = says 7;
+      least = leb-true _ _ (says 1 _ tt (search puts depth 20));
+      most = leb-true _ _ (says 1 _ tt (search puts depth 20));
+      store = leb-true _ _ (says 2 _ tt (search puts depth 20));
+      held = leb-true _ _ (says 2 _ tt (search puts depth 20));
+      inputStore = leb-true _ _ (says 2 _ tt (search puts depth 20));
+      paramsStore = leb-true _ _ (says 2 _ tt (search puts depth 20));
+      inputs = eqb-true _ _ (says 9 _ tt (search puts depth 20));
+      inputUnits = says 4 _ tt (search puts depth 20);
     }
 
 -- ---- and as a whole
-pub record AllocatePermutation (wit : PermutationWitness) (len : ℕ) (input : List ℕ) (rounds : ℕ) (params : List ℕ) : Type 0 where
+pub record EvaluateStep (wit : PermutationWitness) (len : ℕ) (input : List ℕ) (rounds : ℕ) (params : List ℕ) : Type 0 where
   pub asked : inputNo wit len input params ≡ 0
   pub sound : soundParameters (wit .width) rounds params ≡ true
   pub room : wordsOf (wit .width) (wit .steps + 1) ≤ len
   pub few : wit .steps + 1 < wordEnd
 
 pub evaluateStep-yes : (wit : PermutationWitness) (len : ℕ) (input : List ℕ) (rounds : ℕ) (params : List ℕ)
-    → evaluateStepNo wit len input rounds params ≡ 0 → AllocatePermutation wit len input rounds params
+    → evaluateStepNo wit len input rounds params ≡ 0 → EvaluateStep wit len input rounds params
 unfolding evaluateStepNo inputNo
 evaluateStep-yes wit len input rounds params e =
-    let says = accepted-says (evaluateStepAsks wit len input rounds params) tt e in
+    let says = puts-yes (evaluateStepAsks wit len input rounds params) e in
+    let asked = both _ _ (sym (firstNo-append (inputAsks wit len input params) (question 17 (soundParameters (wit .width) rounds params) ∷ stepRoom wit len)) ∙ e) .0 in
+    let y = input-yes wit len input params asked in
+    let room : wordsOf (wit .width) (wit .steps + 1) ≤ len = leb-true _ _ (says 10 _ tt (search puts depth 20)) in
     record {
-      asked = both _ _ (sym (firstNo-append (inputAsks wit len input params) (question 17 (soundParameters (wit .width) rounds params) ∷ stepRoom wit len)) ∙ e) .0;
-      sound = says 8;
-      room = leb-true _ _ (says 9);
-      few = steps-few wit len (leb-true _ _ (says 0)) (leb-true _ _ (says 2)) (leb-true _ _ (says 9));
+      asked = asked;
+      sound = says 17 _ tt (search puts depth 20);
+      room = room;
+      few = steps-few wit len (y .least) (y .store) room;
     }

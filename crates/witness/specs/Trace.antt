@@ -1,6 +1,7 @@
 -- The witness builder (the source's `PermutationWitnessBuilder`): a trace is steps of 2w units, inputs then
 -- outputs, one after the other in a lent store. Assumes nothing.
 use Prim.Native.Nat.{ℕ, _+_}
+use mathlib.Core.Path.{_≡_}
 use mathlib.Core.List.{List, [], _∷_, _++_}
 use lib.ListN.{length}
 use Rattle.limits.specs.Numbers.{prime}
@@ -104,6 +105,20 @@ abbrev pub evaluateStepTrace : PermutationWitness → List ℕ → List ℕ → 
 evaluateStepTrace wit trace input rounds params =
     onYes (evaluateStepNo wit (length trace) input rounds params)
     (traceWith wit (evaluatedStep wit input rounds params) trace) trace
+
+-- ---- what the calls do, their parts by name: the answer, told as the caller has it (`asIs` or, for C, as a struct),
+-- and the trace before (₀) and after (₁)
+-- a given step
+pub record AppendsStep {A : Type 0} (told : Traced → A) (wit : PermutationWitness) (trace₀ input output : List ℕ)
+    (r : A) (trace₁ : List ℕ) : Type 0 where
+  pub answer : r ≡ told (appendStep wit trace₀ input output)
+  pub trace : trace₁ ≡ appendStepTrace wit trace₀ input output
+
+-- an evaluated step
+pub record EvaluatesStep {A : Type 0} (told : Traced → A) (wit : PermutationWitness) (trace₀ input : List ℕ) (rounds : ℕ) (params : List ℕ)
+    (r : A) (trace₁ : List ℕ) : Type 0 where
+  pub answer : r ≡ told (evaluateStep wit trace₀ input rounds params)
+  pub trace : trace₁ ≡ evaluateStepTrace wit trace₀ input rounds params
 
 -- ---- the steps that a trace holds, in order
 -- as many as the record counts

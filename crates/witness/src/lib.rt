@@ -8,11 +8,12 @@ ghost use mathlib.Core.List.{_++_};
 ghost use Prim.Native.Nat.{_+_, _≤_, _<_};
 ghost use lib.ListN.{length};
 ghost use Rattle.limits.specs.Numbers.{wordEnd};
+ghost use Rattle.limits.specs.Outcome.{asIs};
 ghost use Rattle.limits.specs.Questions.{firstNo, onYes};
 ghost use Rattle.words.specs.Pieces.{wordsOf};
 ghost use Rattle.permute.specs.Parameters.{permuteNo};
 ghost use Rattle.witness.specs.Trace.{traceAsks, inputNo, appendStepNo, tracedOf, traceWith, evaluatedStep};
-ghost use Rattle.witness.specs.Trace.{appendStep, appendStepTrace, evaluateStep, evaluateStepTrace};
+ghost use Rattle.witness.specs.Trace.{AppendsStep, EvaluatesStep};
 use limits::Outcome;
 use limits::P;
 
@@ -94,7 +95,7 @@ pub fn append_step(
     input: &[u32],
     output: &[u32],
 ) -> Traced
-    ensures { λ r. ⌜ (r ≡ appendStep wit (now (trace .entry)) (now (input .entry)) (now (output .entry))) × (now (trace .exit) ≡ appendStepTrace wit (now (trace .entry)) (now (input .entry)) (now (output .entry))) ⌝ }
+    ensures { λ r. ⌜ AppendsStep asIs wit (now (trace .entry)) (now (input .entry)) (now (output .entry)) r (now (trace .exit)) ⌝ }
 {
     let no = append_step_no(wit, trace.len(), input, output);
     if no != 0 {
@@ -125,7 +126,7 @@ pub fn evaluate_step(
     rounds: u32,
     params: &[u32],
 ) -> Traced
-    ensures { λ r. ⌜ (r ≡ evaluateStep wit (now (trace .entry)) (now (input .entry)) rounds (now (params .entry))) × (now (trace .exit) ≡ evaluateStepTrace wit (now (trace .entry)) (now (input .entry)) rounds (now (params .entry))) ⌝ }
+    ensures { λ r. ⌜ EvaluatesStep asIs wit (now (trace .entry)) (now (input .entry)) rounds (now (params .entry)) r (now (trace .exit)) ⌝ }
 {
     let no = input_no(wit, trace.len(), input, params);
     if no != 0 {

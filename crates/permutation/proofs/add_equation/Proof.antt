@@ -40,16 +40,18 @@ use denote.Triple.Statement.{Contract, Triple}
 use denote.Triple.Table.{entered, cited}
 use denote.Triple.Walked.{says, Stays, stay-none, stay-none-slice, gave-slice, walkOf, goes-none, goes-none-slice, goes-gave-slice, Walks, ends-at, walked, walk-meets}
 use denote.Exit.{yes}
+use Rattle.limits.specs.Outcome.{asIs}
 use Rattle.limits.specs.Questions.{_▸_, firstNo}
 use Rattle.expr.specs.Equation.{equation, termsAsks, fitEquation}
 use Rattle.expr.specs.Weighted.{termsOf}
 use Rattle.permutation.specs.Relation.{addEquationSizes, imageAsks, equationRoom}
-use Rattle.permutation.specs.Answers.{recordedOf, oneEquation, EquationFits, addEquation, addEquationEquations}
+use Rattle.permutation.specs.Answers.{recordedOf, oneEquation, EquationFits}
+use Rattle.permutation.specs.Contracts.{AddsEquation}
 use Rattle.baby_bear.specs.declared.BabyBearUnit.{BabyBearUnit}
 use Rattle.expr.specs.declared.Weighted.{Weighted}
 use Rattle.permutation.specs.declared.PermutationRelation.{PermutationRelation}
 use Rattle.permutation.specs.declared.Recorded.{Recorded}
-use Rattle.permutation.proofs.Equated.{equation-fits, equated-answer, equated-stored, equated-kept}
+use Rattle.permutation.proofs.Equated.{equation-fits, equated-stored, equated-kept}
 use Rattle.baby_bear.proofs.BabyBearUnit as U
 use Rattle.baby_bear.proofs.BabyBearUnit.Laws as U′
 use Rattle.expr.proofs.Weighted as T
@@ -158,7 +160,7 @@ module _ {M : Type 1} (𝓤 : URA M) (H : Heap 𝓤) (A : Atoms 𝓤) (W : Given
   image-fits : image .0 < 2 ^ 32
   image-fits = LL.owed U.the-type U′.the-laws image (unit-vals image) image-is .0 .1
 
-  exits : (r : Recorded) (v : Val) (l : List ℕ) → length l ≡ length out → (r ≡ addEquation rel out (termsOf ts) (image .0)) × (l ≡ addEquationEquations rel out (termsOf ts) (image .0)) → Is S.the-row r (v ∷ [])
+  exits : (r : Recorded) (v : Val) (l : List ℕ) → length l ≡ length out → AddsEquation asIs rel out (termsOf ts) (image .0) r l → Is S.the-row r (v ∷ [])
       → ent 𝓤 (⋆ 𝓤 H A ((‵ (flft κ q) ⊛ (‵ (flft κ′ q′) ⊛ ‵ ftrue)) ∷ ‵ (finally u32 γ l) ∷ ‵ OwnT ∷ [])) (Post v)
   exits r v l e e′ is =
       qed W ((‵ (flft κ q) ⊛ (‵ (flft κ′ q′) ⊛ ‵ ftrue)) ∷ ‵ (finally u32 γ l) ∷ ‵ OwnT ∷ []) ∵
@@ -327,7 +329,7 @@ module _ {M : Type 1} (𝓤 : URA M) (H : Heap 𝓤) (A : Atoms 𝓤) (W : Given
           -- [κ′'s token; terms'; the store's; κ's token]: the store is given up as it was
           move ! (3 ∷ 0 ∷ []) $ join ! $ move ! (2 ∷ []) $ fsplit ! $ move ! (1 ∷ []) $ fsplit ! $ use1 W (‵ (fres γ (codedHoleys u32 .code (heres u32 out)))) (W .names .obs-res γ (codedHoleys u32 .code (heres u32 out))) $
           use1 W (‵ (finally u32 γ out)) (res-finally 𝓤 H A W (named 0) κ u32 γ out) $
-          keep ! (3 ∷ 0 ∷ 4 ∷ []) $ by ! (exits r v₄ out refl (equated-answer rel out ts (image .0) k₁ k₂ k e₁ e₂ e₃ r e₄, equated-kept rel out ts (image .0) k₁ k₂ k e₁ e₂ e₃ (is-some k h)) r-is))
+          keep ! (3 ∷ 0 ∷ 4 ∷ []) $ by ! (exits r v₄ out refl (equated-kept rel out ts (image .0) k₁ k₂ k e₁ e₂ e₃ r e₄ (is-some k h)) r-is))
           (λ h. assigns ! (addr ! (from ! (fld ! refl (hop ! (look-in ! 28 (sub ! 0 refl (whole !))) (stop !))))) (from ! (stop !)) (init ! 6 refl (tt, tt)) $
           assigns ! (agg ! (and-then ! (load ! (from ! (stop !)) (look ! 6 refl)) (and-then ! (load ! (from ! (fld ! refl (stop !))) (look-in ! 28 (sub ! 1 refl (whole !)))) (no-more !)))) (from ! (stop !)) (init ! 4 refl (tt, (tt, (record { fits = room .0 }, tt)))) $
           assigns ! (un ! (load ! (from ! (fld ! refl (stop !))) (look-in ! 30 (sub ! 4 refl (whole !)))) (record { fits = word-fits (rel .words) words-fit })) (from ! (stop !)) (init ! 2 refl (tt, record { fits = word-fits (rel .words) words-fit })) $
@@ -345,7 +347,7 @@ module _ {M : Type 1} (𝓤 : URA M) (H : Heap 𝓤) (A : Atoms 𝓤) (W : Given
           assigns ! (of-opd ! (load ! (from ! (stop !)) (look ! 19 refl))) (from ! (stop !)) (init ! 35 refl (LL.lawful S.the-type S′.the-laws 𝓤 H A W .typed r _ r-is .0)) $
           returns-within ! Post refl (look ! 35 refl) $ forget ! 5 refl $ forget ! 7 refl $ forget ! 9 refl $ forget ! 11 refl $ forget ! 13 refl $ forget ! 15 refl $ forget ! 17 refl $ forget ! 19 refl $ forget ! 21 refl $ forget ! 23 refl $ forget ! 25 refl $ forget ! 27 refl $ forget ! 29 refl $ forget ! 31 refl $ forget ! 33 refl $ forget ! 35 refl $
           move ! (35 ∷ 36 ∷ []) $ free1 ! $ move ! (33 ∷ 34 ∷ []) $ free1 ! $ move ! (31 ∷ 32 ∷ []) $ free1 ! $ move ! (29 ∷ 30 ∷ []) $ free1 ! $ move ! (27 ∷ 28 ∷ []) $ free1 ! $ move ! (25 ∷ 26 ∷ []) $ free1 ! $ move ! (23 ∷ 24 ∷ []) $ free1 ! $ move ! (21 ∷ 22 ∷ []) $ free1 ! $ move ! (19 ∷ 20 ∷ []) $ free1 ! $ move ! (17 ∷ 18 ∷ []) $ free1 ! $ move ! (15 ∷ 16 ∷ []) $ free1 ! $ move ! (13 ∷ 14 ∷ []) $ free1 ! $ move ! (11 ∷ 12 ∷ []) $ free1 ! $ move ! (9 ∷ 10 ∷ []) $ free1 ! $ move ! (7 ∷ 8 ∷ []) $ free1 ! $ move ! (5 ∷ 6 ∷ []) $ free1 ! $ free0 ! $
-          keep ! (1 ∷ 2 ∷ 4 ∷ []) $ by ! (exits r v₄ (zs .0) l (equated-answer rel out ts (image .0) k₁ k₂ k e₁ e₂ e₃ r e₄, e₅ ∙ equated-stored rel out ts (image .0) k₁ k₂ k e₁ e₂ e₃ (is-none k h)) r-is))))))))))))))))))))))))))))))))))))))))
+          keep ! (1 ∷ 2 ∷ 4 ∷ []) $ by ! (exits r v₄ (zs .0) l (equated-stored rel out ts (image .0) k₁ k₂ k e₁ e₂ e₃ r e₄ (is-none k h) (zs .0) e₅) r-is))))))))))))))))))))))))))))))))))))))))
 
 module _ {M : Type 1} (𝓤 : URA M) (H : Heap 𝓤) (A : Atoms 𝓤) (W : Given 𝓤 H A) (mem : Memory → SProp 𝓤) (run : Routine → Fun 𝓤) where
   add-equation-walks : (C : Calls 𝓤 H) (Λ : Loops 𝓤 H) → FmC 𝓤 H (W .laws) C → Triple 𝓤 (C #permutation·add-equation-sizes) (Sized 𝓤 H A mem run) → Triple 𝓤 (C #expr·asked-terms) (Asked 𝓤 H A mem run) → Triple 𝓤 (C #permutation·add-equation-no) (Numbered 𝓤 H A mem run) → Triple 𝓤 (C #permutation·equation-recorded) (Noted 𝓤 H A mem run) → Triple 𝓤 (C #expr·put-equation) (Put 𝓤 H A mem run)

@@ -27,10 +27,10 @@ returns c =
     let a = c .before .before .before .before .before .args in
     let s = now (a .queries) in
     let no = addPermutationNo (a .rel) (length s) (now (a .input)) (now (a .output)) in
-    let e = c .before .add-permutation-no .ensures in (
-      recorded-refused no _ e (oneQuery (a .rel)) (a .rel) (c .if1 .taken),
-      store-refused no _ e (queriesWith (a .rel) (now (a .input) ++ now (a .output)) s) s (c .if1 .taken),
-    )
+    let e = c .before .add-permutation-no .ensures in record {
+      answer = recorded-refused no _ e (oneQuery (a .rel)) (a .rel) (c .if1 .taken);
+      queries = store-refused no _ e (queriesWith (a .rel) (now (a .input) ++ now (a .output)) s) s (c .if1 .taken);
+    }
 
 cast-width : tie.Need-cast-width
 cast-width c = search needs
@@ -83,13 +83,14 @@ returns-2 c =
     let no = addPermutationNo (a .rel) (length s) input output in
     let e = d .before .add-permutation-no .ensures in
     let z = d .if1 .left in
-    let y = addPermutation-yes (a .rel) (length s) input output (sym e ∙ z) in (
-      recorded-accepted no _ e (oneQuery (a .rel)) (a .rel) z,
-      c .before .before .before .put2 .ensures
+    let y = addPermutation-yes (a .rel) (length s) input output (sym e ∙ z) in record {
+      answer = recorded-accepted no _ e (oneQuery (a .rel)) (a .rel) z;
+      queries =
+          c .before .before .before .put2 .ensures
           ∙ ap (fitWords (at + a .rel .width) output) (c .before .before .before .before .before .before .before .put .ensures)
           ∙ halves-put (a .rel .width) (a .rel .queries) input output s (y .inputs) (y .outputs) (y .room)
-          ∙ store-accepted no _ e (queriesWith (a .rel) (input ++ output) s) s z,
-    )
+          ∙ store-accepted no _ e (queriesWith (a .rel) (input ++ output) s) s z;
+    }
 
 pub add-permutation-spec : {M : Type 1} → statement M
 add-permutation-spec =

@@ -34,11 +34,11 @@ returns c =
     let qs = now (a .queries) in
     let no = allocatePermutationNo (a .rel) (length s) (length qs) (now (a .input)) in
     let e = c .before .allocate-permutation-no .ensures in
-    let h = c .if1 .taken in (
-      allocated-refused no _ e (oneQuery (moreVars (a .rel) (a .rel .width))) (a .rel) (a .rel .vars) h,
-      store-refused no _ e (grownSlots (a .rel .vars) (a .rel .width) s) s h,
-      store-refused no _ e (queriesWith (a .rel) (now (a .input) ++ upFrom (a .rel .vars) (a .rel .width)) qs) qs h,
-    )
+    let h = c .if1 .taken in record {
+      answer = allocated-refused no _ e (oneQuery (moreVars (a .rel) (a .rel .width))) (a .rel) (a .rel .vars) h;
+      slots = store-refused no _ e (grownSlots (a .rel .vars) (a .rel .width) s) s h;
+      queries = store-refused no _ e (queriesWith (a .rel) (now (a .input) ++ upFrom (a .rel .vars) (a .rel .width)) qs) qs h;
+    }
 
 cast-half : tie.Need-cast-half
 cast-half c = search needs
@@ -107,17 +107,19 @@ returns-2 c =
     let z = d .if1 .left in
     let y = allocatePermutation-yes (a .rel) (length s) (length qs) input (sym e ∙ z) in
     let minted : fitVars (at + width) first width (fitWords at input qs) ≡ fitWords (at + width) (upFrom first width) (fitWords at input qs) =
-    simp (le-leb (first + width) maxCount (y .most)) in (
-      allocated-accepted no _ e (oneQuery (moreVars (a .rel) width)) (a .rel) first z,
-      c .before .before .before .before .before .before .before .before .before .before .grow-slots .ensures
+    simp (le-leb (first + width) maxCount (y .most)) in record {
+      answer = allocated-accepted no _ e (oneQuery (moreVars (a .rel) width)) (a .rel) first z;
+      slots =
+          c .before .before .before .before .before .before .before .before .before .before .grow-slots .ensures
           ∙ (simp (le-leb (first + width) (length s) (y .slotRoom)))
-          ∙ store-accepted no _ e (grownSlots first width s) s z,
-      c .before .before .put-vars .ensures
+          ∙ store-accepted no _ e (grownSlots first width s) s z;
+      queries =
+          c .before .before .put-vars .ensures
           ∙ ap (fitVars (at + width) first width) (c .before .before .before .before .before .before .put .ensures)
           ∙ minted
           ∙ halves-put width (a .rel .queries) input (upFrom first width) qs (y .inputs) (upFrom-length first width) (y .room)
-          ∙ store-accepted no _ e (queriesWith (a .rel) (input ++ upFrom first width) qs) qs z,
-    )
+          ∙ store-accepted no _ e (queriesWith (a .rel) (input ++ upFrom first width) qs) qs z;
+    }
 
 pub allocate-permutation-spec : {M : Type 1} → statement M
 allocate-permutation-spec =

@@ -24,10 +24,10 @@ returns c =
     let a = c .before .before .before .args in
     let s = now (a .slots) in
     let no = allocateVarsNo (a .rel) (length s) (a .n) in
-    let e = c .before .allocate-vars-no .ensures in (
-      allocated-refused no _ e (moreVars (a .rel) (a .n)) (a .rel) (a .rel .vars) (c .if1 .taken),
-      store-refused no _ e (grownSlots (a .rel .vars) (a .n) s) s (c .if1 .taken),
-    )
+    let e = c .before .allocate-vars-no .ensures in record {
+      answer = allocated-refused no _ e (moreVars (a .rel) (a .n)) (a .rel) (a .rel .vars) (c .if1 .taken);
+      slots = store-refused no _ e (grownSlots (a .rel .vars) (a .n) s) s (c .if1 .taken);
+    }
 
 grow-slots-requires : tie.Need-grow-slots-requires
 grow-slots-requires c κs = search needs
@@ -50,12 +50,13 @@ returns-2 c =
     let no = allocateVarsNo (a .rel) (length s) (a .n) in
     let e = d .before .allocate-vars-no .ensures in
     let z = d .if1 .left in
-    let y = allocateVars-yes (a .rel) (length s) (a .n) (sym e ∙ z) in (
-      allocated-accepted no _ e (moreVars (a .rel) (a .n)) (a .rel) (a .rel .vars) z,
-      c .before .before .grow-slots .ensures
+    let y = allocateVars-yes (a .rel) (length s) (a .n) (sym e ∙ z) in record {
+      answer = allocated-accepted no _ e (moreVars (a .rel) (a .n)) (a .rel) (a .rel .vars) z;
+      slots =
+          c .before .before .grow-slots .ensures
           ∙ (simp (le-leb (a .rel .vars + a .n) (length s) (y .room)))
-          ∙ store-accepted no _ e (grownSlots (a .rel .vars) (a .n) s) s z,
-    )
+          ∙ store-accepted no _ e (grownSlots (a .rel .vars) (a .n) s) s z;
+    }
 
 pub allocate-vars-spec : {M : Type 1} → statement M
 allocate-vars-spec =

@@ -20,10 +20,10 @@ returns c =
     let a = c .before .before .before .args in
     let s = now (a .slots) in
     let no = newRelationNo (a .width) (length s) in
-    let e = c .before .new-relation-no .ensures in (
-      recorded-refused no _ e (relation (a .width) 1 0 0 0) (relation 0 0 0 0 0) (c .if1 .taken),
-      store-refused no _ e (set s 0 0) s (c .if1 .taken),
-    )
+    let e = c .before .new-relation-no .ensures in record {
+      answer = recorded-refused no _ e (relation (a .width) 1 0 0 0) (relation 0 0 0 0 0) (c .if1 .taken);
+      slots = store-refused no _ e (set s 0 0) s (c .if1 .taken);
+    }
 
 slice-write-slots : tie.Need-slice-write-slots
 slice-write-slots c =
@@ -38,10 +38,10 @@ returns-2 c =
     let a = c .before .before .before .args in
     let s = now (a .slots) in
     let no = newRelationNo (a .width) (length s) in
-    let e = c .before .new-relation-no .ensures in (
-      recorded-accepted no _ e (relation (a .width) 1 0 0 0) (relation 0 0 0 0 0) (c .if1 .left),
-      store-accepted no _ e (set s 0 0) s (c .if1 .left),
-    )
+    let e = c .before .new-relation-no .ensures in record {
+      answer = recorded-accepted no _ e (relation (a .width) 1 0 0 0) (relation 0 0 0 0 0) (c .if1 .left);
+      slots = store-accepted no _ e (set s 0 0) s (c .if1 .left);
+    }
 
 pub new-relation-spec : {M : Type 1} → statement M
 new-relation-spec = tie.close (tie.spec new-relation-no-requires returns slice-write-slots same-length returns-2)

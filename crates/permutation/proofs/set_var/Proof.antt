@@ -36,7 +36,7 @@ returns-2 c =
     let d = c .before .before .before .before .assign-var .ensures in
     let answered = c .before .assigned-no .ensures ∙ ap assignedNo (d .answer) ∙ assigned-no (a .rel .vars) s p in
     let r = pair-refused (a .rel) s p _ (b .before .asked-relation .ensures) (b .if1 .left) _ answered (c .if2 .taken) in
-    (r .0, d .slots ∙ r .1)
+    record { answer = r .answer; slots = d .slots ∙ r .slots }
 
 same-length-2 : tie.Need-same-length-2
 same-length-2 c = search needs
@@ -50,7 +50,7 @@ returns-3 c =
     let d = c .before .before .before .before .assign-var .ensures in
     let answered = c .before .assigned-no .ensures ∙ ap assignedNo (d .answer) ∙ assigned-no (a .rel .vars) s p in
     let r = pair-accepted (a .rel) s p _ (b .before .asked-relation .ensures) (b .if1 .left) _ answered (c .if2 .left) in
-    (r .0, d .slots ∙ r .1)
+    record { answer = r .answer; slots = d .slots ∙ r .slots }
 
 pub set-var-spec : {M : Type 1} → statement M
 set-var-spec =

@@ -48,7 +48,7 @@ returns-2 c =
     let a = b .before .before .before .before .before .args in
     let d = c .before .before .before .before .before .set-pairs .ensures in
     let r = pairs-refused (a .rel) (now (a .slots)) (now (a .vars)) (now (a .values)) _ (b .before .set-vars-no .ensures) (b .if1 .left) _ (d .answer) _ (c .before .before .asked .ensures) (c .if2 .taken) in
-    (r .0, d .slots ∙ r .1)
+    record { answer = r .answer; slots = d .slots ∙ r .slots }
 
 same-length-2 : tie.Need-same-length-2
 same-length-2 c = search needs
@@ -59,7 +59,7 @@ returns-3 c =
     let a = b .before .before .before .before .before .args in
     let d = c .before .before .before .before .before .set-pairs .ensures in
     let r = pairs-accepted (a .rel) (now (a .slots)) (now (a .vars)) (now (a .values)) _ (b .before .set-vars-no .ensures) (b .if1 .left) _ (d .answer) _ (c .before .before .asked .ensures) (c .if2 .left) in
-    (r .0, d .slots ∙ r .1)
+    record { answer = r .answer; slots = d .slots ∙ r .slots }
 
 pub set-vars-spec : {M : Type 1} → statement M
 set-vars-spec =

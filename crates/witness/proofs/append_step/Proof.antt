@@ -24,10 +24,10 @@ returns c =
     let input = now (a .input) in
     let output = now (a .output) in
     let no = appendStepNo (a .wit) (length s) input output in
-    let e = c .before .before .append-step-no .ensures in (
-      c .answered .ensures ∙ ap (λ k. tracedOf k (a .wit)) e,
-      store-refused no _ e (traceWith (a .wit) (input ++ output) s) s (c .before .if1 .taken),
-    )
+    let e = c .before .before .append-step-no .ensures in record {
+      answer = c .answered .ensures ∙ ap (λ k. tracedOf k (a .wit)) e;
+      trace = store-refused no _ e (traceWith (a .wit) (input ++ output) s) s (c .before .if1 .taken);
+    }
 
 put-step-requires : tie.Need-put-step-requires
 put-step-requires c κs =
@@ -57,11 +57,12 @@ returns-2 c =
     let input = now (a .input) in
     let output = now (a .output) in
     let no = appendStepNo (a .wit) (length s) input output in
-    let e = c .before .before .before .before .before .before .append-step-no .ensures in (
-      c .answered2 .ensures ∙ ap (λ k. tracedOf k (a .wit)) e,
-      c .before .before .before .put-step .ensures
-          ∙ store-accepted no _ e (traceWith (a .wit) (input ++ output) s) s (c .before .before .before .before .before .if1 .left),
-    )
+    let e = c .before .before .before .before .before .before .append-step-no .ensures in record {
+      answer = c .answered2 .ensures ∙ ap (λ k. tracedOf k (a .wit)) e;
+      trace =
+          c .before .before .before .put-step .ensures
+          ∙ store-accepted no _ e (traceWith (a .wit) (input ++ output) s) s (c .before .before .before .before .before .if1 .left);
+    }
 
 pub append-step-spec : {M : Type 1} → statement M
 append-step-spec =

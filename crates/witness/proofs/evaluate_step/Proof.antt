@@ -25,10 +25,10 @@ returns c =
     let input = now (a .input) in
     let params = now (a .params) in
     let no = evaluateStepNo (a .wit) (length s) input (a .rounds) params in
-    let e = input-refused (a .wit) (length s) input (a .rounds) params _ (c .before .before .input-no .ensures) (c .before .if1 .taken) in (
-      c .answered .ensures ∙ ap (λ k. tracedOf k (a .wit)) e,
-      store-refused no _ e (traceWith (a .wit) (evaluatedStep (a .wit) input (a .rounds) params) s) s (c .before .if1 .taken),
-    )
+    let e = input-refused (a .wit) (length s) input (a .rounds) params _ (c .before .before .input-no .ensures) (c .before .if1 .taken) in record {
+      answer = c .answered .ensures ∙ ap (λ k. tracedOf k (a .wit)) e;
+      trace = store-refused no _ e (traceWith (a .wit) (evaluatedStep (a .wit) input (a .rounds) params) s) s (c .before .if1 .taken);
+    }
 
 asked-one-more-requires : tie.Need-asked-one-more-requires
 asked-one-more-requires c κs = search needs
@@ -57,10 +57,10 @@ returns-2 c =
     let no = evaluateStepNo (a .wit) (length s) input (a .rounds) params in
     let y = sym (c .before .before .before .before .before .before .input-no .ensures) ∙ c .before .before .before .before .before .if1 .left in
     let e = full-number (a .wit) (length s) input (a .rounds) params y _ _ (c .before .before .parameters-no .ensures) (c .before .asked-one-more2 .ensures) in
-    let h = full-refused (a .wit) (length s) _ (c .before .before .before .before .asked-one-more .ensures) (c .before .before .before .if2 .taken) _ _ (c .before .asked-one-more2 .ensures) in (
-      c .answered2 .ensures ∙ ap (λ k. tracedOf k (a .wit)) e,
-      store-refused no _ e (traceWith (a .wit) (evaluatedStep (a .wit) input (a .rounds) params) s) s h,
-    )
+    let h = full-refused (a .wit) (length s) _ (c .before .before .before .before .asked-one-more .ensures) (c .before .before .before .if2 .taken) _ _ (c .before .asked-one-more2 .ensures) in record {
+      answer = c .answered2 .ensures ∙ ap (λ k. tracedOf k (a .wit)) e;
+      trace = store-refused no _ e (traceWith (a .wit) (evaluatedStep (a .wit) input (a .rounds) params) s) s h;
+    }
 
 cast-w : tie.Need-cast-w
 cast-w c = search needs
@@ -112,10 +112,10 @@ returns-3 c =
     let params = now (a .params) in
     let y = sym (c .before .before .before .before .before .before .before .before .before .before .input-no .ensures) ∙ c .before .before .before .before .before .before .before .before .before .if1 .left in
     let r = room-asked (a .wit) (length s) _ (c .before .before .before .before .before .before .before .before .asked-one-more .ensures) (c .before .before .before .before .before .before .before .if2 .left) in
-    let e = c .before .before .before .before .put-evaluation .ensures .0 ∙ room-number (a .wit) (length s) input (a .rounds) params y r in (
-      c .answered3 .ensures ∙ ap (λ k. tracedOf k (a .wit)) e,
-      c .before .before .before .before .put-evaluation .ensures .1 ∙ ap (λ k. onYes k (traceWith (a .wit) (evaluatedStep (a .wit) input (a .rounds) params) s) s) e,
-    )
+    let e = c .before .before .before .before .put-evaluation .ensures .0 ∙ room-number (a .wit) (length s) input (a .rounds) params y r in record {
+      answer = c .answered3 .ensures ∙ ap (λ k. tracedOf k (a .wit)) e;
+      trace = c .before .before .before .before .put-evaluation .ensures .1 ∙ ap (λ k. onYes k (traceWith (a .wit) (evaluatedStep (a .wit) input (a .rounds) params) s) s) e;
+    }
 
 pub evaluate-step-spec : {M : Type 1} → statement M
 evaluate-step-spec =

@@ -45,7 +45,8 @@ use denote.Triple.Table.{entered, cited}
 use denote.Triple.Walked.{says, needs, Stays, stay-none, gave-slice, walkOf, goes-none, goes-gave-slice, Walks, ends-at, walked, walk-meets}
 use denote.Exit.{yes}
 use Rattle.expr.specs.Weighted.{termsOf}
-use Rattle.permutation.specs.Answers.{addEquation, addEquationEquations}
+use Rattle.limits.specs.Outcome.{asIs}
+use Rattle.permutation.specs.Contracts.{AddsEquation}
 use Rattle.baby_bear.specs.declared.BabyBearUnit.{BabyBearUnit}
 use Rattle.expr.specs.declared.Weighted.{Weighted}
 use Rattle.permutation.specs.declared.PermutationRelation.{PermutationRelation}
@@ -125,20 +126,14 @@ module _ {M : Type 1} (𝓤 : URA M) (H : Heap 𝓤) (A : Atoms 𝓤) (W : Given
   typed : Holds (hasTy (tyArray (lone (T.the-row .mir)) 8) v) × WT v
   typed = array-lawful 𝓤 H A W T.the-row (LL.lawful T.the-type T′.the-laws 𝓤 H A W) 8 .typed xs (v ∷ []) xs-is .0
 
-  -- the part's terms, the answer, and the words afterwards
+  -- the part's terms
   abbrev part : List Weighted
   part = drop-list i xs
-
-  abbrev added : Recorded
-  added = addEquation rel out (termsOf part) (image .0)
-
-  abbrev new : List ℕ
-  new = addEquationEquations rel out (termsOf part) (image .0)
 
   abbrev OwnO : Fml
   OwnO = MutSlice (named 0) κ u32 .own y (u ∷ [])
 
-  exits : (r : Recorded) (w : Val) (l : List ℕ) → length l ≡ length out → (r ≡ added) × (l ≡ new) → Is S.the-row r (w ∷ []) → ent 𝓤 (⋆ 𝓤 H A (‵ (R .own xs (v ∷ [])) ∷ ‵ (flft κ q) ∷ ‵ (finally u32 γ l) ∷ [])) (Post w)
+  exits : (r : Recorded) (w : Val) (l : List ℕ) → length l ≡ length out → AddsEquation asIs rel out (termsOf part) (image .0) r l → Is S.the-row r (w ∷ []) → ent 𝓤 (⋆ 𝓤 H A (‵ (R .own xs (v ∷ [])) ∷ ‵ (flft κ q) ∷ ‵ (finally u32 γ l) ∷ [])) (Post w)
   exits r w l e e′ is =
       qed W (‵ (R .own xs (v ∷ [])) ∷ ‵ (flft κ q) ∷ ‵ (finally u32 γ l) ∷ []) ∵
       suffices ! _ (ends-at 𝓤 H A equate.ended stayed (equate.clauses 𝓤 H A at-mem run) W (((κ, tt), (q, tt), tt, a, vs), tt) w r (tt, (l, (tt, (tt, (tt, tt))))) (tt, (e, (tt, (tt, (tt, tt)))))) $ says ! e′ $
@@ -214,8 +209,8 @@ module _ {M : Type 1} (𝓤 : URA M) (H : Heap 𝓤) (A : Atoms 𝓤) (W : Given
         -- [what add_equation asks; the lender's part; _14 at 2; …; _8 at 14; _7; what frees _6 at 18; _5; _4; _3; _2; _1 at 27; _0]
         calls-at ! fm (Added 𝓤 H A at-mem run) known (to l₆ ν ε) (and-then ! (load ! (from ! (stop !)) (look ! 27 refl)) (and-then ! (load ! (from ! (stop !)) (look ! 14 refl)) (and-then ! (load ! (from ! (stop !)) (look ! 2 refl)) (and-then ! (load ! (from ! (stop !)) (look ! 19 refl)) (no-more !))))) (λ w.
         use1 W (later (some (λ (r : Recorded). ((‵ (flft κ q) ⊛ (‵ (flft (ν ∷ []) fullShare) ⊛ ‵ ftrue)) ⊛ ‵ (S.the-row .own r (w ∷ []))) ⊛ raw (ensured 𝓤 H A add-equation.ended (add-equation.clauses 𝓤 H A at-mem run) (κ, (ν ∷ [], tt)) (given l₆ ε) tt r)))) (id⊢ 𝓤 _) $ await ! tt $ pick ! (λ r.
-        split ! $ move ! (1 ∷ []) $ use1 W (some (λ (zs : Unit {0} × (List ℕ × (Unit {0} × (Unit {0} × Unit {0})))). ‵ (lasts add-equation.ended (κ, (ν ∷ [], tt)) (given l₆ ε) zs) ⊛ raw (fact 𝓤 ((r ≡ added) × (zs .1 .0 ≡ new))))) (id⊢ 𝓤 _) $ pick ! (λ zs.
-        split ! $ move ! (1 ∷ []) $ heard ! ((r ≡ added) × (zs .1 .0 ≡ new)) (λ e. fsplit ! $ move ! (1 ∷ []) $ fsplit ! $ fsplit ! $ move ! (1 ∷ []) $ feqL ! (λ l.
+        split ! $ move ! (1 ∷ []) $ use1 W (some (λ (zs : Unit {0} × (List ℕ × (Unit {0} × (Unit {0} × Unit {0})))). ‵ (lasts add-equation.ended (κ, (ν ∷ [], tt)) (given l₆ ε) zs) ⊛ raw (fact 𝓤 (AddsEquation asIs rel out (termsOf part) (image .0) r (zs .1 .0))))) (id⊢ 𝓤 _) $ pick ! (λ zs.
+        split ! $ move ! (1 ∷ []) $ heard ! (AddsEquation asIs rel out (termsOf part) (image .0) r (zs .1 .0)) (λ e. fsplit ! $ move ! (1 ∷ []) $ fsplit ! $ fsplit ! $ move ! (1 ∷ []) $ feqL ! (λ l.
         move ! (3 ∷ []) $ split ! $ move ! (1 ∷ []) $ peeks ! S.the-row (Is S.the-row) (shows 𝓤 H A S.the-row) r (w ∷ []) (λ r-is.
         -- [the result; the tokens; the last list; …; …; the lender's part; _14 at 6; …; _0 at 33; …]
         land ! (from ! (stop !)) (init ! 33 refl (LL.lawful S.the-type S′.the-laws 𝓤 H A W .typed r _ r-is .0)) $

@@ -37,7 +37,8 @@ use denote.Triple.Table.{entered, cited}
 use denote.Triple.Walked.{says, Stays, stay-none, stay-none-slice, gave-slice, walkOf, goes-none, goes-none-slice, goes-gave-slice, Walks, ends-at, walked, walk-meets}
 use denote.Exit.{yes}
 use Rattle.expr.specs.Weighted.{termsOf}
-use Rattle.permutation.specs.Answers.{addEquation, addEquationEquations}
+use Rattle.limits.specs.Outcome.{asIs}
+use Rattle.permutation.specs.Contracts.{AddsEquation}
 use Rattle.sfr.specs.Relation.{recordedAnswer}
 use Rattle.baby_bear.specs.declared.BabyBearUnit.{BabyBearUnit}
 use Rattle.expr.specs.declared.Weighted.{Weighted}
@@ -115,14 +116,7 @@ module _ {M : Type 1} (𝓤 : URA M) (H : Heap 𝓤) (A : Atoms 𝓤) (W : Given
   abbrev OwnT : Fml
   OwnT = ShrSlice (named 1) κ′ T.the-row .own x (s ∷ [])
 
-  -- the answer, and the words afterwards
-  abbrev added : Recorded
-  added = addEquation rel out (termsOf ts) image
-
-  abbrev new : List ℕ
-  new = addEquationEquations rel out (termsOf ts) image
-
-  exits : (r : SfrRelationAnswer) (v : Val) (l : List ℕ) → length l ≡ length out → (r ≡ recordedAnswer added) × (l ≡ new) → Is R.the-row r (v ∷ [])
+  exits : (r : SfrRelationAnswer) (v : Val) (l : List ℕ) → length l ≡ length out → AddsEquation recordedAnswer rel out (termsOf ts) image r l → Is R.the-row r (v ∷ [])
       → ent 𝓤 (⋆ 𝓤 H A ((‵ (flft κ q) ⊛ (‵ (flft κ′ q′) ⊛ ‵ ftrue)) ∷ ‵ (finally u32 γ l) ∷ ‵ OwnT ∷ [])) (Post v)
   exits r v l e e′ is =
       qed W ((‵ (flft κ q) ⊛ (‵ (flft κ′ q′) ⊛ ‵ ftrue)) ∷ ‵ (finally u32 γ l) ∷ ‵ OwnT ∷ []) ∵
@@ -189,8 +183,8 @@ module _ {M : Type 1} (𝓤 : URA M) (H : Heap 𝓤) (A : Atoms 𝓤) (W : Given
         -- [what add_equation asks; terms'; _8 at 2; _7; _6; _5; _4; _3 at 12; _2; _1; _0 at 18; …]
         calls-at ! fm (Added 𝓤 H A at-mem run) known-added to-added (and-then ! (load ! (from ! (stop !)) (look ! 16 refl)) (and-then ! (load ! (from ! (stop !)) (look ! 4 refl)) (and-then ! (load ! (from ! (stop !)) (look ! 12 refl)) (and-then ! (load ! (from ! (stop !)) (look ! 2 refl)) (no-more !))))) (λ v₁.
         use1 W (later (some (λ (r : Recorded). ((‵ (flft κ q) ⊛ (‵ (flft κ′ q′) ⊛ ‵ ftrue)) ⊛ ‵ (S.the-row .own r (v₁ ∷ []))) ⊛ raw (ensured 𝓤 H A add-equation.ended (add-equation.clauses 𝓤 H A at-mem run) (κ, (κ′, tt)) given tt r)))) (id⊢ 𝓤 _) $ await ! tt $ pick ! (λ r.
-        split ! $ move ! (1 ∷ []) $ use1 W (some (λ (zs : Unit {0} × (List ℕ × (Unit {0} × (Unit {0} × Unit {0})))). ‵ (lasts add-equation.ended (κ, (κ′, tt)) given zs) ⊛ raw (fact 𝓤 ((r ≡ added) × (zs .1 .0 ≡ new))))) (id⊢ 𝓤 _) $ pick ! (λ zs.
-        split ! $ move ! (1 ∷ []) $ heard ! ((r ≡ added) × (zs .1 .0 ≡ new)) (λ e₁. fsplit ! $ move ! (1 ∷ []) $ fsplit ! $ fsplit ! $ move ! (1 ∷ []) $ feqL ! (λ l.
+        split ! $ move ! (1 ∷ []) $ use1 W (some (λ (zs : Unit {0} × (List ℕ × (Unit {0} × (Unit {0} × Unit {0})))). ‵ (lasts add-equation.ended (κ, (κ′, tt)) given zs) ⊛ raw (fact 𝓤 (AddsEquation asIs rel out (termsOf ts) image r (zs .1 .0))))) (id⊢ 𝓤 _) $ pick ! (λ zs.
+        split ! $ move ! (1 ∷ []) $ heard ! (AddsEquation asIs rel out (termsOf ts) image r (zs .1 .0)) (λ e₁. fsplit ! $ move ! (1 ∷ []) $ fsplit ! $ fsplit ! $ move ! (1 ∷ []) $ feqL ! (λ l.
         move ! (3 ∷ []) $ split ! $ move ! (1 ∷ []) $ peeks ! S.the-row (Is S.the-row) (shows 𝓤 H A S.the-row) r (v₁ ∷ []) (λ r-is.
         -- [the result; the tokens; the last list; …; …; terms'; _8 at 6; _7; _6; _5 at 12; …; _0 at 22; …]
         land ! (from ! (stop !)) (init ! 12 refl (LL.lawful S.the-type S′.the-laws 𝓤 H A W .typed r _ r-is .0)) $ forgo ! $
@@ -203,7 +197,7 @@ module _ {M : Type 1} (𝓤 : URA M) (H : Heap 𝓤) (A : Atoms 𝓤) (W : Given
         land ! (from ! (stop !)) (init ! 22 refl (LL.lawful R.the-type R′.the-laws 𝓤 H A W .typed w _ w-is .0)) $
         returns ! (look ! 22 refl) $ forget ! 6 refl $ forget ! 8 refl $ forget ! 10 refl $ forget ! 12 refl $ forget ! 14 refl $ forget ! 16 refl $ forget ! 18 refl $ forget ! 20 refl $ forget ! 22 refl $
         move ! (22 ∷ 23 ∷ []) $ free1 ! $ move ! (20 ∷ 21 ∷ []) $ free1 ! $ move ! (18 ∷ 19 ∷ []) $ free1 ! $ move ! (16 ∷ 17 ∷ []) $ free1 ! $ move ! (14 ∷ 15 ∷ []) $ free1 ! $ move ! (12 ∷ 13 ∷ []) $ free1 ! $ move ! (10 ∷ 11 ∷ []) $ free1 ! $ move ! (8 ∷ 9 ∷ []) $ free1 ! $ move ! (6 ∷ 7 ∷ []) $ free1 ! $ free0 ! $
-        keep ! (1 ∷ 2 ∷ 5 ∷ []) $ by ! (exits w v₂ (zs .1 .0) l (e₂ ∙ ap recordedAnswer (e₁ .0), e₁ .1) w-is))))))))))))))))))))
+        keep ! (1 ∷ 2 ∷ 5 ∷ []) $ by ! (exits w v₂ (zs .1 .0) l (record { answer = e₂ ∙ ap recordedAnswer (e₁ .answer); equations = e₁ .equations }) w-is))))))))))))))))))))
 
 module _ {M : Type 1} (𝓤 : URA M) (H : Heap 𝓤) (A : Atoms 𝓤) (W : Given 𝓤 H A) (mem : Memory → SProp 𝓤) (run : Routine → Fun 𝓤) where
   sfr-add-equation-walks : (C : Calls 𝓤 H) (Λ : Loops 𝓤 H) → FmC 𝓤 H (W .laws) C → Triple 𝓤 (C #permutation·add-equation) (Added 𝓤 H A mem run) → Triple 𝓤 (C #sfr·recorded-answer) (Answered 𝓤 H A mem run)

@@ -17,8 +17,8 @@ same-length c = search needs
 
 returns : tie.Need-returns
 returns c =
-    let r = c .before .before .before .add-permutation in
-    (c .recorded-answer .ensures ∙ ap recordedAnswer (r .ensures .0), r .ensures .1)
+    let r = c .before .before .before .add-permutation .ensures in
+    record { answer = c .recorded-answer .ensures ∙ ap recordedAnswer (r .answer); queries = r .queries }
 
 pub sfr-add-permutation-spec : {M : Type 1} → statement M
 sfr-add-permutation-spec =

@@ -20,8 +20,8 @@ same-length-2 c = search needs
 
 returns : tie.Need-returns
 returns c =
-    let r = c .before .before .before .before .before .allocate-permutation in
-    (c .allocated-answer .ensures ∙ ap allocatedAnswer (r .ensures .0), r .ensures .1, r .ensures .2)
+    let r = c .before .before .before .before .before .allocate-permutation .ensures in
+    record { answer = c .allocated-answer .ensures ∙ ap allocatedAnswer (r .answer); slots = r .slots; queries = r .queries }
 
 pub sfr-allocate-permutation-spec : {M : Type 1} → statement M
 sfr-allocate-permutation-spec =

@@ -17,8 +17,8 @@ same-length c = search needs
 
 returns : tie.Need-returns
 returns c =
-    let r = c .before .before .before .allocate-vars in
-    (c .allocated-answer .ensures ∙ ap allocatedAnswer (r .ensures .0), r .ensures .1)
+    let r = c .before .before .before .allocate-vars .ensures in
+    record { answer = c .allocated-answer .ensures ∙ ap allocatedAnswer (r .answer); slots = r .slots }
 
 pub sfr-allocate-vars-spec : {M : Type 1} → statement M
 sfr-allocate-vars-spec =

@@ -17,8 +17,8 @@ same-length c = search needs
 
 returns : tie.Need-returns
 returns c =
-    let r = c .before .before .before .new-relation in
-    (c .recorded-answer .ensures ∙ ap recordedAnswer (r .ensures .0), r .ensures .1)
+    let r = c .before .before .before .new-relation .ensures in
+    record { answer = c .recorded-answer .ensures ∙ ap recordedAnswer (r .answer); slots = r .slots }
 
 pub sfr-new-relation-spec : {M : Type 1} → statement M
 sfr-new-relation-spec = tie.close (tie.spec new-relation-requires recorded-answer-requires same-length returns)

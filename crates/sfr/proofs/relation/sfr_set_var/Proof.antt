@@ -17,8 +17,8 @@ same-length c = search needs
 
 returns : tie.Need-returns
 returns c =
-    let r = c .before .before .before .set-var in
-    (c .outcome-no .ensures ∙ ap outcomeNumber (r .ensures .0), r .ensures .1)
+    let r = c .before .before .before .set-var .ensures in
+    record { answer = c .outcome-no .ensures ∙ ap outcomeNumber (r .answer); slots = r .slots }
 
 pub sfr-set-var-spec : {M : Type 1} → statement M
 sfr-set-var-spec = tie.close (tie.spec set-var-requires outcome-no-requires same-length returns)

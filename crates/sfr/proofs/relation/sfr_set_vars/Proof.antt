@@ -17,8 +17,8 @@ same-length c = search needs
 
 returns : tie.Need-returns
 returns c =
-    let r = c .before .before .before .set-vars in
-    (rw (c .outcome-no .ensures) (ap tallyOf (r .ensures .0)), r .ensures .1)
+    let r = c .before .before .before .set-vars .ensures in
+    record { answer = rw (c .outcome-no .ensures) (ap tallyOf (r .answer)); slots = r .slots }
 
 pub sfr-set-vars-spec : {M : Type 1} → statement M
 sfr-set-vars-spec = tie.close (tie.spec set-vars-requires outcome-no-requires same-length returns)

@@ -17,8 +17,8 @@ same-length c = search needs
 
 returns : tie.Need-returns
 returns c =
-    let r = c .before .before .before .append-step in
-    (c .traced-answer .ensures ∙ ap tracedAnswer (r .ensures .0), r .ensures .1)
+    let r = c .before .before .before .append-step .ensures in
+    record { answer = c .traced-answer .ensures ∙ ap tracedAnswer (r .answer); trace = r .trace }
 
 pub sfr-append-step-spec : {M : Type 1} → statement M
 sfr-append-step-spec =
