@@ -83,8 +83,8 @@ module _ (out : List ℕ) (at : ℕ) (bytes : List ℕ) {n : ℕ} (l : length by
   put-fits h = let w = put-written (putWords at bytes out) h refl in (sym (w .0), sym (w .1))
 
 -- what was put is read
-pub readU32-putU32 : (out : List ℕ) (at v : ℕ) → v < wordEnd → at + 4 ≤ length out → readU32 (putU32Out out at v) at ≡ Read v (cursor (at + 4))
+pub putU32-readU32 : (out : List ℕ) (at v : ℕ) → v < wordEnd → at + 4 ≤ length out → readU32 (putU32Out out at v) at ≡ Read v (cursor (at + 4))
 unfolding readU32
-readU32-putU32 out at v small h =
+putU32-readU32 out at v small h =
     let d = drop-at (take at out) (u32Bytes v ++ drop (at + length (u32Bytes v)) out) at (length-take-le at out (omega arith)) in
     rw (put-fits out at (u32Bytes v) (length-u32Bytes v) h .1, d, word-law v (drop (at + length (u32Bytes v)) out) small)

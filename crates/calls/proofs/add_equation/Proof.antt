@@ -37,7 +37,8 @@ use denote.Triple.Table.{entered, cited}
 use denote.Triple.Walked.{says, Stays, stay-none, stay-none-slice, gave-slice, walkOf, goes-none, goes-none-slice, goes-gave-slice, Walks, ends-at, walked, walk-meets}
 use denote.Exit.{yes}
 use Rattle.expr.specs.Weighted.{termsOf}
-use Rattle.permutation.specs.Answers.{addEquation, addEquationEquations}
+use Rattle.limits.specs.Outcome.{asIs}
+use Rattle.permutation.specs.Contracts.{AddsEquation}
 use Rattle.history.specs.Calls.{Equate, ofOutcome}
 use Rattle.calls.specs.Performs.{OnEquations}
 use Rattle.calls.proofs.Laws.{equated}
@@ -109,10 +110,10 @@ module _ {M : Type 1} (𝓤 : URA M) (H : Heap 𝓤) (A : Atoms 𝓤) (W : Given
 
   -- what `permutation::add_equation` ensures of its answer and of the words afterwards, and what that says
   abbrev Ensures : Recorded → List ℕ → Type 0
-  Ensures r l = (r ≡ addEquation rel out (termsOf ts) (image .0)) × (l ≡ addEquationEquations rel out (termsOf ts) (image .0))
+  Ensures r l = AddsEquation asIs rel out (termsOf ts) (image .0) r l
 
   performed : (r : Recorded) (l : List ℕ) → Ensures r l → OnEquations rel out (Equate ts (image .0)) (ofOutcome (r .outcome)) (r .relation) l
-  performed r l e = equated rel out ts (image .0) r l (e .0) (e .1)
+  performed r l e = equated rel out ts (image .0) r l (e .answer) (e .equations)
 
   exits : (r : Recorded) (v : Val) (l : List ℕ) → length l ≡ length out → Ensures r l → Is S.the-row r (v ∷ [])
       → ent 𝓤 (⋆ 𝓤 H A ((‵ (flft κ q) ⊛ (‵ (flft κ′ q′) ⊛ ‵ ftrue)) ∷ ‵ (finally u32 γ l) ∷ ‵ OwnT ∷ [])) (Post v)

@@ -16,7 +16,7 @@ returns : tie.Need-returns
 returns c =
     let a = c .before .before .before .before .before .before .before .args in
     let made = c .before .before .add-permutation .ensures in
-    recorded (a .rel) (now (a .queries)) (now (a .input)) (now (a .output)) _ _ (made .0) (made .1)
+    recorded (a .rel) (now (a .queries)) (now (a .input)) (now (a .output)) _ _ (made .answer) (made .queries)
 
 pub add-permutation-spec : {M : Type 1} → statement M
 add-permutation-spec = tie.close (tie.spec add-permutation-requires same-length returns)

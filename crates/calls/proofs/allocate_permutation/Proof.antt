@@ -19,7 +19,7 @@ returns : tie.Need-returns
 returns c =
     let a = c .before .before .before .before .before .before .before .before .before .before .args in
     let made = c .before .before .before .before .allocate-permutation .ensures in
-    minted (a .rel) (now (a .slots)) (now (a .queries)) (now (a .input)) _ _ _ (made .0) (made .1) (made .2)
+    minted (a .rel) (now (a .slots)) (now (a .queries)) (now (a .input)) _ _ _ (made .answer) (made .slots) (made .queries)
 
 pub allocate-permutation-spec : {M : Type 1} → statement M
 allocate-permutation-spec =

@@ -16,7 +16,7 @@ returns : tie.Need-returns
 returns c =
     let a = c .before .before .before .before .before .args in
     let made = c .before .before .allocate-vars .ensures in
-    allocated (a .rel) (now (a .slots)) (a .n) _ _ (made .0) (made .1)
+    allocated (a .rel) (now (a .slots)) (a .n) _ _ (made .answer) (made .slots)
 
 pub allocate-vars-spec : {M : Type 1} → statement M
 allocate-vars-spec = tie.close (tie.spec allocate-vars-requires same-length returns)

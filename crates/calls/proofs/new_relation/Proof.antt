@@ -16,7 +16,7 @@ returns : tie.Need-returns
 returns c =
     let a = c .before .before .before .before .before .args in
     let made = c .before .before .new-relation .ensures in
-    started (a .width) (now (a .slots)) _ _ (made .0) (made .1)
+    started (a .width) (now (a .slots)) _ _ (made .answer) (made .slots)
 
 pub new-relation-spec : {M : Type 1} → statement M
 new-relation-spec = tie.close (tie.spec new-relation-requires same-length returns)

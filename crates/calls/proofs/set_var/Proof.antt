@@ -17,7 +17,7 @@ returns : tie.Need-returns
 returns c =
     let a = c .before .before .before .before .before .args in
     let made = c .before .before .set-var .ensures in
-    set (a .rel) (now (a .slots)) (pair (a .var .0) (a .value .0)) _ _ (made .0) (made .1)
+    set (a .rel) (now (a .slots)) (pair (a .var .0) (a .value .0)) _ _ (made .answer) (made .slots)
 
 pub set-var-spec : {M : Type 1} → statement M
 set-var-spec = tie.close (tie.spec set-var-requires same-length returns)

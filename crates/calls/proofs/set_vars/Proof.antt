@@ -16,7 +16,7 @@ returns : tie.Need-returns
 returns c =
     let a = c .before .before .before .before .before .before .before .args in
     let made = c .before .before .set-vars .ensures in
-    listed (a .rel) (now (a .slots)) (now (a .vars)) (now (a .values)) _ _ (made .0) (made .1)
+    listed (a .rel) (now (a .slots)) (now (a .vars)) (now (a .values)) _ _ (made .answer) (made .slots)
 
 pub set-vars-spec : {M : Type 1} → statement M
 set-vars-spec = tie.close (tie.spec set-vars-requires same-length returns)
