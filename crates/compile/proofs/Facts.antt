@@ -9,7 +9,7 @@ use lib.Dec.{leb}
 use lib.ListN.{length, take}
 use Rattle.limits.specs.Numbers.{maxCount, maxWidth, labelEnd}
 use Rattle.limits.specs.Questions.{ask, firstNo}
-use Rattle.limits.proofs.Questions.{ask-yes, says-yes, both, join, firstNo-append, accepted-says}
+use Rattle.limits.proofs.Questions.{ask-yes, says-yes, both, join, firstNo-append, puts, puts-yes}
 use Rattle.words.specs.Store.{All}
 use Rattle.words.specs.Pieces.{wordsOf}
 use Rattle.utf8.specs.Utf8.{isUtf8}
@@ -36,14 +36,14 @@ pub record RelationFits (rel : PermutationRelation) (slots : ℕ) : Type 0 where
 module _ (rel : PermutationRelation) (slots : ℕ) where
   relationAsks-yes : firstNo (relationAsks rel slots) ≡ 0 → RelationFits rel slots
   relationAsks-yes e =
-      let says = accepted-says (relationAsks rel slots) tt e in
+      let says = puts-yes (relationAsks rel slots) e in
       record {
-        width-low = leb-true _ _ (says 0);
-        width-high = leb-true _ _ (says 1);
-        slots-high = leb-true _ _ (says 2);
-        vars-low = leb-true _ _ (says 3);
-        vars-high = leb-true _ _ (says 4);
-        vars-held = leb-true _ _ (says 5);
+        width-low = leb-true _ _ (says 1 _ tt (search puts depth 20));
+        width-high = leb-true _ _ (says 1 _ tt (search puts depth 20));
+        slots-high = leb-true _ _ (says 2 _ tt (search puts depth 20));
+        vars-low = leb-true _ _ (says 2 _ tt (search puts depth 20));
+        vars-high = leb-true _ _ (says 2 _ tt (search puts depth 20));
+        vars-held = leb-true _ _ (says 2 _ tt (search puts depth 20));
       }
 
   yes-relationAsks : RelationFits rel slots → firstNo (relationAsks rel slots) ≡ 0
@@ -68,16 +68,16 @@ module _ (rel : PermutationRelation) (label queries equations publics scratch : 
   storesAsks-yes : firstNo (storesAsks rel label queries equations publics scratch) ≡ 0
       → StoresFit rel label queries equations publics scratch
   storesAsks-yes e =
-      let says = accepted-says (storesAsks rel label queries equations publics scratch) tt e in
+      let says = puts-yes (storesAsks rel label queries equations publics scratch) e in
       record {
-        queries-high = leb-true _ _ (says 0);
-        queries-held = leb-true _ _ (says 1);
-        equations-high = leb-true _ _ (says 2);
-        words-held = leb-true _ _ (says 3);
-        equations-held = leb-true _ _ (says 4);
-        publics-high = leb-true _ _ (says 5);
-        scratch-high = leb-true _ _ (says 6);
-        label-high = ltb-true _ _ (says 7);
+        queries-high = leb-true _ _ (says 2 _ tt (search puts depth 20));
+        queries-held = leb-true _ _ (says 2 _ tt (search puts depth 20));
+        equations-high = leb-true _ _ (says 2 _ tt (search puts depth 20));
+        words-held = leb-true _ _ (says 2 _ tt (search puts depth 20));
+        equations-held = leb-true _ _ (says 2 _ tt (search puts depth 20));
+        publics-high = leb-true _ _ (says 2 _ tt (search puts depth 20));
+        scratch-high = leb-true _ _ (says 2 _ tt (search puts depth 20));
+        label-high = ltb-true _ _ (says 2 _ tt (search puts depth 20));
       }
 
   yes-storesAsks : StoresFit rel label queries equations publics scratch
@@ -102,14 +102,14 @@ pub record StoresSound (rel : PermutationRelation) (label slots queries equation
 module _ (rel : PermutationRelation) (label slots queries equations : List ℕ) where
   soundAsks-yes : firstNo (soundAsks rel label slots queries equations) ≡ 0 → StoresSound rel label slots queries equations
   soundAsks-yes e =
-      let says = accepted-says (soundAsks rel label slots queries equations) tt e in
-      let q = equationsSound-facts (rel .equations) (take (rel .words) equations) (says 0) in
+      let says = puts-yes (soundAsks rel label slots queries equations) e in
+      let q = equationsSound-facts (rel .equations) (take (rel .words) equations) (says 11 _ tt (search puts depth 20)) in
       record {
         ends = q .0;
         equations-sound = q .1;
-        queries-sound = allBelow-facts maxCount _ (says 1);
-        slots-sound = slotsSound-facts _ (says 2);
-        label-sound = says 3;
+        queries-sound = allBelow-facts maxCount (take (wordsOf (rel .width) (rel .queries)) queries) (says 11 _ tt (search puts depth 20));
+        slots-sound = slotsSound-facts (take (rel .vars) slots) (says 11 _ tt (search puts depth 20));
+        label-sound = says 11 _ tt (search puts depth 20);
       }
 
   yes-soundAsks : StoresSound rel label slots queries equations → firstNo (soundAsks rel label slots queries equations) ≡ 0

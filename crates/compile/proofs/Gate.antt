@@ -10,7 +10,7 @@ use lib.ListN.{length, take, replicate, length-replicate}
 use Rattle.limits.specs.Questions.{ask, _▸_, firstNo}
 use Rattle.limits.proofs.Questions.{ask-no, stays, goes-on, join, both, says-yes, ▸-assoc, firstNo-append}
 use Rattle.words.specs.Store.{putWords}
-use Rattle.words.specs.Pieces.{wordsOf, pieces}
+use Rattle.words.specs.Pieces.{stepsOf}
 use Rattle.allocator.specs.Slots.{Pair}
 use Rattle.expr.specs.Equation.{equationsAt}
 use Rattle.permutation.specs.Relation.{relationAsks}
@@ -34,7 +34,7 @@ module _ (rel : PermutationRelation) (slots queries equations : List ℕ) where
       λ j. record {
         vars = rel .vars;
         publics = e j;
-        queries = pieces (rel .width + rel .width) (rel .queries) (take (wordsOf (rel .width) (rel .queries)) queries);
+        queries = stepsOf (rel .width) (rel .queries) queries;
         equations = equationsAt (rel .equations) (take (rel .words) equations);
       }
 

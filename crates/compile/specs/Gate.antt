@@ -9,7 +9,7 @@ use Rattle.limits.specs.Numbers.{maxCount, unassigned}
 use Rattle.limits.specs.Questions.{Question, question, firstNo, pick, onYes}
 use Rattle.limits.specs.Asks.{storeAsks}
 use Rattle.words.specs.Store.{allBelow, putWords}
-use Rattle.words.specs.Pieces.{wordsOf, pieces}
+use Rattle.words.specs.Pieces.{wordsOf, stepsOf}
 use Rattle.utf8.specs.Utf8.{isUtf8}
 use Rattle.allocator.specs.Slots.{Pair, pair}
 use Rattle.expr.specs.Equation.{equationsAt}
@@ -82,7 +82,7 @@ compiledParts rel slots queries equations =
     record {
       vars = rel .vars;
       publics = publicsOf rel slots;
-      queries = pieces (rel .width + rel .width) (rel .queries) (take (wordsOf (rel .width) (rel .queries)) queries);
+      queries = stepsOf (rel .width) (rel .queries) queries;
       equations = equationsAt (rel .equations) (take (rel .words) equations);
     }
 

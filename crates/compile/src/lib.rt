@@ -60,14 +60,13 @@ fn asked_stores(
 {
     let words = rel.words;
     let count = rel.equations;
-    let a = limits::asked_store(no, queries);
-    let b = words::asked_pieces(a, rel.width, rel.queries, queries, 2);
-    let c = limits::asked_store(b, equations);
-    let d = limits::asked(c, words as usize <= equations, 2);
-    let e = limits::asked(d, 2 * count as usize <= equations, 2);
-    let f = limits::asked_store(e, publics);
-    let g = limits::asked_store(f, scratch);
-    limits::asked(g, label < LABEL_END, 2)
+    let a = words::asked_held(no, rel.width, rel.queries, queries);
+    let b = limits::asked_store(a, equations);
+    let c = limits::asked(b, words as usize <= equations, 2);
+    let d = limits::asked(c, 2 * count as usize <= equations, 2);
+    let e = limits::asked_store(d, publics);
+    let f = limits::asked_store(e, scratch);
+    limits::asked(f, label < LABEL_END, 2)
 }
 
 // 11 of the gate, after the answer so far.

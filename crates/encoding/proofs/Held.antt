@@ -21,8 +21,8 @@ use Rattle.held.specs.Held.{instanceAsks}
 use Rattle.instance.specs.declared.PermutationInstance.{PermutationInstance}
 use Rattle.instance.proofs.Parts.{flat-held}
 use Rattle.held.proofs.Facts.{InstanceSound, instanceAsks-yes}
-use Rattle.header.specs.Form.{letterI, version, headerBytes}
-use Rattle.encoding.specs.Form.{headerLength, labelBytes, instanceBytes}
+use Rattle.header.specs.Form.{letterI, version, headerBytes, headerLength}
+use Rattle.encoding.specs.Form.{labelBytes, instanceBytes}
 use Rattle.encoding.specs.Answers.{instanceToBytes, instanceToBytesNo}
 use Rattle.encoding.specs.Put.{listBytes, heldBytes, heldLength, HeldFits, PutsAt}
 use Rattle.encoding.proofs.Length.{length-header, length-labelBytes, length-listBytes, publics-bytes, pieces-bytes, equations-bytes}
@@ -106,7 +106,7 @@ module _ (ins : PermutationInstance) (label publics queries equations : List ℕ
           flat-held (ins .width) (ins .queries) queries,
           length-equationsAt (ins .equations) he,
           equations-bytes es,
-          equations-taken (ins .equations) he (s .held .ends),
+          equations-taken (ins .equations) he (s .sound .ends),
         )
         (simp append-assoc)
 

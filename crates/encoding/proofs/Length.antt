@@ -17,8 +17,8 @@ use Rattle.allocator.specs.Slots.{Pair}
 use Rattle.expr.specs.Equation.{Term, Equation, termWords, equationWords, equationsWords}
 use Rattle.instance.specs.Parts.{Parts, pairWords}
 use Rattle.instance.proofs.Parts.{pairWords-length}
-use Rattle.header.specs.Form.{headerBytes}
-use Rattle.encoding.specs.Form.{headerLength, instanceFixed, witnessFixed, pairBytes, termBytes, pieceBytes, equationBytes, labelBytes, instanceBytes, witnessBytes}
+use Rattle.header.specs.Form.{headerBytes, headerLength}
+use Rattle.encoding.specs.Form.{instanceFixed, witnessFixed, pairBytes, termBytes, pieceBytes, equationBytes, labelBytes, instanceBytes, witnessBytes}
 use Rattle.encoding.specs.Put.{listBytes}
 
 -- ---- parts as words

@@ -16,8 +16,7 @@ use Rattle.narg.proofs.Fields.{length-u32Bytes}
 use Rattle.narg.proofs.Words.{length-words}
 use Rattle.narg.proofs.Stores.{put-two, length-putWords}
 use Rattle.limits.specs.declared.Outcome.the-variants.{Accepted, Refused}
-use Rattle.header.specs.Form.{magic, headerBytes}
-use Rattle.encoding.specs.Form.{headerLength}
+use Rattle.header.specs.Form.{magic, headerBytes, headerLength}
 use Rattle.encoding.specs.Answers.{Writes}
 use Rattle.encoding.specs.Put.{PutsAt}
 

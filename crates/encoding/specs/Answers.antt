@@ -6,9 +6,9 @@ use lib.Dec.{leb}
 use lib.ListN.{length, take}
 use Rattle.limits.specs.Numbers.{prime}
 use Rattle.limits.specs.Questions.{Question, question, firstNo, onYes}
-use Rattle.limits.specs.Asks.{widthAsks, storeAsks}
+use Rattle.limits.specs.Asks.{widthAsks}
 use Rattle.words.specs.Store.{allBelow, putWords}
-use Rattle.words.specs.Pieces.{wordsOf, pieces}
+use Rattle.words.specs.Pieces.{wordsOf, stepsOf, heldAsks}
 use Rattle.limits.specs.Outcome.{outcomeOf}
 use Rattle.instance.specs.Parts.{partsOf}
 use Rattle.held.specs.Held.{instanceAsks}
@@ -54,16 +54,13 @@ InstanceWrites told ins label publics queries equations before r after =
 -- ---- SFRW of the first `steps` steps of a trace
 abbrev pub witnessToBytes : (width steps : ℕ) → List ℕ → List ℕ
 witnessToBytes width steps trace =
-    witnessBytes version width (pieces (width + width) steps (take (wordsOf width steps) trace))
+    witnessBytes version width (stepsOf width steps trace)
 
 -- 1, 2, 11 of the held steps, then 10
 abbrev pub stepsAsks : (width steps : ℕ) → List ℕ → List Question
 stepsAsks width steps trace =
     widthAsks width
-    ++ (storeAsks (length trace)
-    ++ (question 2 (leb (wordsOf width steps) (length trace))
-    ∷ question 11 (allBelow prime (take (wordsOf width steps) trace))
-    ∷ []))
+    ++ (heldAsks width steps (length trace) ++ (question 11 (allBelow prime (take (wordsOf width steps) trace)) ∷ []))
 
 -- and 10: does the output hold the bytes?
 abbrev pub witnessToBytesAsks : (width steps : ℕ) → List ℕ → ℕ → List Question

@@ -16,10 +16,6 @@ use Rattle.expr.specs.Equation.{Term, Equation}
 use Rattle.instance.specs.Parts.{Parts}
 use Rattle.header.specs.Form.{letterI, letterW, headerBytes}
 
--- how many bytes a header has
-abbrev pub headerLength : ℕ
-headerLength = 13
-
 -- how many SFRI has beside label and lists: header, label length, wire count and three counts
 abbrev pub instanceFixed : ℕ
 instanceFixed = 33

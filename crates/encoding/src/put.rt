@@ -4,13 +4,13 @@ ghost use mathlib.Core.Path.{_≡_};
 ghost use Prim.Native.Nat.{_+_, _*_, _≤_};
 ghost use lib.ListN.{length};
 ghost use Rattle.words.specs.Store.{putWords};
-ghost use Rattle.header.specs.Form.{headerBytes};
-ghost use Rattle.encoding.specs.Form.{headerLength};
+ghost use Rattle.header.specs.Form.{headerBytes, headerLength};
 ghost use Rattle.encoding.specs.Put.{listBytes, PutsAt};
+use header::UNIT_LENGTH;
+use header::UNIT_LENGTH_AT;
+use header::VERSION_AT;
+use header::WIDTH_AT;
 use narg::Cursor;
-
-// How many bytes a header has: magic, version, width, unit length.
-pub(crate) const HEADER_LEN: usize = 13;
 
 // The bytes of a header at the front of an output.
 pub(crate) fn put_header(out: &mut [u8], last: u8, version: u8, width: u32)
@@ -21,9 +21,9 @@ pub(crate) fn put_header(out: &mut [u8], last: u8, version: u8, width: u32)
     out[1] = b'F';
     out[2] = b'R';
     out[3] = last;
-    out[4] = version;
-    narg::put_u32(out, Cursor { at: 5 }, width);
-    narg::put_u32(out, Cursor { at: 9 }, 4);
+    out[VERSION_AT] = version;
+    narg::put_u32(out, Cursor { at: WIDTH_AT }, width);
+    narg::put_u32(out, Cursor { at: UNIT_LENGTH_AT }, UNIT_LENGTH);
 }
 
 // Bytes at a place of an output.

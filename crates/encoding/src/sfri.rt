@@ -7,10 +7,10 @@ ghost use Rattle.encoding.specs.Form.{labelBytes};
 ghost use Rattle.encoding.specs.Answers.{instanceToBytesNo, InstanceWrites};
 ghost use Rattle.encoding.specs.Put.{heldBytes, HeldFits, LabelFits, PutsAt};
 use crate::Written;
-use crate::put::HEADER_LEN;
 use crate::put::put_bytes;
 use crate::put::put_header;
 use crate::put::put_list;
+use header::HEADER_LENGTH;
 use header::VERSION;
 use held::held_pieces;
 use held::held_words;
@@ -20,7 +20,7 @@ use narg::Cursor;
 
 // How many bytes there are beside label and lists: the header and five words, which are the label's length, the wire
 // count and the count of each list.
-const FIXED: usize = HEADER_LEN + 5 * 4;
+const FIXED: usize = HEADER_LENGTH + 5 * 4;
 
 // The label's length and its bytes at a place of an output; and the place past them.
 fn put_label(out: &mut [u8], at: usize, label: &[u8]) -> usize
@@ -47,7 +47,7 @@ fn put_held(
         (now (out .entry)) r (now (out .exit)) ⌝ }
 {
     put_header(out, b'I', VERSION, ins.width);
-    let at = put_label(out, HEADER_LEN, label);
+    let at = put_label(out, HEADER_LENGTH, label);
     narg::put_u32(out, Cursor { at }, ins.vars);
     let after_publics = put_list(out, at + 4, ins.publics, publics);
     let after_queries = put_list(out, after_publics, ins.queries, queries);

@@ -3,14 +3,14 @@
 ghost use mathlib.Core.Path.{_≡_};
 ghost use Rattle.encoding.specs.Answers.{witnessToBytesNo, WitnessWrites};
 use crate::Written;
-use crate::put::HEADER_LEN;
 use crate::put::put_header;
 use crate::put::put_list;
+use header::HEADER_LENGTH;
 use header::VERSION;
 use limits::Outcome;
 
 // How many bytes there are beside the steps: the header and a word, their count.
-const FIXED: usize = HEADER_LEN + 4;
+const FIXED: usize = HEADER_LENGTH + 4;
 
 // The number of a write: 1, 2, 11, 10.
 fn witness_to_bytes_no(width: u32, steps: u32, trace: &[u32], room: usize) -> u32
@@ -18,9 +18,8 @@ fn witness_to_bytes_no(width: u32, steps: u32, trace: &[u32], room: usize) -> u3
 {
     let held = held::held_pieces(trace, width, steps);
     let a = limits::asked_width(0, width);
-    let b = limits::asked_store(a, trace.len());
-    let c = words::asked_pieces(b, width, steps, trace.len(), 2);
-    let no = words::asked_below(c, held, limits::P, 11);
+    let b = words::asked_held(a, width, steps, trace.len());
+    let no = words::asked_below(b, held, limits::P, 11);
     if no != 0 {
         return no;
     }
@@ -40,7 +39,7 @@ pub fn witness_to_bytes(width: u32, steps: u32, trace: &[u32], out: &mut [u8]) -
     }
     let held = held::held_pieces(trace, width, steps);
     put_header(out, b'W', VERSION, width);
-    let len = put_list(out, HEADER_LEN, steps, held);
+    let len = put_list(out, HEADER_LENGTH, steps, held);
     Written {
         outcome: Outcome::Accepted,
         len,

@@ -11,20 +11,17 @@ use lib.ListN.{length}
 use Rattle.limits.specs.Numbers.{prime, maxCount, unassigned, labelEnd}
 use Rattle.limits.specs.Questions.{firstNo}
 use Rattle.limits.specs.Asks.{widthAsks}
-use Rattle.limits.proofs.Questions.{both, firstNo-append, accepted-says}
+use Rattle.limits.proofs.Questions.{both, firstNo-append, puts, puts-yes}
+use Rattle.limits.proofs.Below.{both-true}
 use Rattle.words.specs.Store.{allBelow, All}
 use Rattle.words.specs.Pieces.{wordsOf}
 use Rattle.utf8.specs.Utf8.{isUtf8}
 use Rattle.expr.specs.Equation.{Term, Equation, termVars, termWeights, equationsAt, equationsEnd, equationsHeld}
 use Rattle.instance.specs.Parts.{heldPublics, heldQueries, heldEquations}
-use Rattle.held.specs.Held.{labelAsks, partsAsks, equationsSound, publicsSound, slotsSound, heldAsks, instanceAsks}
+use Rattle.held.specs.Held.{labelAsks, partsAsks, equationsSound, publicsSound, slotsSound, partsSoundAsks, instanceAsks}
 use Rattle.instance.specs.declared.PermutationInstance.{PermutationInstance}
 
 -- ---- tests that say yes
-and-both : (a b : Bool) → (a && b) ≡ true → (a ≡ true) × (b ≡ true)
-and-both true b e = (refl, e)
-and-both false b e = (cc, cc)
-
 pub or-either : (a b : Bool) → (a || b) ≡ true → (a ≡ true) ⊎ (b ≡ true)
 or-either true b e = inl refl
 or-either false b e = inr e
@@ -37,7 +34,7 @@ pub allBelow-facts : (n : ℕ) (l : List ℕ) → allBelow n l ≡ true → Belo
 unfolding allBelow
 allBelow-facts n [] e = tt
 allBelow-facts n (x ∷ l) e =
-    let r = and-both (ltb x n) (allBelow n l) e in
+    let r = both-true (ltb x n) (allBelow n l) e in
     (ltb-true x n (r .0), allBelow-facts n l (r .1))
 
 pub facts-allBelow : (n : ℕ) (l : List ℕ) → Below n l → allBelow n l ≡ true
@@ -60,9 +57,9 @@ terms-facts (t ∷ ts) a b = ((a .0, b .0), terms-facts ts (a .1) (b .1))
 pub equationsHeld-facts : (es : List Equation) → equationsHeld es ≡ true → All SoundEquation es
 equationsHeld-facts [] e = tt
 equationsHeld-facts (q ∷ es) e =
-    let a = and-both (allBelow maxCount (termVars (q .terms))) _ e in
-    let b = and-both (allBelow prime (termWeights (q .terms))) _ (a .1) in
-    let c = and-both (ltb (q .image) prime) _ (b .1) in (
+    let a = both-true (allBelow maxCount (termVars (q .terms))) _ e in
+    let b = both-true (allBelow prime (termWeights (q .terms))) _ (a .1) in
+    let c = both-true (ltb (q .image) prime) _ (b .1) in (
       (
         terms-facts (q .terms) (allBelow-facts maxCount (termVars (q .terms)) (a .0)) (allBelow-facts prime (termWeights (q .terms)) (b .0)),
         ltb-true (q .image) prime (c .0),
@@ -74,7 +71,7 @@ pub equationsSound-facts : (n : ℕ) (held : List ℕ) → equationsSound n held
     → (equationsEnd n held ≡ length held) × All SoundEquation (equationsAt n held)
 unfolding equationsSound
 equationsSound-facts n held e =
-    let a = and-both (eqb (equationsEnd n held) (length held)) _ e in
+    let a = both-true (eqb (equationsEnd n held) (length held)) _ e in
     (eqb-true (equationsEnd n held) (length held) (a .0), equationsHeld-facts (equationsAt n held) (a .1))
 
 facts-vars : (ts : List Term) → All SoundTerm ts → Below maxCount (termVars ts)
@@ -110,7 +107,7 @@ pub slotsSound-facts : (s : List ℕ) → slotsSound s ≡ true → All SoundSlo
 unfolding slotsSound
 slotsSound-facts [] e = tt
 slotsSound-facts (x ∷ s) e =
-    let a = and-both (ltb x prime || eqb x unassigned) (slotsSound s) e in
+    let a = both-true (ltb x prime || eqb x unassigned) (slotsSound s) e in
     (slot-fact x (or-either (ltb x prime) (eqb x unassigned) (a .0)), slotsSound-facts s (a .1))
 
 fact-slot : (x : ℕ) → SoundSlot x → (ltb x prime || eqb x unassigned) ≡ true
@@ -136,56 +133,56 @@ pub record PartsFit (ins : PermutationInstance) (publics queries equations : ℕ
 pub partsAsks-yes : (ins : PermutationInstance) (publics queries equations : ℕ) → firstNo (partsAsks ins publics queries equations) ≡ 0
     → PartsFit ins publics queries equations
 partsAsks-yes ins publics queries equations e =
-    let says = accepted-says (partsAsks ins publics queries equations) tt e in
+    let says = puts-yes (partsAsks ins publics queries equations) e in
     record {
-      publics-high = leb-true _ _ (says 0);
-      queries-high = leb-true _ _ (says 1);
-      equations-high = leb-true _ _ (says 2);
-      publics-held = leb-true _ _ (says 3);
-      queries-held = leb-true _ _ (says 4);
-      words-held = leb-true _ _ (says 5);
-      equations-held = leb-true _ _ (says 6);
+      publics-high = leb-true _ _ (says 2 _ tt (search puts depth 20));
+      queries-high = leb-true _ _ (says 2 _ tt (search puts depth 20));
+      equations-high = leb-true _ _ (says 2 _ tt (search puts depth 20));
+      publics-held = leb-true _ _ (says 2 _ tt (search puts depth 20));
+      queries-held = leb-true _ _ (says 2 _ tt (search puts depth 20));
+      words-held = leb-true _ _ (says 2 _ tt (search puts depth 20));
+      equations-held = leb-true _ _ (says 2 _ tt (search puts depth 20));
     }
 
 pub labelAsks-yes : (len : ℕ) → firstNo (labelAsks len) ≡ 0 → len < labelEnd
-labelAsks-yes len e = ltb-true _ _ (accepted-says (labelAsks len) tt e 0)
+labelAsks-yes len e = ltb-true _ _ (puts-yes (labelAsks len) e 2 _ tt (search puts depth 20))
 
 -- 11
-pub record HeldSound (ins : PermutationInstance) (label publics queries equations : List ℕ) : Type 0 where
+pub record PartsSound (ins : PermutationInstance) (label publics queries equations : List ℕ) : Type 0 where
   pub ends : equationsEnd (ins .equations) (heldEquations ins equations) ≡ length (heldEquations ins equations)
   pub equations-sound : All SoundEquation (equationsAt (ins .equations) (heldEquations ins equations))
   pub publics-sound : publicsSound (ins .publics) (heldPublics ins publics) ≡ true
   pub queries-sound : Below maxCount (heldQueries ins queries)
   pub label-sound : isUtf8 label ≡ true
 
-pub heldAsks-yes : (ins : PermutationInstance) (label publics queries equations : List ℕ)
-    → firstNo (heldAsks ins label publics queries equations) ≡ 0 → HeldSound ins label publics queries equations
-heldAsks-yes ins label publics queries equations e =
-    let says = accepted-says (heldAsks ins label publics queries equations) tt e in
-    let q = equationsSound-facts (ins .equations) (heldEquations ins equations) (says 0) in
+pub partsSoundAsks-yes : (ins : PermutationInstance) (label publics queries equations : List ℕ)
+    → firstNo (partsSoundAsks ins label publics queries equations) ≡ 0 → PartsSound ins label publics queries equations
+partsSoundAsks-yes ins label publics queries equations e =
+    let says = puts-yes (partsSoundAsks ins label publics queries equations) e in
+    let q = equationsSound-facts (ins .equations) (heldEquations ins equations) (says 11 _ tt (search puts depth 20)) in
     record {
       ends = q .0;
       equations-sound = q .1;
-      publics-sound = says 1;
-      queries-sound = allBelow-facts maxCount (heldQueries ins queries) (says 2);
-      label-sound = says 3;
+      publics-sound = says 11 _ tt (search puts depth 20);
+      queries-sound = allBelow-facts maxCount (heldQueries ins queries) (says 11 _ tt (search puts depth 20));
+      label-sound = says 11 _ tt (search puts depth 20);
     }
 
 pub record InstanceSound (ins : PermutationInstance) (label publics queries equations : List ℕ) : Type 0 where
   pub parts : PartsFit ins (length publics) (length queries) (length equations)
   pub label-high : length label < labelEnd
-  pub held : HeldSound ins label publics queries equations
+  pub sound : PartsSound ins label publics queries equations
 
 pub instanceAsks-yes : (ins : PermutationInstance) (label publics queries equations : List ℕ)
     → firstNo (instanceAsks ins label publics queries equations) ≡ 0 → InstanceSound ins label publics queries equations
 instanceAsks-yes ins label publics queries equations e =
     let parts = partsAsks ins (length publics) (length queries) (length equations) in
-    let held = heldAsks ins label publics queries equations in
-    let a = both _ _ (sym (firstNo-append (widthAsks (ins .width)) (parts ++ (labelAsks (length label) ++ held))) ∙ e) in
-    let b = both _ _ (sym (firstNo-append parts (labelAsks (length label) ++ held)) ∙ a .1) in
-    let c = both _ _ (sym (firstNo-append (labelAsks (length label)) held) ∙ b .1) in
+    let sound = partsSoundAsks ins label publics queries equations in
+    let a = both _ _ (sym (firstNo-append (widthAsks (ins .width)) (parts ++ (labelAsks (length label) ++ sound))) ∙ e) in
+    let b = both _ _ (sym (firstNo-append parts (labelAsks (length label) ++ sound)) ∙ a .1) in
+    let c = both _ _ (sym (firstNo-append (labelAsks (length label)) sound) ∙ b .1) in
     record {
       parts = partsAsks-yes _ _ _ _ (b .0);
       label-high = labelAsks-yes _ (c .0);
-      held = heldAsks-yes _ _ _ _ _ (c .1);
+      sound = partsSoundAsks-yes _ _ _ _ _ (c .1);
     }

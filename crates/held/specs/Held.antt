@@ -44,8 +44,8 @@ slotsSound [] = true
 slotsSound (x ∷ s) = (ltb x prime || eqb x unassigned) && slotsSound s
 
 -- 11 of an instance's parts and its label
-abbrev pub heldAsks : PermutationInstance → (label publics queries equations : List ℕ) → List Question
-heldAsks ins label publics queries equations =
+abbrev pub partsSoundAsks : PermutationInstance → (label publics queries equations : List ℕ) → List Question
+partsSoundAsks ins label publics queries equations =
     question 11 (equationsSound (ins .equations) (heldEquations ins equations))
     ∷ question 11 (publicsSound (ins .publics) (heldPublics ins publics))
     ∷ question 11 (allBelow maxCount (heldQueries ins queries))
@@ -57,4 +57,4 @@ abbrev pub instanceAsks : PermutationInstance → (label publics queries equatio
 instanceAsks ins label publics queries equations =
     widthAsks (ins .width)
     ++ (partsAsks ins (length publics) (length queries) (length equations)
-    ++ (labelAsks (length label) ++ heldAsks ins label publics queries equations))
+    ++ (labelAsks (length label) ++ partsSoundAsks ins label publics queries equations))

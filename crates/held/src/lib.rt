@@ -13,7 +13,7 @@ ghost use Rattle.limits.specs.Questions.{_▸_, ask, firstNo};
 ghost use Rattle.words.specs.Pieces.{wordsOf};
 ghost use Rattle.utf8.specs.Utf8.{isUtf8};
 ghost use Rattle.expr.specs.Equation.{equationAt, equationsHeld, sizeAt};
-ghost use Rattle.held.specs.Held.{partsAsks, heldAsks, instanceAsks, equationsSound, publicsSound, slotsSound};
+ghost use Rattle.held.specs.Held.{partsAsks, partsSoundAsks, instanceAsks, equationsSound, publicsSound, slotsSound};
 use instance::PermutationInstance;
 use limits::LABEL_END;
 use limits::MAX_COUNT;
@@ -213,7 +213,7 @@ pub fn asked_parts(
 }
 
 // Question 11 of an instance's parts and its label.
-pub fn asked_held(
+pub fn asked_parts_sound(
     no: u32,
     ins: PermutationInstance,
     label: &[u8],
@@ -221,7 +221,7 @@ pub fn asked_held(
     queries: &[u32],
     equations: &[u32],
 ) -> u32
-    ensures { λ r. ⌜ r ≡ no ▸ firstNo (heldAsks ins (now (label .entry)) (now (publics .entry)) (now (queries .entry)) (now (equations .entry))) ⌝ }
+    ensures { λ r. ⌜ r ≡ no ▸ firstNo (partsSoundAsks ins (now (label .entry)) (now (publics .entry)) (now (queries .entry)) (now (equations .entry))) ⌝ }
 {
     let pairs = ins.publics;
     let words = ins.words;
@@ -249,5 +249,5 @@ pub fn asked_instance(
     let a = limits::asked_width(0, ins.width);
     let b = asked_parts(a, ins, publics.len(), queries.len(), equations.len());
     let c = limits::asked(b, label.len() < LABEL_END, 2);
-    asked_held(c, ins, label, publics, queries, equations)
+    asked_parts_sound(c, ins, label, publics, queries, equations)
 }

@@ -10,7 +10,7 @@ use lib.Dec.{eqb}
 use lib.ListN.{length, drop, getD}
 use lib.Seq.{getD-drop}
 use Rattle.limits.specs.Questions.{pick}
-use Rattle.limits.proofs.Questions.{onYes-no, accepted-says}
+use Rattle.limits.proofs.Questions.{onYes-no, puts, puts-yes}
 use Rattle.allocator.specs.Slots.{Pair, pair}
 use Rattle.allocator.specs.declared.VarValue.{VarValue}
 use Rattle.allocator.specs.declared.VarValue.the-variants as varValue
@@ -64,7 +64,7 @@ module _ (n : ℕ) (s : List ℕ) (x : ℕ) (whole : VarValue) (e : valueOf n s 
 pub publicValue-fits : (ins : PermutationInstance) (publics x k : ℕ) → k ≡ publicValueNo ins publics x → k ≡ 0
     → 2 * ins .publics ≤ publics
 unfolding publicValueNo
-publicValue-fits ins publics x k e z = leb-true _ _ (accepted-says (publicValueAsks ins publics x) tt (sym e ∙ z) 3)
+publicValue-fits ins publics x k e z = leb-true _ _ (puts-yes (publicValueAsks ins publics x) (sym e ∙ z) 2 _ tt (search puts depth 20))
 
 module _ (ins : PermutationInstance) (publics : List ℕ) (x k : ℕ) (e : k ≡ publicValueNo ins (length publics) x) where
   pub publicValue-refused : (k ≡ 0 → ⊥) → varValue.Refused k ≡ publicValue ins publics x

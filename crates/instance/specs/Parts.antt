@@ -4,7 +4,7 @@ use mathlib.Core.Bool.{Bool, false, _||_}
 use mathlib.Core.List.{List, [], _∷_}
 use lib.Dec.{eqb}
 use lib.ListN.{take, drop, getD}
-use Rattle.words.specs.Pieces.{wordsOf, pieces}
+use Rattle.words.specs.Pieces.{wordsOf, stepsOf}
 use Rattle.allocator.specs.Slots.{Pair, pair}
 use Rattle.expr.specs.Equation.{Equation, equationsAt}
 use Rattle.instance.specs.declared.PermutationInstance.{PermutationInstance}
@@ -60,6 +60,6 @@ partsOf ins publics queries equations =
     record {
       vars = ins .vars;
       publics = pairsAt (ins .publics) (heldPublics ins publics);
-      queries = pieces (ins .width + ins .width) (ins .queries) (heldQueries ins queries);
+      queries = stepsOf (ins .width) (ins .queries) queries;
       equations = equationsAt (ins .equations) (heldEquations ins equations);
     }

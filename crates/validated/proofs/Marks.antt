@@ -2,7 +2,7 @@
 -- exactly where it was in the list. Assumes nothing.
 use Prim.Native.Nat.{ℕ, zero, suc, _≤_, _<_}
 use mathlib.Core.Path.{_≡_, refl, sym, ap, _∙_}
-use mathlib.Core.Bool.{Bool, true, false, not, _&&_, _||_, or-comm}
+use mathlib.Core.Bool.{Bool, true, false, not, _||_, or-comm}
 use mathlib.Core.List.{List, [], _∷_}
 use native.Mathlib.Omega.{arith}
 use borrow.Author.Tests.{lt-ltb, le-ltb, ltb-true, eq-eqb, ne-eqb, eqb-true, eqb-false}
@@ -10,6 +10,7 @@ use lib.Dec.{eqb, ltb}
 use lib.ListN.{length, drop, getD, set, replicate, length-set, drop-of-length-le}
 use lib.Seq.{set-set, getD-set-same, getD-set-other}
 use Rattle.limits.specs.Questions.{pick}
+use Rattle.limits.proofs.Below.{both-true}
 use Rattle.words.specs.Store.{allBelow}
 use Rattle.instance.specs.Parts.{has, pairVars, pairsAt}
 use Rattle.validated.specs.Marks.{isMarked, marked, Marking}
@@ -47,14 +48,6 @@ mark-one marks y x h = go (eqb x y) refl
         rw (z, getD-set-same marks y 1 0 h)
     go false e = rw (getD-set-other marks y x 1 0 (eqb-false x y e))
 
-and-left : (a b : Bool) → (a && b) ≡ true → a ≡ true
-and-left true b e = refl
-and-left false b e = e
-
-and-right : (a b : Bool) → (a && b) ≡ true → b ≡ true
-and-right true b e = e
-and-right false b e = cc
-
 turned : (h q m : Bool) → (h || (q || m)) ≡ ((q || h) || m)
 turned true true m = refl
 turned true false m = refl
@@ -65,10 +58,11 @@ pub marked-has : (vars : ℕ) (xs marks : List ℕ) → allBelow vars xs ≡ tru
 unfolding allBelow marked
 marked-has vars [] marks a h x = refl
 marked-has vars (y ∷ xs) marks a h x =
-    let b = and-left (ltb y vars) (allBelow vars xs) a in
+    let e = both-true (ltb y vars) (allBelow vars xs) a in
+    let b = e .0 in
     let k : y < length marks = omega (arith, ltb-true y vars b) in
     let l : vars ≤ length (set marks y 1) = rw (length-set marks y 1) h in
-    let r = marked-has vars xs (set marks y 1) (and-right (ltb y vars) (allBelow vars xs) a) l x in
+    let r = marked-has vars xs (set marks y 1) (e .1) l x in
     simp b (r ∙ ap (λ (m : Bool). has xs x || m) (mark-one marks y x k) ∙ turned (has xs x) (eqb x y) (isMarked marks x))
 
 -- none at first

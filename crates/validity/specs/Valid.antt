@@ -16,7 +16,7 @@ use Rattle.limits.specs.Outcome.{outcomeOf}
 use Rattle.limits.specs.declared.Outcome.{Outcome}
 use Rattle.permute.specs.Parameters.{soundParameters, isEvaluation}
 use Rattle.instance.specs.Parts.{heldPublics, heldEquations, partsOf}
-use Rattle.held.specs.Held.{labelAsks, partsAsks, heldAsks, publicsSound, equationsSound}
+use Rattle.held.specs.Held.{labelAsks, partsAsks, partsSoundAsks, publicsSound, equationsSound}
 use Rattle.instance.specs.declared.PermutationInstance.{PermutationInstance}
 use Rattle.validity.specs.Check.{checkNo}
 
@@ -29,7 +29,7 @@ isWitnessValidAsks ins label publics queries equations steps trace rounds params
     ++ (storeAsks (length trace) ++ (storeAsks (length params) ++ (storeAsks scratch ++ (labelAsks (length label)
     ++ (question 2 (leb (wordsOf (ins .width) steps) (length trace))
     ∷ question 17 (soundParameters (ins .width) rounds params)
-    ∷ (heldAsks ins label publics queries equations
+    ∷ (partsSoundAsks ins label publics queries equations
     ++ (question 11 (allBelow prime (take (wordsOf (ins .width) steps) trace))
     ∷ question 16 (leb (ins .vars) scratch)
     ∷ []))))))))

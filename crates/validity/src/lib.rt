@@ -276,7 +276,7 @@ fn asked_valid(
     let f = limits::asked(e, label.len() < LABEL_END, 2);
     let g = words::asked_pieces(f, width, steps, trace.len(), 2);
     let h = permute::parameters_no(g, width, rounds, params);
-    let i = held::asked_held(h, ins, label, publics, queries, equations);
+    let i = held::asked_parts_sound(h, ins, label, publics, queries, equations);
     let j = words::asked_below(i, held_pieces(trace, width, steps), P, 11);
     limits::asked(j, vars <= scratch, 16)
 }

@@ -5,14 +5,11 @@ use Rattle.limits.proofs.Questions.{▸-assoc, ▸-zero}
 use Rattle.compile.proofs.asked_stores.Statement.{statement}
 use Rattle.compile.proofs.asked_stores.Tie as tie
 
+asked-held-requires : tie.Need-asked-held-requires
+asked-held-requires c κs = search needs
+
 asked-store-requires : tie.Need-asked-store-requires
 asked-store-requires c κs = search needs
-
-asked-pieces-requires : tie.Need-asked-pieces-requires
-asked-pieces-requires c κs = search needs
-
-asked-store-requires-2 : tie.Need-asked-store-requires-2
-asked-store-requires-2 c κs = search needs
 
 cast-asked : tie.Need-cast-asked
 cast-asked c = search needs
@@ -29,11 +26,11 @@ mul-asked c = search needs
 asked-requires-2 : tie.Need-asked-requires-2
 asked-requires-2 c κs = search needs
 
+asked-store-requires-2 : tie.Need-asked-store-requires-2
+asked-store-requires-2 c κs = search needs
+
 asked-store-requires-3 : tie.Need-asked-store-requires-3
 asked-store-requires-3 c κs = search needs
-
-asked-store-requires-4 : tie.Need-asked-store-requires-4
-asked-store-requires-4 c κs = search needs
 
 asked-requires-3 : tie.Need-asked-requires-3
 asked-requires-3 c κs = search needs
@@ -43,13 +40,12 @@ returns c =
     let d = c .before .before .before .before in
     rw (
       c .asked3 .ensures,
-      c .before .asked-store4 .ensures,
-      c .before .before .asked-store3 .ensures,
+      c .before .asked-store3 .ensures,
+      c .before .before .asked-store2 .ensures,
       c .before .before .before .asked2 .ensures,
       d .asked .ensures,
-      d .before .asked-store2 .ensures,
-      d .before .before .asked-pieces .ensures,
-      d .before .before .before .asked-store .ensures,
+      d .before .asked-store .ensures,
+      d .before .before .asked-held .ensures,
     )
     (simp (▸-assoc, ▸-zero))
 
@@ -57,15 +53,14 @@ pub asked-stores-spec : {M : Type 1} → statement M
 asked-stores-spec =
     tie.close
     (tie.spec
+    asked-held-requires
     asked-store-requires
-    asked-pieces-requires
-    asked-store-requires-2
     cast-asked
     asked-requires
     cast-asked-2
     mul-asked
     asked-requires-2
+    asked-store-requires-2
     asked-store-requires-3
-    asked-store-requires-4
     asked-requires-3
     returns)

@@ -14,13 +14,13 @@ asked-parts-requires c κs = search needs
 asked-requires : tie.Need-asked-requires
 asked-requires c κs = search needs
 
-asked-held-requires : tie.Need-asked-held-requires
-asked-held-requires c κs = search needs
+asked-parts-sound-requires : tie.Need-asked-parts-sound-requires
+asked-parts-sound-requires c κs = search needs
 
 returns : tie.Need-returns
 returns c =
     rw (
-      c .asked-held .ensures,
+      c .asked-parts-sound .ensures,
       c .before .asked .ensures,
       c .before .before .asked-parts .ensures,
       c .before .before .before .asked-width .ensures,
@@ -30,4 +30,4 @@ returns c =
 pub asked-instance-spec : {M : Type 1} → statement M
 asked-instance-spec =
     tie.close
-    (tie.spec asked-width-requires asked-parts-requires asked-requires asked-held-requires returns)
+    (tie.spec asked-width-requires asked-parts-requires asked-requires asked-parts-sound-requires returns)

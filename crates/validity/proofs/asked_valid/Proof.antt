@@ -11,7 +11,7 @@ use Rattle.limits.specs.Asks.{widthAsks, storeAsks}
 use Rattle.words.specs.Store.{allBelow}
 use Rattle.words.specs.Pieces.{wordsOf}
 use Rattle.permute.specs.Parameters.{soundParameters}
-use Rattle.held.specs.Held.{partsAsks, heldAsks}
+use Rattle.held.specs.Held.{partsAsks, partsSoundAsks}
 use Rattle.validity.proofs.Asked.{in-order}
 use Rattle.validity.proofs.asked_valid.Statement.{statement}
 use Rattle.validity.proofs.asked_valid.Tie as tie
@@ -43,8 +43,8 @@ asked-pieces-requires c κs = search needs
 parameters-no-requires : tie.Need-parameters-no-requires
 parameters-no-requires c κs = search needs
 
-asked-held-requires : tie.Need-asked-held-requires
-asked-held-requires c κs = search needs
+asked-parts-sound-requires : tie.Need-asked-parts-sound-requires
+asked-parts-sound-requires c κs = search needs
 
 held-pieces-requires : tie.Need-held-pieces-requires
 held-pieces-requires c κs = search needs
@@ -65,7 +65,7 @@ returns c =
       c .asked2 .ensures,
       c .before .asked-below .ensures,
       c .before .before .held-pieces .ensures,
-      c .before .before .before .asked-held .ensures,
+      c .before .before .before .asked-parts-sound .ensures,
       c .before .before .before .before .parameters-no .ensures,
       c .before .before .before .before .before .asked-pieces .ensures,
       c .before .before .before .before .before .before .asked .ensures,
@@ -78,7 +78,7 @@ returns c =
     (sym (in-order (widthAsks (ins .width))
     (partsAsks ins (length (now (a .publics))) (length (now (a .queries))) (length (now (a .equations))))
     (storeAsks (length trace)) (storeAsks (length (now (a .params)))) (storeAsks (a .scratch))
-    (heldAsks ins (now (a .label)) (now (a .publics)) (now (a .queries)) (now (a .equations)))
+    (partsSoundAsks ins (now (a .label)) (now (a .publics)) (now (a .queries)) (now (a .equations)))
     (question 2 (ltb (length (now (a .label))) labelEnd))
     (question 2 (leb (wordsOf (ins .width) steps) (length trace)))
     (question 17 (soundParameters (ins .width) (a .counts .rounds) (now (a .params))))
@@ -98,7 +98,7 @@ asked-valid-spec =
     asked-requires
     asked-pieces-requires
     parameters-no-requires
-    asked-held-requires
+    asked-parts-sound-requires
     held-pieces-requires
     asked-below-requires
     asked-requires-2

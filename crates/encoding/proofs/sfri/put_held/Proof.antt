@@ -7,7 +7,7 @@ use native.Mathlib.Omega.{arith}
 use borrow.Author.Needs.{needs}
 use denote.Ref.{now}
 use lib.ListN.{length}
-use Rattle.encoding.specs.Form.{headerLength}
+use Rattle.header.specs.Form.{headerLength}
 use Rattle.encoding.proofs.Length.{length-labelBytes, length-listBytes}
 use Rattle.encoding.proofs.Held.{held-put}
 use Rattle.encoding.proofs.sfri.put_held.Statement.{statement}

@@ -16,15 +16,14 @@ abbrev start : tie.After-shared-slice-known → tie.Start
 start k = k .before
 
 -- 1, 2 and 11
-first-asked : (s : tie.After-asked-below) → let a = start (s .before .before .before .before .before) .args in
+first-asked : (s : tie.After-asked-below) → let a = start (s .before .before .before .before) .args in
     s .asked-below .result ≡ firstNo (stepsAsks (a .width) (a .steps) (now (a .trace)))
 first-asked s =
     rw (
       s .asked-below .ensures,
-      s .before .before .before .before .held-pieces .ensures,
-      s .before .asked-pieces .ensures,
-      s .before .before .asked-store .ensures,
-      s .before .before .before .asked-width .ensures,
+      s .before .before .before .held-pieces .ensures,
+      s .before .asked-held .ensures,
+      s .before .before .asked-width .ensures,
     )
     (simp (▸-assoc, zero-▸, ▸-zero))
 
@@ -34,11 +33,8 @@ held-pieces-requires c κs = search needs
 asked-width-requires : tie.Need-asked-width-requires
 asked-width-requires c κs = search needs
 
-asked-store-requires : tie.Need-asked-store-requires
-asked-store-requires c κs = search needs
-
-asked-pieces-requires : tie.Need-asked-pieces-requires
-asked-pieces-requires c κs = search needs
+asked-held-requires : tie.Need-asked-held-requires
+asked-held-requires c κs = search needs
 
 asked-below-requires : tie.Need-asked-below-requires
 asked-below-requires c κs = search needs
@@ -46,7 +42,7 @@ asked-below-requires c κs = search needs
 returns : tie.Need-returns
 returns c =
     let s = c .before in
-    let a = start (s .before .before .before .before .before) .args in
+    let a = start (s .before .before .before .before) .args in
     witnessToBytes-first (a .width) (a .steps) (now (a .trace)) (a .room) _ (first-asked s) (c .if1 .taken)
 
 mul-asked : tie.Need-mul-asked
@@ -61,7 +57,7 @@ asked-requires c κs = search needs
 returns-2 : tie.Need-returns-2
 returns-2 c =
     let s = c .before .before in
-    let h = s .before .before .before .before in
+    let h = s .before .before .before in
     let a = start (h .before) .args in
     witnessToBytes-then (a .width) (a .steps) (now (a .trace)) (a .room) _ (first-asked s) (c .before .if1 .left) _
     (c .asked .ensures ∙ zero-▸ _ ∙ rw (h .held-pieces .ensures))
@@ -72,8 +68,7 @@ witness-to-bytes-no-spec =
     (tie.spec
     held-pieces-requires
     asked-width-requires
-    asked-store-requires
-    asked-pieces-requires
+    asked-held-requires
     asked-below-requires
     returns
     mul-asked

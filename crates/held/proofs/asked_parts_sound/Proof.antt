@@ -1,9 +1,9 @@
--- `asked_held` meets its contract: each part is the first words of its store, and the chain of calls is the list of questions.
+-- `asked_parts_sound` meets its contract: each part is the first words of its store, and the chain of calls is the list of questions.
 -- Assumes nothing.
 use borrow.Author.Needs.{needs}
 use Rattle.limits.proofs.Questions.{▸-assoc, ▸-zero}
-use Rattle.held.proofs.asked_held.Statement.{statement}
-use Rattle.held.proofs.asked_held.Tie as tie
+use Rattle.held.proofs.asked_parts_sound.Statement.{statement}
+use Rattle.held.proofs.asked_parts_sound.Tie as tie
 
 cast-held-words : tie.Need-cast-held-words
 cast-held-words c = search needs
@@ -50,8 +50,8 @@ returns c =
     )
     (simp (▸-assoc, ▸-zero))
 
-pub asked-held-spec : {M : Type 1} → statement M
-asked-held-spec =
+pub asked-parts-sound-spec : {M : Type 1} → statement M
+asked-parts-sound-spec =
     tie.close
     (tie.spec
     cast-held-words
