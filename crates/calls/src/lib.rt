@@ -1,4 +1,4 @@
-// Each call of demand 3's list by code that runs: a thin open function that hands it on to `permutation`, with what
+// Each call of demand 3's list by code that runs: a thin open function that hands it on to `permutation` or `recording`, with what
 // the theorem says of the call as its contract.
 //
 // For every state, what the function answers and leaves is what the list has there (`answer` and `after` of
@@ -66,7 +66,7 @@ pub fn add_permutation(
 ) -> Recorded
     ensures { λ r. ⌜ OnQueries rel (now (queries .entry)) (Record (now (input .entry)) (now (output .entry))) (ofOutcome (r .outcome)) (r .relation) (now (queries .exit)) ⌝ }
 {
-    permutation::add_permutation(rel, queries, input, output)
+    recording::add_permutation(rel, queries, input, output)
 }
 
 // Mint.
@@ -79,7 +79,7 @@ pub fn allocate_permutation(
     ensures { λ r. ⌜ OnSlotsQueries rel (now (slots .entry)) (now (queries .entry)) (Mint (now (input .entry))) (ofFirst (r .first))
         (r .relation) (now (slots .exit)) (now (queries .exit)) ⌝ }
 {
-    permutation::allocate_permutation(rel, slots, queries, input)
+    recording::allocate_permutation(rel, slots, queries, input)
 }
 
 // Equation.
@@ -91,5 +91,5 @@ pub fn add_equation(
 ) -> Recorded
     ensures { λ r. ⌜ OnEquations rel (now (equations .entry)) (Equate (now (terms .entry)) (image .0)) (ofOutcome (r .outcome)) (r .relation) (now (equations .exit)) ⌝ }
 {
-    permutation::add_equation(rel, equations, terms, image)
+    recording::add_equation(rel, equations, terms, image)
 }

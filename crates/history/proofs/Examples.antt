@@ -16,7 +16,8 @@ use Rattle.baby_bear.specs.Field.{addUnit, mulUnit, seventh, dotUnits}
 use Rattle.allocator.specs.Slots.{pair, pairNo, setRun}
 use Rattle.expr.specs.Equation.{Term, equation, equationAt, sizeAt}
 use Rattle.expr.specs.declared.Weighted.{Weighted}
-use Rattle.permutation.specs.Numbers.{newRelationNo, allocateVarsNo, setVarNo, setVarsNo, addPermutationNo, allocatePermutationNo, addEquationNo}
+use Rattle.permutation.specs.Numbers.{newRelationNo, allocateVarsNo, setVarNo, setVarsNo}
+use Rattle.recording.specs.Numbers.{addPermutationNo, allocatePermutationNo, addEquationNo}
 use Rattle.permutation.specs.Answers.{relation, newRelation, setVarsRun}
 use Rattle.permute.specs.Permute.{addConstants, raise, timesMatrix, runRound, runRounds, permute}
 use Rattle.permute.specs.Parameters.{roundsOf, rowsOf, parametersOf, soundKinds, unitConstants, unitRows, soundParameters, permuteNo, sameWords, isEvaluation}

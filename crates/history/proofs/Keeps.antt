@@ -8,10 +8,11 @@ use Rattle.limits.specs.Questions.{pick, onYes}
 use Rattle.limits.specs.Outcome.{outcomeOf, outcomeNumber, isAccepted}
 use Rattle.expr.specs.Weighted.{termsOf}
 use Rattle.permutation.specs.Answers.{firstOf, firstNumber, newRelation}
-use Rattle.permutation.specs.Numbers.{allocateVarsNo, setVarNo, addPermutationNo, allocatePermutationNo, addEquationNo}
-use Rattle.permutation.specs.State.{Holds}
+use Rattle.permutation.specs.Numbers.{allocateVarsNo, setVarNo}
+use Rattle.recording.specs.Numbers.{addPermutationNo, allocatePermutationNo, addEquationNo}
+use Rattle.recording.specs.State.{Holds}
 use Rattle.permutation.specs.declared.PermutationRelation.{PermutationRelation}
-use Rattle.permutation.proofs.Keeps.{new-holds, allocateVars-keeps, setVar-keeps, setVars-keeps, addPermutation-keeps, allocatePermutation-keeps, addEquation-keeps}
+use Rattle.recording.proofs.Keeps.{new-holds, allocateVars-keeps, setVar-keeps, setVars-keeps, addPermutation-keeps, allocatePermutation-keeps, addEquation-keeps}
 use Rattle.history.specs.Ledger.{Ledger}
 use Rattle.history.specs.Calls.{Call, Allocate, Set, SetList, Record, Mint, Equate, State, answer, after, fresh, firstOutcome, ledger, firstLedger, noted, log, final, ledgerOf}
 

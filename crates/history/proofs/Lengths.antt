@@ -15,10 +15,13 @@ use Rattle.expr.specs.Equation.{equation, equationWords}
 use Rattle.expr.specs.Weighted.{termsOf}
 use Rattle.expr.proofs.Held.{length-equation}
 use Rattle.permutation.specs.declared.PermutationRelation.{PermutationRelation}
-use Rattle.permutation.specs.Numbers.{allocateVarsNo, setVarNo, setVarsNo, addPermutationNo, allocatePermutationNo, addEquationNo}
-use Rattle.permutation.specs.Answers.{setVarsRun, queriesWith, upFrom}
-use Rattle.permutation.proofs.Accepted.{allocateVars-yes, addPermutation-yes, allocatePermutation-yes, addEquation-yes}
-use Rattle.permutation.proofs.Minted.{upFrom-length}
+use Rattle.permutation.specs.Numbers.{allocateVarsNo, setVarNo, setVarsNo}
+use Rattle.recording.specs.Numbers.{addPermutationNo, allocatePermutationNo, addEquationNo}
+use Rattle.permutation.specs.Answers.{setVarsRun}
+use Rattle.recording.specs.Answers.{queriesWith, upFrom}
+use Rattle.permutation.proofs.Accepted.{allocateVars-yes}
+use Rattle.recording.proofs.Accepted.{addPermutation-yes, allocatePermutation-yes, addEquation-yes}
+use Rattle.recording.proofs.Minted.{upFrom-length}
 use Rattle.permutation.proofs.Slots.{grown-length}
 use Rattle.history.specs.Calls.{Call, Allocate, Set, SetList, Record, Mint, Equate, State, after, final}
 use Rattle.history.specs.Demand.{lengthsOf}

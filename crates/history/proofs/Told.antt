@@ -15,13 +15,15 @@ use Rattle.permutation.specs.declared.PermutationRelation.{PermutationRelation}
 use Rattle.permutation.specs.declared.First.{First}
 use Rattle.permutation.specs.declared.First.the-variants as first
 use Rattle.permutation.specs.Relation.{setVarsAsks}
-use Rattle.permutation.specs.Numbers.{allocateVarsNo, setVarNo, setVarsNo, addPermutationNo, allocatePermutationNo, addEquationNo}
+use Rattle.permutation.specs.Numbers.{allocateVarsNo, setVarNo, setVarsNo}
+use Rattle.recording.specs.Numbers.{addPermutationNo, allocatePermutationNo, addEquationNo}
 use Rattle.limits.specs.Outcome.{outcomeOf}
-use Rattle.permutation.specs.Answers.{firstOf, firstNumber, allocateVars, setVarsRun, allocatePermutation}
-use Rattle.permutation.proofs.Keeps.{allocateVars-first, allocatePermutation-first}
-use Rattle.permutation.proofs.Left.{allocateVars-left, setVar-left, setVars-left, addPermutation-left, allocatePermutation-left, addEquation-left}
+use Rattle.permutation.specs.Answers.{firstOf, firstNumber, firstVar, allocateVars, setVarsRun}
+use Rattle.recording.specs.Answers.{allocatePermutation}
+use Rattle.recording.proofs.Keeps.{allocateVars-first, allocatePermutation-first}
+use Rattle.recording.proofs.Left.{allocateVars-left, setVar-left, setVars-left, addPermutation-left, allocatePermutation-left, addEquation-left}
 use Rattle.history.specs.Ledger.{Ledger}
-use Rattle.history.specs.Calls.{Call, Allocate, Set, SetList, Record, Mint, Equate, State, pairsAsks, asks, answer, after, firstOutcome, firstVar, noted}
+use Rattle.history.specs.Calls.{Call, Allocate, Set, SetList, Record, Mint, Equate, State, pairsAsks, asks, answer, after, firstOutcome, noted}
 use Rattle.history.specs.Left.{left}
 use Rattle.history.specs.Demand.{Accepted, lengthsOf, takesVars, Told, AllTold}
 use Rattle.history.proofs.Lengths.{lengths-kept}

@@ -13,8 +13,10 @@ use Rattle.allocator.specs.Values.{joins}
 use Rattle.expr.specs.Equation.{Equation, equation}
 use Rattle.expr.specs.Weighted.{termsOf}
 use Rattle.expr.specs.declared.Weighted.{Weighted}
-use Rattle.permutation.specs.Relation.{allocateVarsAsks, setVarAsks, setVarsAsks, addPermutationAsks, allocatePermutationAsks, addEquationAsks}
-use Rattle.permutation.specs.Answers.{newRelation, newSlots, allocateVars, allocateVarsSlots, setVar, setVarSlots, setVars, setVarsSlots, addPermutation, addPermutationQueries, allocatePermutation, allocatePermutationSlots, allocatePermutationQueries, addEquation, addEquationEquations, upFrom}
+use Rattle.permutation.specs.Relation.{allocateVarsAsks, setVarAsks, setVarsAsks}
+use Rattle.recording.specs.Relation.{addPermutationAsks, allocatePermutationAsks, addEquationAsks}
+use Rattle.permutation.specs.Answers.{firstVar, newRelation, newSlots, allocateVars, allocateVarsSlots, setVar, setVarSlots, setVars, setVarsSlots}
+use Rattle.recording.specs.Answers.{addPermutation, addPermutationQueries, allocatePermutation, allocatePermutationSlots, allocatePermutationQueries, addEquation, addEquationEquations, upFrom}
 use Rattle.permutation.specs.declared.PermutationRelation.{PermutationRelation}
 use Rattle.permutation.specs.declared.First.{First}
 use Rattle.permutation.specs.declared.First.the-variants as first
@@ -78,11 +80,6 @@ ofOutcome o = record { outcome = o; first = 0; accepted = 0 }
 abbrev pub firstOutcome : First → Outcome
 firstOutcome (first.Var x) = outcome.Accepted
 firstOutcome (first.Refused k) = outcome.Refused k
-
--- the first new wire, 0 after a refusal
-abbrev pub firstVar : First → ℕ
-firstVar (first.Var x) = x
-firstVar (first.Refused k) = 0
 
 -- an allocation's answer: the outcome and the first new wire
 abbrev pub ofFirst : First → Answer

@@ -13,7 +13,8 @@ use Rattle.words.specs.Pieces.{flat, wordsOf}
 use Rattle.utf8.specs.Utf8.{isUtf8}
 use Rattle.expr.specs.Equation.{equationsWords}
 use Rattle.expr.specs.Weighted.{termsOf}
-use Rattle.permutation.specs.Left.{allocateVarsLeft, setVarLeft, setVarsLeft, addPermutationLeft, allocatePermutationLeft, addEquationLeft}
+use Rattle.permutation.specs.Left.{allocateVarsLeft, setVarLeft, setVarsLeft}
+use Rattle.recording.specs.Left.{addPermutationLeft, allocatePermutationLeft, addEquationLeft}
 use Rattle.instance.specs.Parts.{pairVars, has}
 use Rattle.held.specs.Held.{labelAsks}
 use Rattle.validated.specs.Validated.{termwiseAsks}

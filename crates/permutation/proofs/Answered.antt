@@ -2,7 +2,6 @@
 -- it is not 0, accepted where it is. Assumes nothing.
 use Prim.Native.Nat.{ℕ, zero, suc}
 use mathlib.Core.Path.{_≡_, refl, sym, _∙_}
-use Rattle.limits.specs.Questions.{onYes}
 use Rattle.limits.proofs.Answered.{outcome-refused, stays-by}
 use Rattle.permutation.specs.Answers.{firstOf, firstNumber, recordedOf, allocatedOf}
 use Rattle.permutation.specs.declared.PermutationRelation.{PermutationRelation}

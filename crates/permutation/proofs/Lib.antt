@@ -1,11 +1,7 @@
 pub mod Answered
 pub mod Accepted
-pub mod Equated
-pub mod Minted
 pub mod Sets
 pub mod Looked
 pub mod Slots
-pub mod Stores
-pub mod Keeps
-pub mod Examples
 pub mod Left
+pub mod Examples

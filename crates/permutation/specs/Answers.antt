@@ -1,18 +1,14 @@
--- What each call on a relation answers, and what it leaves of record and stores: by its number, which is 0
+-- What each call on a relation's wires answers, and what it leaves of record and slots: by its number, which is 0
 -- where it is accepted. Assumes nothing.
-use Prim.Native.Nat.{ℕ, zero, suc, _+_, _<_}
-use mathlib.Core.Bool.{Bool, true, false}
-use mathlib.Core.List.{List, [], _∷_, _++_}
-use lib.Dec.{eqb, ltb, leb}
+use Prim.Native.Nat.{ℕ, zero, suc, _+_}
+use mathlib.Core.List.{List}
+use lib.Dec.{eqb, ltb}
 use lib.ListN.{length, getD, set}
-use Rattle.limits.specs.Numbers.{unassigned, maxCount, wordEnd}
+use Rattle.limits.specs.Numbers.{unassigned}
 use Rattle.limits.specs.Questions.{pick, ask, _▸_, onYes}
 use Rattle.limits.specs.Outcome.{outcomeOf}
-use Rattle.words.specs.Store.{putWords, fitWords}
-use Rattle.words.specs.Pieces.{wordsOf}
 use Rattle.allocator.specs.Slots.{Pair, pairs, grownSlots, SetRun, ran, setRun}
-use Rattle.expr.specs.Equation.{Term, equation, equationWords, equationSize}
-use Rattle.permutation.specs.Numbers.{newRelationNo, allocateVarsNo, setVarNo, setVarsNo, valueOfNo, isAllocatedNo, addPermutationNo, allocatePermutationNo, addEquationNo}
+use Rattle.permutation.specs.Numbers.{newRelationNo, allocateVarsNo, setVarNo, setVarsNo, valueOfNo, isAllocatedNo}
 use Rattle.permutation.specs.declared.PermutationRelation.{PermutationRelation}
 use Rattle.limits.specs.declared.Outcome.{Outcome}
 use Rattle.limits.specs.declared.Outcome.the-variants as outcome
@@ -37,6 +33,11 @@ abbrev pub firstNumber : First → ℕ
 firstNumber (first.Var v) = 0
 firstNumber (first.Refused k) = k
 
+-- the first new wire, 0 after a refusal
+abbrev pub firstVar : First → ℕ
+firstVar (first.Var x) = x
+firstVar (first.Refused k) = 0
+
 -- of a look whether a wire is allocated
 abbrev pub isAllocatedNumber : IsAllocated → ℕ
 isAllocatedNumber isAllocated-is.Yes = 0
@@ -60,19 +61,6 @@ relation width vars queries equations words =
 -- n wires more
 abbrev pub moreVars : PermutationRelation → ℕ → PermutationRelation
 moreVars rel n = relation (rel .width) (rel .vars + n) (rel .queries) (rel .equations) (rel .words)
-
--- one query more
-abbrev pub oneQuery : PermutationRelation → PermutationRelation
-oneQuery rel = relation (rel .width) (rel .vars) (rel .queries + 1) (rel .equations) (rel .words)
-
--- one equation of t terms more, and the words that it takes
-abbrev pub oneEquation : PermutationRelation → ℕ → PermutationRelation
-oneEquation rel t = relation (rel .width) (rel .vars) (rel .queries) (rel .equations + 1) (rel .words + equationSize t)
-
--- the new counts of that are words
-pub record EquationFits (rel : PermutationRelation) (t : ℕ) : Type 0 where
-  pub equations : rel .equations + 1 < wordEnd
-  pub words : rel .words + equationSize t < wordEnd
 
 -- ---- fresh: one wire, slot 0 becomes 0; refused, a record of zeros
 -- the answer: a record with one wire
@@ -121,61 +109,6 @@ setVars rel slots vars values =
 -- the slots afterwards: those of that run
 abbrev pub setVarsSlots : PermutationRelation → List ℕ → List ℕ → List ℕ → List ℕ
 setVarsSlots rel slots vars values = setVarsRun rel slots vars values .slots
-
--- ---- record: inputs then outputs at the end of the queries
--- the store with these cells behind the queries that it holds
-abbrev pub queriesWith : PermutationRelation → List ℕ → List ℕ → List ℕ
-queriesWith rel cells queries = putWords (wordsOf (rel .width) (rel .queries)) cells queries
-
--- the answer, with one query more in the record
-abbrev pub addPermutation : PermutationRelation → List ℕ → List ℕ → List ℕ → Recorded
-addPermutation rel queries input output =
-    recordedOf (addPermutationNo rel (length queries) input output) (oneQuery rel) rel
-
--- the queries afterwards
-abbrev pub addPermutationQueries : PermutationRelation → List ℕ → List ℕ → List ℕ → List ℕ
-addPermutationQueries rel queries input output =
-    onYes (addPermutationNo rel (length queries) input output) (queriesWith rel (input ++ output) queries) queries
-
--- ---- mint: w more wires, and the query from the inputs to them; both or neither
--- the k wires from n on
-abbrev pub upFrom : ℕ → ℕ → List ℕ
-upFrom n zero = []
-upFrom n (suc k) = n ∷ upFrom (suc n) k
-
--- those as words at place `at` of a store, where they are wires and the store holds them, else the store as it is
-abbrev pub fitVars : ℕ → ℕ → ℕ → List ℕ → List ℕ
-fitVars at first n s = pick (leb (first + n) maxCount) (fitWords at (upFrom first n) s) s
-
--- the answer, the first new wire, with w wires and one query more in the record
-abbrev pub allocatePermutation : PermutationRelation → List ℕ → List ℕ → List ℕ → Allocated
-allocatePermutation rel slots queries input =
-    allocatedOf (allocatePermutationNo rel (length slots) (length queries) input) (rel .vars)
-    (oneQuery (moreVars rel (rel .width))) rel
-
--- the slots afterwards: those of the w new wires unassigned
-abbrev pub allocatePermutationSlots : PermutationRelation → List ℕ → List ℕ → List ℕ → List ℕ
-allocatePermutationSlots rel slots queries input =
-    onYes (allocatePermutationNo rel (length slots) (length queries) input)
-    (grownSlots (rel .vars) (rel .width) slots) slots
-
--- the queries afterwards: the inputs and the new wires behind those that were there
-abbrev pub allocatePermutationQueries : PermutationRelation → List ℕ → List ℕ → List ℕ → List ℕ
-allocatePermutationQueries rel slots queries input =
-    onYes (allocatePermutationNo rel (length slots) (length queries) input)
-    (queriesWith rel (input ++ upFrom (rel .vars) (rel .width)) queries) queries
-
--- ---- equation: its words at the end of the used words
--- the answer, with one equation more in the record
-abbrev pub addEquation : PermutationRelation → List ℕ → List Term → ℕ → Recorded
-addEquation rel equations terms image =
-    recordedOf (addEquationNo rel (length equations) terms image) (oneEquation rel (length terms)) rel
-
--- the equations afterwards
-abbrev pub addEquationEquations : PermutationRelation → List ℕ → List Term → ℕ → List ℕ
-addEquationEquations rel equations terms image =
-    onYes (addEquationNo rel (length equations) terms image)
-    (putWords (rel .words) (equationWords (equation terms image)) equations) equations
 
 -- ---- value of a wire: its slot, none where it is unassigned or beyond the count
 -- what a slot says of its wire

@@ -1,12 +1,11 @@
--- What each call on a relation does, its parts by name: the answer, told as the caller has it (`asIs` or, for C, as
--- a struct), and each lent store. A store's ₀ is what it held before the call, its ₁ what it holds after it.
+-- What each call on a relation's wires does, its parts by name: the answer, told as the caller has it (`asIs` or, for
+-- C, as a struct), and each lent store. A store's ₀ is what it held before the call, its ₁ what it holds after it.
 -- Assumes nothing.
 use Prim.Native.Nat.{ℕ}
 use mathlib.Core.Path.{_≡_}
 use mathlib.Core.List.{List}
 use Rattle.allocator.specs.Slots.{Pair}
-use Rattle.expr.specs.Equation.{Term}
-use Rattle.permutation.specs.Answers.{newRelation, newSlots, allocateVars, allocateVarsSlots, setVar, setVarSlots, setVars, setVarsSlots, addPermutation, addPermutationQueries, allocatePermutation, allocatePermutationSlots, allocatePermutationQueries, addEquation, addEquationEquations}
+use Rattle.permutation.specs.Answers.{newRelation, newSlots, allocateVars, allocateVarsSlots, setVar, setVarSlots, setVars, setVarsSlots}
 use Rattle.permutation.specs.declared.PermutationRelation.{PermutationRelation}
 use Rattle.limits.specs.declared.Outcome.{Outcome}
 use Rattle.permutation.specs.declared.Recorded.{Recorded}
@@ -35,22 +34,3 @@ pub record SetsVars {A : Type 0} (told : SetVars → A) (rel : PermutationRelati
     (r : A) (slots₁ : List ℕ) : Type 0 where
   pub answer : r ≡ told (setVars rel slots₀ vars values)
   pub slots : slots₁ ≡ setVarsSlots rel slots₀ vars values
-
--- record
-pub record AddsPermutation {A : Type 0} (told : Recorded → A) (rel : PermutationRelation) (queries₀ input output : List ℕ)
-    (r : A) (queries₁ : List ℕ) : Type 0 where
-  pub answer : r ≡ told (addPermutation rel queries₀ input output)
-  pub queries : queries₁ ≡ addPermutationQueries rel queries₀ input output
-
--- mint
-pub record AllocatesPermutation {A : Type 0} (told : Allocated → A) (rel : PermutationRelation) (slots₀ queries₀ input : List ℕ)
-    (r : A) (slots₁ queries₁ : List ℕ) : Type 0 where
-  pub answer : r ≡ told (allocatePermutation rel slots₀ queries₀ input)
-  pub slots : slots₁ ≡ allocatePermutationSlots rel slots₀ queries₀ input
-  pub queries : queries₁ ≡ allocatePermutationQueries rel slots₀ queries₀ input
-
--- equation
-pub record AddsEquation {A : Type 0} (told : Recorded → A) (rel : PermutationRelation) (equations₀ : List ℕ) (terms : List Term) (image : ℕ)
-    (r : A) (equations₁ : List ℕ) : Type 0 where
-  pub answer : r ≡ told (addEquation rel equations₀ terms image)
-  pub equations : equations₁ ≡ addEquationEquations rel equations₀ terms image

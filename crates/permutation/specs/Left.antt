@@ -1,19 +1,16 @@
--- What a call can still say no to along a list of calls from an accepted fresh, by a book of the calls and the
--- sizes alone: the wire count n, the sets, how many queries there are, the equations, and the stores' lengths.
--- Numbers 1, 2 of the counts and 2 of the slots are never answered there. Assumes nothing.
-use Prim.Native.Nat.{ℕ, _+_}
+-- What a call on the wires can still say no to along a list of calls from an accepted fresh, by a book of the calls
+-- and the sizes alone: the wire count n, the sets, and the stores' lengths. Numbers 1, 2 of the counts and 2 of the
+-- slots are never answered there. Assumes nothing.
+use Prim.Native.Nat.{ℕ}
 use mathlib.Core.List.{List, [], _∷_, _++_}
 use mathlib.Core.Option.{Option, none, some}
-use lib.Dec.{eqb, ltb, leb}
+use lib.Dec.{eqb, ltb}
 use lib.ListN.{length}
 use Rattle.limits.specs.Numbers.{prime, maxCount}
 use Rattle.limits.specs.Questions.{pick, ask, _▸_, Question, question, firstNo, onYes}
 use Rattle.limits.specs.Asks.{storeAsks}
-use Rattle.words.specs.Store.{allBelow}
-use Rattle.words.specs.Pieces.{wordsOf}
 use Rattle.allocator.specs.Slots.{Pair, growAsks, pairs}
 use Rattle.allocator.specs.Values.{look, fits}
-use Rattle.expr.specs.Equation.{Term, Equation, termVars, termWeights, equationSize, equationsWords}
 use Rattle.allocator.specs.declared.VarValue.{VarValue}
 use Rattle.allocator.specs.declared.VarValue.the-variants as varValue
 use Rattle.permutation.specs.declared.IsAllocated.{IsAllocated}
@@ -42,37 +39,6 @@ abbrev pub setVarsLeft : ℕ → List Pair → List ℕ → List ℕ → ℕ
 setVarsLeft n sets vars values =
     firstNo (storeAsks (length vars) ++ storeAsks (length values))
     ▸ (pairsLeft n sets (pairs vars values) ▸ ask 9 (eqb (length vars) (length values)))
-
--- record: 2 of the store's and the lists' sizes, 9, 3, 10
-abbrev pub addPermutationLeft : ℕ → ℕ → ℕ → List ℕ → List ℕ → List Question
-addPermutationLeft width held len input output =
-    storeAsks len
-    ++ (storeAsks (length input) ++ (storeAsks (length output)
-    ++ (question 9 (eqb (length input) width)
-    ∷ question 9 (eqb (length output) width)
-    ∷ question 3 (allBelow maxCount input)
-    ∷ question 3 (allBelow maxCount output)
-    ∷ question 10 (leb (wordsOf width (held + 1)) len)
-    ∷ [])))
-
--- mint: 2 of the store's and the list's size, 9, 3, 5, 6, 10
-abbrev pub allocatePermutationLeft : ℕ → ℕ → ℕ → ℕ → ℕ → List ℕ → List Question
-allocatePermutationLeft width n slots held len input =
-    storeAsks len
-    ++ (storeAsks (length input)
-    ++ (question 9 (eqb (length input) width)
-    ∷ question 3 (allBelow maxCount input)
-    ∷ (growAsks n slots width ++ (question 10 (leb (wordsOf width (held + 1)) len) ∷ []))))
-
--- equation: 2 of the store's size, 3, 4, 10
-abbrev pub addEquationLeft : List Equation → ℕ → List Term → ℕ → List Question
-addEquationLeft stated len terms image =
-    storeAsks len
-    ++ (question 3 (allBelow maxCount (termVars terms))
-    ∷ question 4 (allBelow prime (termWeights terms))
-    ∷ question 4 (ltb image prime)
-    ∷ question 10 (leb (length (equationsWords stated) + equationSize (length terms)) len)
-    ∷ [])
 
 -- value of a wire: 3, else what the sets give it
 abbrev pub given : Option ℕ → VarValue

@@ -1,10 +1,9 @@
--- The number that each call on a relation answers: the first no of its questions. Assumes nothing.
+-- The number that each call on a relation's wires answers: the first no of its questions. Assumes nothing.
 use Prim.Native.Nat.{ℕ}
 use mathlib.Core.List.{List}
 use Rattle.limits.specs.Questions.{firstNo}
 use Rattle.allocator.specs.Slots.{Pair}
-use Rattle.expr.specs.Equation.{Term}
-use Rattle.permutation.specs.Relation.{newRelationAsks, allocateVarsAsks, setVarAsks, setVarsAsks, valueOfAsks, isAllocatedAsks, addPermutationAsks, allocatePermutationAsks, addEquationAsks}
+use Rattle.permutation.specs.Relation.{newRelationAsks, allocateVarsAsks, setVarAsks, setVarsAsks, valueOfAsks, isAllocatedAsks}
 use Rattle.permutation.specs.declared.PermutationRelation.{PermutationRelation}
 
 -- of fresh
@@ -30,15 +29,3 @@ valueOfNo rel len var = firstNo (valueOfAsks rel len var)
 -- of the question whether a wire is allocated
 unfoldable pub isAllocatedNo : PermutationRelation → ℕ → ℕ
 isAllocatedNo rel var = firstNo (isAllocatedAsks rel var)
-
--- of record
-unfoldable pub addPermutationNo : PermutationRelation → ℕ → List ℕ → List ℕ → ℕ
-addPermutationNo rel len input output = firstNo (addPermutationAsks rel len input output)
-
--- of mint
-unfoldable pub allocatePermutationNo : PermutationRelation → ℕ → ℕ → List ℕ → ℕ
-allocatePermutationNo rel slots len input = firstNo (allocatePermutationAsks rel slots len input)
-
--- of equation
-unfoldable pub addEquationNo : PermutationRelation → ℕ → List Term → ℕ → ℕ
-addEquationNo rel len terms image = firstNo (addEquationAsks rel len terms image)

@@ -1,19 +1,13 @@
--- What record and stores hold, in the terms of a reader who kept a book of the calls: the wire count, the
--- sets (newest first), the queries and the equations. What lies in the stores past what they hold is free.
--- Assumes nothing.
-use Prim.Native.Nat.{ℕ, _+_, _≤_}
+-- What record and slots hold, in the terms of a reader who kept a book of the calls: the wire count and the sets
+-- (newest first). What lies in the slots past the count is free. Assumes nothing.
+use Prim.Native.Nat.{ℕ, _≤_}
 use mathlib.Core.Path.{_≡_}
-use mathlib.Core.Bool.{true}
 use mathlib.Core.List.{List}
 use mathlib.Core.Option.{some}
 use lib.ListN.{length, take, getD}
-use Rattle.limits.specs.Numbers.{unassigned, maxCount, maxWidth}
-use Rattle.words.specs.Store.{allBelow, All, Begins}
-use Rattle.words.specs.Pieces.{flat}
+use Rattle.limits.specs.Numbers.{unassigned, maxCount}
 use Rattle.allocator.specs.Slots.{Pair}
 use Rattle.allocator.specs.Values.{look, Agree, Units, slotUnit}
-use Rattle.expr.specs.Equation.{Equation, equationsWords, equationsHeld}
-use Rattle.permutation.specs.declared.PermutationRelation.{PermutationRelation}
 
 -- slots and sets agree: on every wire, allocated or not
 pub record HoldsSlots (count : ℕ) (store : List ℕ) (sets : List Pair) : Type 0 where
@@ -26,30 +20,3 @@ pub record HoldsSlots (count : ℕ) (store : List ℕ) (sets : List Pair) : Type
   pub agree : Agree (look sets) sets
   pub units : Units (look sets)
   pub zeroth : look sets 0 ≡ some 0
-
--- the store begins with the queries' words, 2w each
-pub record HoldsQueries (width count : ℕ) (store : List ℕ) (queries : List (List ℕ)) : Type 0 where
-  pub counts : count ≡ length queries
-  pub widths : All (λ q. length q ≡ width + width) queries
-  pub below : allBelow maxCount (flat queries) ≡ true
-  pub begins : Begins (flat queries) store
-  pub sized : 1 ≤ count → length store ≤ maxCount
-
--- the store begins with the equations' words
-pub record HoldsEquations (count used : ℕ) (store : List ℕ) (equations : List Equation) : Type 0 where
-  pub counts : count ≡ length equations
-  pub uses : used ≡ length (equationsWords equations)
-  pub below : equationsHeld equations ≡ true
-  pub begins : Begins (equationsWords equations) store
-  pub sized : 1 ≤ count → length store ≤ maxCount
-
--- the record and the three stores; the width is the one given to fresh
-pub record Holds (width : ℕ) (rel : PermutationRelation) (slots queries equations : List ℕ)
-    (n : ℕ) (sets : List Pair) (asked : List (List ℕ)) (stated : List Equation) : Type 0 where
-  pub least : 1 ≤ width
-  pub most : width ≤ maxWidth
-  pub widthIs : rel .width ≡ width
-  pub count : rel .vars ≡ n
-  pub inSlots : HoldsSlots (rel .vars) slots sets
-  pub inQueries : HoldsQueries width (rel .queries) queries asked
-  pub inEquations : HoldsEquations (rel .equations) (rel .words) equations stated

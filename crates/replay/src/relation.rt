@@ -9,7 +9,7 @@ ghost use Prim.Native.Nat.{_≤_};
 ghost use lib.ListN.{drop};
 ghost use Rattle.expr.specs.Weighted.{termsOf};
 ghost use Rattle.limits.specs.Outcome.{asIs};
-ghost use Rattle.permutation.specs.Contracts.{AddsEquation};
+ghost use Rattle.recording.specs.Contracts.{AddsEquation};
 use crate::sample::Found;
 use crate::sample::Seen;
 use crate::sample::WORDS;
@@ -157,7 +157,7 @@ fn add_permutation(
     input: &[u32],
     output: &[u32],
 ) -> Seen {
-    let answer = permutation::add_permutation(relation, queries, input, output);
+    let answer = recording::add_permutation(relation, queries, input, output);
     same_words(sample, same_recorded(sample, c, answer), queries)
 }
 
@@ -171,7 +171,7 @@ fn allocate_permutation(sample: &[u8], c: Cursor) -> Seen {
     let slots = lent(&mut store, lists.first);
     let queries = lent(&mut second, lists.second);
     let input = shown(&third, lists.third);
-    let answer = permutation::allocate_permutation(begun.relation, slots, queries, input);
+    let answer = recording::allocate_permutation(begun.relation, slots, queries, input);
     let seen = same_words(sample, same_allocated(sample, lists.next, answer), slots);
     same_words(sample, seen, queries)
 }
@@ -222,7 +222,7 @@ fn equate(
     requires { ⌜ from ≤ 8 ⌝ }
     ensures { λ r. ⌜ AddsEquation asIs rel (now (equations .entry)) (termsOf (drop from terms)) (image .0) r (now (equations .exit)) ⌝ }
 {
-    permutation::add_equation(rel, equations, &terms[from..], image)
+    recording::add_equation(rel, equations, &terms[from..], image)
 }
 
 // 17: record, equations, wires, weights, image; the number, the record, the equations.

@@ -5,9 +5,7 @@ use mathlib.Core.Bool.{true, false}
 use Rattle.expr.specs.declared.Scaled.{Scaled}
 use Rattle.expr.specs.declared.Scaled.the-variants as scaling
 use Rattle.limits.specs.Outcome.{outcomeNumber}
-use Rattle.permutation.specs.Answers.{firstNumber}
-use Rattle.permutation.specs.declared.First.{First}
-use Rattle.permutation.specs.declared.First.the-variants as first
+use Rattle.permutation.specs.Answers.{firstNumber, firstVar}
 use Rattle.permutation.specs.declared.Recorded.{Recorded}
 use Rattle.permutation.specs.declared.Allocated.{Allocated}
 use Rattle.permutation.specs.declared.SetVars.{SetVars}
@@ -24,11 +22,6 @@ use Rattle.sfr.specs.declared.relation.SfrFlag.{SfrFlag}
 abbrev pub scaledNumber : Scaled → ℕ
 scaledNumber scaling.Accepted = 0
 scaledNumber (scaling.Refused k) = k
-
--- the first wire of an allocation, or 0
-abbrev pub firstVar : First → ℕ
-firstVar (first.Var x) = x
-firstVar (first.Refused k) = 0
 
 -- a call that has no value to give: its number and the record
 abbrev pub recordedAnswer : Recorded → SfrRelationAnswer

@@ -5,7 +5,8 @@ ghost use Rattle.allocator.specs.Slots.{pair};
 ghost use Rattle.expr.specs.Weighted.{termsOf, scale, scaleTerms};
 ghost use Rattle.limits.specs.Outcome.{outcomeNumber};
 ghost use Rattle.permutation.specs.Answers.{valueOf, isAllocated};
-ghost use Rattle.permutation.specs.Contracts.{MakesRelation, AllocatesVars, SetsVar, SetsVars, AddsPermutation, AllocatesPermutation, AddsEquation};
+ghost use Rattle.permutation.specs.Contracts.{MakesRelation, AllocatesVars, SetsVar, SetsVars};
+ghost use Rattle.recording.specs.Contracts.{AddsPermutation, AllocatesPermutation, AddsEquation};
 ghost use Rattle.sfr.specs.Relation.{recordedAnswer, allocatedAnswer, tallyOf, scaledNumber, valueAnswer, flagOf};
 use allocator::FieldVar;
 use allocator::VarValue;
@@ -154,7 +155,7 @@ pub extern "C" fn sfr_add_permutation(
 ) -> SfrRelationAnswer
     ensures { λ r. ⌜ AddsPermutation recordedAnswer rel (now (queries .entry)) (now (input .entry)) (now (output .entry)) r (now (queries .exit)) ⌝ }
 {
-    recorded_answer(permutation::add_permutation(rel, queries, input, output))
+    recorded_answer(recording::add_permutation(rel, queries, input, output))
 }
 
 // A query from input wires to as many new ones.
@@ -167,7 +168,7 @@ pub extern "C" fn sfr_allocate_permutation(
 ) -> SfrRelationAnswer
     ensures { λ r. ⌜ AllocatesPermutation allocatedAnswer rel (now (slots .entry)) (now (queries .entry)) (now (input .entry)) r (now (slots .exit)) (now (queries .exit)) ⌝ }
 {
-    allocated_answer(permutation::allocate_permutation(rel, slots, queries, input))
+    allocated_answer(recording::allocate_permutation(rel, slots, queries, input))
 }
 
 // An equation: the sum of the terms is the image.
@@ -180,7 +181,7 @@ pub extern "C" fn sfr_add_equation(
 ) -> SfrRelationAnswer
     ensures { λ r. ⌜ AddsEquation recordedAnswer rel (now (equations .entry)) (termsOf (now (terms .entry))) image r (now (equations .exit)) ⌝ }
 {
-    recorded_answer(permutation::add_equation(rel, equations, terms, BabyBearUnit(image)))
+    recorded_answer(recording::add_equation(rel, equations, terms, BabyBearUnit(image)))
 }
 
 // Document 01's number of a scaling.

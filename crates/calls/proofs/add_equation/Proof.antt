@@ -1,5 +1,5 @@
 -- `calls::add_equation` meets its contract: a walk of its MIR, by hand. A copy of what the terms' slice owns goes to
--- `permutation::add_equation`, and the store goes there for good; what comes back is handed on.
+-- `recording::add_equation`, and the store goes there for good; what comes back is handed on.
 -- Assumes nothing.
 use mathlib.Core.Path.{_≡_, refl}
 use Prim.Native.Nat.{ℕ}
@@ -38,7 +38,7 @@ use denote.Triple.Walked.{says, Stays, stay-none, stay-none-slice, gave-slice, w
 use denote.Exit.{yes}
 use Rattle.expr.specs.Weighted.{termsOf}
 use Rattle.limits.specs.Outcome.{asIs}
-use Rattle.permutation.specs.Contracts.{AddsEquation}
+use Rattle.recording.specs.Contracts.{AddsEquation}
 use Rattle.history.specs.Calls.{Equate, ofOutcome}
 use Rattle.calls.specs.Performs.{OnEquations}
 use Rattle.calls.proofs.Laws.{equated}
@@ -53,10 +53,10 @@ use Rattle.permutation.proofs.PermutationRelation as P
 use Rattle.permutation.proofs.PermutationRelation.Laws as P′
 use Rattle.permutation.proofs.Recorded as S
 use Rattle.permutation.proofs.Recorded.Laws as S′
-use Rattle.permutation.proofs.add_equation as called
-use Rattle.permutation.proofs.add_equation.Symbol as called-def
-use Rattle.permutation.proofs.add_equation.Symbol.{name as #called}
-use Rattle.permutation.proofs.add_equation.Met as called-thm
+use Rattle.recording.proofs.add_equation as called
+use Rattle.recording.proofs.add_equation.Symbol as called-def
+use Rattle.recording.proofs.add_equation.Symbol.{name as #called}
+use Rattle.recording.proofs.add_equation.Met as called-thm
 use Rattle.calls.proofs.add_equation.Key.{name as #calls·add-equation}
 use Rattle.calls.proofs.add_equation as add-equation
 use Rattle.calls.proofs.add_equation.Statement as stated
@@ -108,7 +108,7 @@ module _ {M : Type 1} (𝓤 : URA M) (H : Heap 𝓤) (A : Atoms 𝓤) (W : Given
   abbrev OwnT : Fml
   OwnT = ShrSlice (named 1) κ′ T.the-row .own x (s ∷ [])
 
-  -- what `permutation::add_equation` ensures of its answer and of the words afterwards, and what that says
+  -- what `recording::add_equation` ensures of its answer and of the words afterwards, and what that says
   abbrev Ensures : Recorded → List ℕ → Type 0
   Ensures r l = AddsEquation asIs rel out (termsOf ts) (image .0) r l
 

@@ -1,4 +1,4 @@
--- `calls::add_permutation` meets its contract: what `permutation::add_permutation` ensures is what the list has.
+-- `calls::add_permutation` meets its contract: what `recording::add_permutation` ensures is what the list has.
 -- Assumes nothing.
 use denote.Ref.{now}
 use Rattle.calls.proofs.Laws.{recorded}

@@ -1,4 +1,4 @@
--- `calls::allocate_permutation` meets its contract: what `permutation::allocate_permutation` ensures is what the list has.
+-- `calls::allocate_permutation` meets its contract: what `recording::allocate_permutation` ensures is what the list has.
 -- Assumes nothing.
 use denote.Ref.{now}
 use Rattle.calls.proofs.Laws.{minted}

@@ -46,7 +46,7 @@ use denote.Triple.Walked.{says, needs, Stays, stay-none, gave-slice, walkOf, goe
 use denote.Exit.{yes}
 use Rattle.expr.specs.Weighted.{termsOf}
 use Rattle.limits.specs.Outcome.{asIs}
-use Rattle.permutation.specs.Contracts.{AddsEquation}
+use Rattle.recording.specs.Contracts.{AddsEquation}
 use Rattle.baby_bear.specs.declared.BabyBearUnit.{BabyBearUnit}
 use Rattle.expr.specs.declared.Weighted.{Weighted}
 use Rattle.permutation.specs.declared.PermutationRelation.{PermutationRelation}
@@ -59,10 +59,10 @@ use Rattle.permutation.proofs.PermutationRelation as P
 use Rattle.permutation.proofs.PermutationRelation.Laws as P′
 use Rattle.permutation.proofs.Recorded as S
 use Rattle.permutation.proofs.Recorded.Laws as S′
-use Rattle.permutation.proofs.add_equation as add-equation
-use Rattle.permutation.proofs.add_equation.Symbol as add-equation-def
-use Rattle.permutation.proofs.add_equation.Symbol.{name as #permutation·add-equation}
-use Rattle.permutation.proofs.add_equation.Met as add-equation-thm
+use Rattle.recording.proofs.add_equation as add-equation
+use Rattle.recording.proofs.add_equation.Symbol as add-equation-def
+use Rattle.recording.proofs.add_equation.Symbol.{name as #recording·add-equation}
+use Rattle.recording.proofs.add_equation.Met as add-equation-thm
 use Rattle.replay.proofs.Lent.{array-in-shared, array-out-shared, suffix}
 use Rattle.replay.proofs.relation.equate.Key.{name as #replay·equate}
 use Rattle.replay.proofs.relation.equate as equate
@@ -174,7 +174,7 @@ module _ {M : Type 1} (𝓤 : URA M) (H : Heap 𝓤) (A : Atoms 𝓤) (W : Given
         owned ! P.the-row (Is P.the-row) (LL.makes P.the-type P′.the-plain 𝓤 H A) rel _ rel-is $ fjoin ! $
         nothing ! $ move ! (2 ∷ 0 ∷ []) $ join ! $ move ! (2 ∷ 0 ∷ []) $ join ! $ join ! $ frame ! $ done !
 
-  module _ (C : Calls 𝓤 H) (Λ : Loops 𝓤 H) (fm : FmC 𝓤 H (W .laws) C) (known : Triple 𝓤 (C #permutation·add-equation) (Added 𝓤 H A at-mem run)) where
+  module _ (C : Calls 𝓤 H) (Λ : Loops 𝓤 H) (fm : FmC 𝓤 H (W .laws) C) (known : Triple 𝓤 (C #recording·add-equation) (Added 𝓤 H A at-mem run)) where
     walk : Room u32 (length out) → i ≤ 8 → ent 𝓤 (onEntry 𝓤 H A equate.signature (κ, tt) (q, tt) a vs) (WpFn 𝓤 H C Λ code.function (only (rel-vals rel) ∷ u ∷ v ∷ vint w64 i ∷ unit-vals image) Post)
     walk room′ le =
         qed W ((‵ (flft κ q) ⊛ ‵ ftrue) ∷ ‵ (owns (P.the-row ∷ MutSlice (named 0) κ u32 ∷ R ∷ usize ∷ U.the-row ∷ []) a vs) ∷ []) ∵
@@ -224,13 +224,13 @@ module _ {M : Type 1} (𝓤 : URA M) (H : Heap 𝓤) (A : Atoms 𝓤) (W : Given
         keep ! (0 ∷ 2 ∷ 4 ∷ []) $ by ! (exits r w (zs .1 .0) l e r-is)))))))))))))))))))))))))
 
 module _ {M : Type 1} (𝓤 : URA M) (H : Heap 𝓤) (A : Atoms 𝓤) (W : Given 𝓤 H A) (mem : Memory → SProp 𝓤) (run : Routine → Fun 𝓤) where
-  equate-walks : (C : Calls 𝓤 H) (Λ : Loops 𝓤 H) → FmC 𝓤 H (W .laws) C → Triple 𝓤 (C #permutation·add-equation) (Added 𝓤 H A mem run) → Walks 𝓤 H A equate.ended stayed (WpFn 𝓤 H C Λ code.function) (equate.clauses 𝓤 H A mem run)
+  equate-walks : (C : Calls 𝓤 H) (Λ : Loops 𝓤 H) → FmC 𝓤 H (W .laws) C → Triple 𝓤 (C #recording·add-equation) (Added 𝓤 H A mem run) → Walks 𝓤 H A equate.ended stayed (WpFn 𝓤 H C Λ code.function) (equate.clauses 𝓤 H A mem run)
   equate-walks C Λ fm known = walked 𝓤 H A equate.ended stayed (equate.clauses 𝓤 H A mem run) (WpFn 𝓤 H C Λ code.function)
       (λ κs. (rel-vals, (slice-vals, (array-vals vals, (uint-vals w64, (unit-vals, tt))))))
       (λ κs. (LL.tells P.the-type P′.the-laws, (mut-slice-tells (named 0) (κs .0) u32, (array-tells T.the-row vals (LL.tells T.the-type T′.the-laws) 8, (uint-tells w64, (LL.tells U.the-type U′.the-laws, tt))))))
       (λ κs qs bounds a g are. needs 𝓤 (a .1 .1 .1 .0 ≤ 8) _ (λ le. walk 𝓤 H A W mem run (κs .0) (qs .0) (a .1 .0 .ptr .0) (a .1 .0 .ptr .1) (a .1 .0 .name) (a .0) (a .1 .0 .now) (a .1 .1 .0) (a .1 .1 .1 .0) (a .1 .1 .1 .1 .0) (are .0) (are .1 .1 .0) (are .1 .1 .1 .0 .1) (are .1 .1 .1 .1 .0) C Λ fm known (are .1 .0 .0 .1) le))
 
-equate-meets : {M : Type 1} (𝓤 : URA M) (H : Heap 𝓤) (A : Atoms 𝓤) (W : Given 𝓤 H A) (mem : Memory → SProp 𝓤) (run : Routine → Fun 𝓤) (𝓣 : Tables 𝓤 H) → Triple 𝓤 (𝓣 .C #permutation·add-equation) (Added 𝓤 H A mem run)
+equate-meets : {M : Type 1} (𝓤 : URA M) (H : Heap 𝓤) (A : Atoms 𝓤) (W : Given 𝓤 H A) (mem : Memory → SProp 𝓤) (run : Routine → Fun 𝓤) (𝓣 : Tables 𝓤 H) → Triple 𝓤 (𝓣 .C #recording·add-equation) (Added 𝓤 H A mem run)
     → Meets 𝓤 H A equate.signature (WpFn 𝓤 H (𝓣 .C) (𝓣 .Λ) code.function) (equate.spec 𝓤 H A mem run)
 equate-meets 𝓤 H A W mem run 𝓣 known =
     walk-meets 𝓤 H A equate.ended stayed W (goes-none 𝓤 H A W 1 (λ _. P.the-row) yes (λ κs x f. refl), (goes-gave-slice 𝓤 H A W 1 0 tt (plain (λ _. u32)), (goes-none 𝓤 H A W 1 (λ _. R) yes (λ κs x f. refl), (goes-none 𝓤 H A W 1 (λ _. usize) yes (λ κs x f. refl), (goes-none 𝓤 H A W 1 (λ _. U.the-row) yes (λ κs x f. refl), tt))))) (equate.clauses 𝓤 H A mem run)
@@ -242,4 +242,4 @@ equate-spec 𝓤 H 𝓜 𝓖 𝓡 =
     entered 𝓤 H (tripleOf 𝓤 H (𝓖 .A) equate.signature (equate.spec 𝓤 H (𝓖 .A) (𝓜 .mem) (𝓡 .run)))
     (tables 𝓤 H 𝓜 𝓡 code.env .C) (tables 𝓤 H 𝓜 𝓡 code.env .Λ) #replay·equate code.function (code.unfolded 𝓤 H 𝓜 𝓡)
     (equate-meets 𝓤 H (𝓖 .A) (givenOf 𝓤 H 𝓜 𝓖) (𝓜 .mem) (𝓡 .run) (tablesOf 𝓤 H 𝓜 (tables 𝓤 H 𝓜 𝓡 code.env))
-    (cited 𝓤 H (Added 𝓤 H (𝓖 .A) (𝓜 .mem) (𝓡 .run)) 𝓜 𝓡 code.env #permutation·add-equation add-equation-def.routine code.calls-permutation·add-equation (add-equation-thm.met 𝓤 H 𝓜 𝓖 𝓡)))
+    (cited 𝓤 H (Added 𝓤 H (𝓖 .A) (𝓜 .mem) (𝓡 .run)) 𝓜 𝓡 code.env #recording·add-equation add-equation-def.routine code.calls-recording·add-equation (add-equation-thm.met 𝓤 H 𝓜 𝓖 𝓡)))

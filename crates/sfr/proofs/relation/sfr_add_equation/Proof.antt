@@ -38,7 +38,7 @@ use denote.Triple.Walked.{says, Stays, stay-none, stay-none-slice, gave-slice, w
 use denote.Exit.{yes}
 use Rattle.expr.specs.Weighted.{termsOf}
 use Rattle.limits.specs.Outcome.{asIs}
-use Rattle.permutation.specs.Contracts.{AddsEquation}
+use Rattle.recording.specs.Contracts.{AddsEquation}
 use Rattle.sfr.specs.Relation.{recordedAnswer}
 use Rattle.baby_bear.specs.declared.BabyBearUnit.{BabyBearUnit}
 use Rattle.expr.specs.declared.Weighted.{Weighted}
@@ -54,10 +54,10 @@ use Rattle.permutation.proofs.Recorded as S
 use Rattle.permutation.proofs.Recorded.Laws as S′
 use Rattle.sfr.proofs.relation.SfrRelationAnswer as R
 use Rattle.sfr.proofs.relation.SfrRelationAnswer.Laws as R′
-use Rattle.permutation.proofs.add_equation as add-equation
-use Rattle.permutation.proofs.add_equation.Symbol as add-equation-def
-use Rattle.permutation.proofs.add_equation.Symbol.{name as #permutation·add-equation}
-use Rattle.permutation.proofs.add_equation.Met as add-equation-thm
+use Rattle.recording.proofs.add_equation as add-equation
+use Rattle.recording.proofs.add_equation.Symbol as add-equation-def
+use Rattle.recording.proofs.add_equation.Symbol.{name as #recording·add-equation}
+use Rattle.recording.proofs.add_equation.Met as add-equation-thm
 use Rattle.sfr.proofs.relation.recorded_answer as recorded-answer
 use Rattle.sfr.proofs.relation.recorded_answer.Symbol as recorded-answer-def
 use Rattle.sfr.proofs.relation.recorded_answer.Symbol.{name as #sfr·recorded-answer}
@@ -162,7 +162,7 @@ module _ {M : Type 1} (𝓤 : URA M) (H : Heap 𝓤) (A : Atoms 𝓤) (W : Given
     said-answered : (w : SfrRelationAnswer) → ent 𝓤 (ensured 𝓤 H A recorded-answer.ended (recorded-answer.clauses 𝓤 H A at-mem run) tt (r, tt) tt w) (fact 𝓤 (w ≡ recordedAnswer r))
     said-answered w = exE 𝓤 _ (λ ws. snd∗ 𝓤 (sem 𝓤 H A (lasts recorded-answer.ended tt (r, tt) ws)) (fact 𝓤 (w ≡ recordedAnswer r)))
 
-  module _ (C : Calls 𝓤 H) (Λ : Loops 𝓤 H) (fm : FmC 𝓤 H (W .laws) C) (known-added : Triple 𝓤 (C #permutation·add-equation) (Added 𝓤 H A at-mem run)) (known-answered : Triple 𝓤 (C #sfr·recorded-answer) (Answered 𝓤 H A at-mem run)) where
+  module _ (C : Calls 𝓤 H) (Λ : Loops 𝓤 H) (fm : FmC 𝓤 H (W .laws) C) (known-added : Triple 𝓤 (C #recording·add-equation) (Added 𝓤 H A at-mem run)) (known-answered : Triple 𝓤 (C #sfr·recorded-answer) (Answered 𝓤 H A at-mem run)) where
     walk : Room u32 (length out) → Room T.the-row (length ts) → ent 𝓤 (onEntry 𝓤 H A sfr-add-equation.signature (κ, (κ′, tt)) (q, (q′, tt)) a vs) (WpFn 𝓤 H C Λ code.function (only (rel-vals rel) ∷ u ∷ s ∷ vint w32 image ∷ []) Post)
     walk room room′ =
         qed W ((‵ (flft κ q) ⊛ ‵ (flft κ′ q′) ⊛ ‵ ftrue) ∷ ‵ (owns (P.the-row ∷ MutSlice (named 0) κ u32 ∷ ShrSlice (named 1) κ′ T.the-row ∷ u32 ∷ []) a vs) ∷ []) ∵
@@ -200,13 +200,13 @@ module _ {M : Type 1} (𝓤 : URA M) (H : Heap 𝓤) (A : Atoms 𝓤) (W : Given
         keep ! (1 ∷ 2 ∷ 5 ∷ []) $ by ! (exits w v₂ (zs .1 .0) l (record { answer = e₂ ∙ ap recordedAnswer (e₁ .answer); equations = e₁ .equations }) w-is))))))))))))))))))))
 
 module _ {M : Type 1} (𝓤 : URA M) (H : Heap 𝓤) (A : Atoms 𝓤) (W : Given 𝓤 H A) (mem : Memory → SProp 𝓤) (run : Routine → Fun 𝓤) where
-  sfr-add-equation-walks : (C : Calls 𝓤 H) (Λ : Loops 𝓤 H) → FmC 𝓤 H (W .laws) C → Triple 𝓤 (C #permutation·add-equation) (Added 𝓤 H A mem run) → Triple 𝓤 (C #sfr·recorded-answer) (Answered 𝓤 H A mem run)
+  sfr-add-equation-walks : (C : Calls 𝓤 H) (Λ : Loops 𝓤 H) → FmC 𝓤 H (W .laws) C → Triple 𝓤 (C #recording·add-equation) (Added 𝓤 H A mem run) → Triple 𝓤 (C #sfr·recorded-answer) (Answered 𝓤 H A mem run)
       → Walks 𝓤 H A sfr-add-equation.ended stayed (WpFn 𝓤 H C Λ code.function) (sfr-add-equation.clauses 𝓤 H A mem run)
   sfr-add-equation-walks C Λ fm known-added known-answered = walked 𝓤 H A sfr-add-equation.ended stayed (sfr-add-equation.clauses 𝓤 H A mem run) (WpFn 𝓤 H C Λ code.function)
       (λ κs. (rel-vals, (slice-vals, (slice-vals, (uint-vals w32, tt))))) (λ κs. (LL.tells P.the-type P′.the-laws, (mut-slice-tells (named 0) (κs .0) u32, (shr-slice-tells (named 1) (κs .1 .0) T.the-row, (uint-tells w32, tt)))))
       (λ κs qs bounds a g are. via 𝓤 _ (fst∗ 𝓤 _ (emp 𝓤)) (walk 𝓤 H A W mem run (κs .0) (κs .1 .0) (qs .0) (qs .1 .0) (a .1 .0 .ptr .0) (a .1 .0 .ptr .1) (a .1 .0 .name) (a .1 .1 .0 .ptr .0) (a .1 .1 .0 .ptr .1) (a .1 .1 .0 .name) (a .0) (a .1 .0 .now) (a .1 .1 .0 .now) (a .1 .1 .1 .0) (are .0) (are .1 .1 .1 .0 .1) C Λ fm known-added known-answered (are .1 .0 .0 .1) (are .1 .1 .0 .0 .1)))
 
-sfr-add-equation-meets : {M : Type 1} (𝓤 : URA M) (H : Heap 𝓤) (A : Atoms 𝓤) (W : Given 𝓤 H A) (mem : Memory → SProp 𝓤) (run : Routine → Fun 𝓤) (𝓣 : Tables 𝓤 H) → Triple 𝓤 (𝓣 .C #permutation·add-equation) (Added 𝓤 H A mem run) → Triple 𝓤 (𝓣 .C #sfr·recorded-answer) (Answered 𝓤 H A mem run)
+sfr-add-equation-meets : {M : Type 1} (𝓤 : URA M) (H : Heap 𝓤) (A : Atoms 𝓤) (W : Given 𝓤 H A) (mem : Memory → SProp 𝓤) (run : Routine → Fun 𝓤) (𝓣 : Tables 𝓤 H) → Triple 𝓤 (𝓣 .C #recording·add-equation) (Added 𝓤 H A mem run) → Triple 𝓤 (𝓣 .C #sfr·recorded-answer) (Answered 𝓤 H A mem run)
     → Meets 𝓤 H A sfr-add-equation.signature (WpFn 𝓤 H (𝓣 .C) (𝓣 .Λ) code.function) (sfr-add-equation.spec 𝓤 H A mem run)
 sfr-add-equation-meets 𝓤 H A W mem run 𝓣 known-added known-answered =
     walk-meets 𝓤 H A sfr-add-equation.ended stayed W (goes-none 𝓤 H A W 2 (λ _. P.the-row) yes (λ κs x f. refl), (goes-gave-slice 𝓤 H A W 2 0 tt (plain (λ _. u32)), (goes-none-slice 𝓤 H A W 2 (1 ∷ []) tt (plain (λ _. T.the-row)) yes, (goes-none 𝓤 H A W 2 (λ _. u32) yes (λ κs x f. refl), tt)))) (sfr-add-equation.clauses 𝓤 H A mem run)
@@ -218,5 +218,5 @@ sfr-add-equation-spec 𝓤 H 𝓜 𝓖 𝓡 =
     entered 𝓤 H (tripleOf 𝓤 H (𝓖 .A) sfr-add-equation.signature (sfr-add-equation.spec 𝓤 H (𝓖 .A) (𝓜 .mem) (𝓡 .run)))
     (tables 𝓤 H 𝓜 𝓡 code.env .C) (tables 𝓤 H 𝓜 𝓡 code.env .Λ) #sfr·sfr-add-equation code.function (code.unfolded 𝓤 H 𝓜 𝓡)
     (sfr-add-equation-meets 𝓤 H (𝓖 .A) (givenOf 𝓤 H 𝓜 𝓖) (𝓜 .mem) (𝓡 .run) (tablesOf 𝓤 H 𝓜 (tables 𝓤 H 𝓜 𝓡 code.env))
-    (cited 𝓤 H (Added 𝓤 H (𝓖 .A) (𝓜 .mem) (𝓡 .run)) 𝓜 𝓡 code.env #permutation·add-equation add-equation-def.routine code.calls-permutation·add-equation (add-equation-thm.met 𝓤 H 𝓜 𝓖 𝓡))
+    (cited 𝓤 H (Added 𝓤 H (𝓖 .A) (𝓜 .mem) (𝓡 .run)) 𝓜 𝓡 code.env #recording·add-equation add-equation-def.routine code.calls-recording·add-equation (add-equation-thm.met 𝓤 H 𝓜 𝓖 𝓡))
     (cited 𝓤 H (Answered 𝓤 H (𝓖 .A) (𝓜 .mem) (𝓡 .run)) 𝓜 𝓡 code.env #sfr·recorded-answer recorded-answer-def.routine code.calls-sfr·relation·recorded-answer (recorded-answer-thm.met 𝓤 H 𝓜 𝓖 𝓡)))

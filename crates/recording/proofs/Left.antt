@@ -1,0 +1,157 @@
+-- Where record and stores are in step with a book, each call's number is the first no of what the book and the
+-- sizes leave open: the other questions are settled by what is held. Assumes nothing.
+use Prim.Native.Nat.{ℕ, _+_, _*_, _≤_}
+use mathlib.Core.Path.{_≡_, sym, ap, ap₂, _∙_}
+use mathlib.Core.List.{List, [], _∷_, _++_}
+use native.Mathlib.Omega.{arith}
+use borrow.Author.Tests.{le-leb}
+use lib.Dec.{eqb, ltb, leb}
+use lib.ListN.{length}
+use Rattle.limits.specs.Numbers.{prime, maxCount, maxWidth}
+use Rattle.limits.specs.Questions.{pick, ask, _▸_, Question, question, firstNo, onYes}
+use Rattle.limits.specs.Asks.{storeAsks}
+use Rattle.limits.proofs.Questions.{goes-on, ask-yes, ▸-zero}
+use Rattle.words.specs.Store.{allBelow}
+use Rattle.words.specs.Pieces.{wordsOf, flat}
+use Rattle.words.proofs.Held.{begins-fits, flat-length}
+use Rattle.allocator.specs.Slots.{Pair, pairs, growAsks, pairAsks, pairNo}
+use Rattle.expr.specs.Equation.{Term, Equation, termVars, termWeights, equationSize, equationsWords}
+use Rattle.expr.proofs.Held.{two-each}
+use Rattle.permutation.specs.Relation.{relationAsks}
+use Rattle.permutation.specs.Relation.{queriesAsks}
+use Rattle.recording.specs.Relation.{queryRoom}
+use Rattle.permutation.specs.Numbers.{allocateVarsNo, setVarNo, setVarsNo, valueOfNo, isAllocatedNo}
+use Rattle.recording.specs.Numbers.{addPermutationNo, allocatePermutationNo, addEquationNo}
+use Rattle.permutation.specs.Answers.{valueOf, isAllocated, setVarsRun}
+use Rattle.recording.specs.State.{Holds}
+use Rattle.permutation.specs.Left.{allocateVarsLeft, setVarLeft, pairsLeft, setVarsLeft, valueLeft, isAllocatedLeft}
+use Rattle.recording.specs.Left.{addPermutationLeft, allocatePermutationLeft, addEquationLeft}
+use Rattle.permutation.specs.declared.PermutationRelation.{PermutationRelation}
+use Rattle.allocator.specs.declared.VarValue.{VarValue}
+use Rattle.allocator.specs.declared.VarValue.the-variants as varValue
+use Rattle.permutation.specs.declared.IsAllocated.the-variants as allocated
+use Rattle.permutation.proofs.Left.{by-number, pair-left, run-left, slot-given}
+
+-- ---- what is settled: 1, the counts, the slots
+module _ (width : ℕ) (rel : PermutationRelation) (slots queries equations : List ℕ)
+    (n : ℕ) (sets : List Pair) (asked : List (List ℕ)) (stated : List Equation)
+    (o : Holds width rel slots queries equations n sets asked stated) where
+  -- a number after the questions that are settled
+  after-width : (k : ℕ) → ask 1 (leb 1 (rel .width)) ▸ (ask 1 (leb (rel .width) maxWidth) ▸ k) ≡ k
+  after-width k =
+      let e = o .widthIs in
+      let a = o .least in
+      let b = o .most in
+      goes-on _ _ (ask-yes 1 _ (le-leb 1 (rel .width) (omega arith)))
+      ∙ goes-on _ _ (ask-yes 1 _ (le-leb (rel .width) maxWidth (omega arith)))
+
+  after-count : (k : ℕ) → ask 2 (leb 1 (rel .vars)) ▸ (ask 2 (leb (rel .vars) maxCount) ▸ k) ≡ k
+  after-count k =
+      let s = o .inSlots in
+      goes-on _ _ (ask-yes 2 _ (le-leb 1 (rel .vars) (s .least)))
+      ∙ goes-on _ _ (ask-yes 2 _ (le-leb (rel .vars) maxCount (omega (arith, s .room, s .most))))
+
+  after-relation : (qs : List Question) → firstNo (relationAsks rel (length slots) ++ qs) ≡ firstNo qs
+  after-relation qs =
+      let s = o .inSlots in
+      after-width _
+      ∙ goes-on _ _ (ask-yes 2 _ (le-leb (length slots) maxCount (s .most)))
+      ∙ after-count _
+      ∙ goes-on _ _ (ask-yes 2 _ (le-leb (rel .vars) (length slots) (s .room)))
+
+  -- ---- the calls on slots
+  pub allocateVars-left : (a : ℕ) → allocateVarsNo rel (length slots) a ≡ firstNo (allocateVarsLeft n (length slots) a)
+  unfolding allocateVarsNo
+  allocateVars-left a =
+      after-relation (growAsks (rel .vars) (length slots) a) ∙ ap (λ (k : ℕ). firstNo (growAsks k (length slots) a)) (o .count)
+
+  pub setVar-left : (p : Pair) → setVarNo rel slots p ≡ firstNo (setVarLeft n sets p)
+  unfolding setVarNo pairNo
+  setVar-left p =
+      after-relation (pairAsks (rel .vars) slots p)
+      ∙ pair-left (rel .vars) slots sets (o .inSlots) p
+      ∙ ap (λ (k : ℕ). firstNo (setVarLeft k sets p)) (o .count)
+
+  before-pairs : (vars values : List ℕ) → setVarsNo rel (length slots) vars values ≡ firstNo (storeAsks (length vars) ++ storeAsks (length values))
+  unfolding setVarsNo
+  before-pairs vars values = after-relation (storeAsks (length vars) ++ storeAsks (length values))
+
+  pub setVars-left : (vars values : List ℕ) → setVarsRun rel slots vars values .number ≡ setVarsLeft n sets vars values
+  unfolding setVarsRun
+  setVars-left vars values =
+      by-number (setVarsNo rel (length slots) vars values) _ slots
+      ∙ ap₂ (λ (k m : ℕ). k ▸ (m ▸ ask 9 (eqb (length vars) (length values))))
+      (before-pairs vars values)
+      (run-left (rel .vars) (pairs vars values) slots sets (o .inSlots) ∙ ap (λ (k : ℕ). pairsLeft k sets (pairs vars values)) (o .count))
+
+  -- ---- the calls on queries
+  held-queries : ask 2 (leb (wordsOf (rel .width) (rel .queries)) (length queries)) ≡ 0
+  held-queries =
+      let q = o .inQueries in
+      let l : wordsOf (rel .width) (rel .queries) ≡ length (flat asked) =
+      ap₂ wordsOf (o .widthIs) (q .counts) ∙ sym (flat-length (width + width) asked (q .widths)) in
+      let f = begins-fits (flat asked) queries (q .begins) in
+      ask-yes 2 _ (le-leb (wordsOf (rel .width) (rel .queries)) (length queries) (rw l f))
+
+  pub addPermutation-left : (input output : List ℕ)
+      → addPermutationNo rel (length queries) input output ≡ firstNo (addPermutationLeft width (length asked) (length queries) input output)
+  unfolding addPermutationNo
+  addPermutation-left input output =
+      after-width _
+      ∙ ap (λ (k : ℕ). ask 2 (leb (length queries) maxCount) ▸ k) (goes-on _ _ held-queries ∙ after-count _)
+      ∙ ap₂ (λ (w h : ℕ). firstNo (addPermutationLeft w h (length queries) input output)) (o .widthIs) (o .inQueries .counts)
+
+  pub allocatePermutation-left : (input : List ℕ)
+      → allocatePermutationNo rel (length slots) (length queries) input
+      ≡ firstNo (allocatePermutationLeft width n (length slots) (length asked) (length queries) input)
+  unfolding allocatePermutationNo
+  allocatePermutation-left input =
+      after-relation
+      (queriesAsks rel (length queries) ++ (storeAsks (length input)
+      ++ (question 9 (eqb (length input) (rel .width))
+      ∷ question 3 (allBelow maxCount input)
+      ∷ (growAsks (rel .vars) (length slots) (rel .width) ++ queryRoom rel (length queries)))))
+      ∙ ap (λ (k : ℕ). ask 2 (leb (length queries) maxCount) ▸ k) (goes-on _ _ held-queries)
+      ∙ ap (λ (k : ℕ). firstNo (allocatePermutationLeft (rel .width) k (length slots) (rel .queries) (length queries) input)) (o .count)
+      ∙ ap₂ (λ (w h : ℕ). firstNo (allocatePermutationLeft w n (length slots) h (length queries) input)) (o .widthIs) (o .inQueries .counts)
+
+  -- ---- the equations
+  pub addEquation-left : (terms : List Term) (image : ℕ)
+      → addEquationNo rel (length equations) terms image ≡ firstNo (addEquationLeft stated (length equations) terms image)
+  unfolding addEquationNo
+  addEquation-left terms image =
+      let e = o .inEquations in
+      let f = begins-fits (equationsWords stated) equations (e .begins) in
+      let t = two-each stated in
+      let u : rel .words ≤ length equations = omega (arith, e .uses) in
+      let m : 2 * rel .equations ≤ length equations = omega (arith, e .counts) in
+      after-width _
+      ∙ ap (λ (k : ℕ). ask 2 (leb (length equations) maxCount) ▸ k)
+      (goes-on _ _ (ask-yes 2 _ (le-leb (rel .words) (length equations) u))
+      ∙ goes-on _ _ (ask-yes 2 _ (le-leb (2 * rel .equations) (length equations) m))
+      ∙ after-count _)
+      ∙ ap
+      (λ (k : ℕ). firstNo (storeAsks (length equations)
+      ++ (question 3 (allBelow maxCount (termVars terms))
+      ∷ question 4 (allBelow prime (termWeights terms))
+      ∷ question 4 (ltb image prime)
+      ∷ question 10 (leb (k + equationSize (length terms)) (length equations))
+      ∷ [])))
+      (e .uses)
+
+  -- ---- questions that write nothing
+  value-asks : (x : ℕ) → valueOfNo rel (length slots) x ≡ ask 3 (ltb x maxCount)
+  unfolding valueOfNo
+  value-asks x = after-relation (question 3 (ltb x maxCount) ∷ []) ∙ ▸-zero _
+
+  pub value-left : (x : ℕ) → valueOf rel slots x ≡ valueLeft sets x
+  value-left x =
+      ap₂ (λ (k : ℕ) (v : VarValue). onYes k v (varValue.Refused k)) (value-asks x) (slot-given (rel .vars) slots sets (o .inSlots) x)
+
+  allocated-asks : (x : ℕ) → isAllocatedNo rel x ≡ ask 3 (ltb x maxCount)
+  unfolding isAllocatedNo
+  allocated-asks x = after-width _ ∙ after-count _ ∙ ▸-zero _
+
+  pub isAllocated-left : (x : ℕ) → isAllocated rel x ≡ isAllocatedLeft n x
+  isAllocated-left x =
+      ap₂ (λ (k m : ℕ). onYes k (pick (ltb x m) allocated.Yes allocated.No) (allocated.Refused k)) (allocated-asks x) (o .count)

@@ -1,0 +1,6 @@
+pub mod Accepted
+pub mod Equated
+pub mod Minted
+pub mod Stores
+pub mod Keeps
+pub mod Left

@@ -1,0 +1,54 @@
+-- `recording::allocate_permutation_no` meets its contract: its questions in a row.
+-- Assumes nothing.
+use denote.Ref.{now}
+use Rattle.limits.proofs.Questions.{chain-from}
+use Rattle.permutation.specs.Relation.{relationAsks}
+use Rattle.recording.specs.Relation.{allocatePermutationGroups}
+use Rattle.recording.specs.Numbers.{allocatePermutationNo}
+use borrow.Author.Needs.{needs}
+use Rattle.recording.proofs.allocate_permutation_no.Statement.{statement}
+use Rattle.recording.proofs.allocate_permutation_no.Tie as tie
+
+asked-relation-requires : tie.Need-asked-relation-requires
+asked-relation-requires c κs = search needs
+
+asked-held-requires : tie.Need-asked-held-requires
+asked-held-requires c κs = search needs
+
+asked-store-requires : tie.Need-asked-store-requires
+asked-store-requires c κs = search needs
+
+asked-half-requires : tie.Need-asked-half-requires
+asked-half-requires c κs = search needs
+
+asked-grow-requires : tie.Need-asked-grow-requires
+asked-grow-requires c κs = search needs
+
+asked-one-more-requires : tie.Need-asked-one-more-requires
+asked-one-more-requires c κs = search needs
+
+returns : tie.Need-returns
+unfolding allocatePermutationNo
+returns c =
+    let a = c .before .before .before .before .before .before .before .args in
+    rw (
+      c .asked-one-more .ensures,
+      c .before .asked-grow .ensures,
+      c .before .before .asked-half .ensures,
+      c .before .before .before .asked-store .ensures,
+      c .before .before .before .before .asked-held .ensures,
+      c .before .before .before .before .before .asked-relation .ensures,
+    )
+    (chain-from (relationAsks (a .rel) (a .slots)) (allocatePermutationGroups (a .rel) (a .slots) (a .room) (now (a .input))))
+
+pub allocate-permutation-no-spec : {M : Type 1} → statement M
+allocate-permutation-no-spec =
+    tie.close
+    (tie.spec
+    asked-relation-requires
+    asked-held-requires
+    asked-store-requires
+    asked-half-requires
+    asked-grow-requires
+    asked-one-more-requires
+    returns)

@@ -1,0 +1,45 @@
+-- What a call that records can still say no to along a list of calls from an accepted fresh, by a book of the calls
+-- and the sizes alone: the wire count n, how many queries there are, the equations, and the stores' lengths. Numbers
+-- 1, 2 of the counts and 2 of the slots are never answered there. Assumes nothing.
+use Prim.Native.Nat.{ℕ, _+_}
+use mathlib.Core.List.{List, [], _∷_, _++_}
+use lib.Dec.{eqb, ltb, leb}
+use lib.ListN.{length}
+use Rattle.limits.specs.Numbers.{prime, maxCount}
+use Rattle.limits.specs.Questions.{Question, question}
+use Rattle.limits.specs.Asks.{storeAsks}
+use Rattle.words.specs.Store.{allBelow}
+use Rattle.words.specs.Pieces.{wordsOf}
+use Rattle.allocator.specs.Slots.{growAsks}
+use Rattle.expr.specs.Equation.{Term, Equation, termVars, termWeights, equationSize, equationsWords}
+
+-- record: 2 of the store's and the lists' sizes, 9, 3, 10
+abbrev pub addPermutationLeft : ℕ → ℕ → ℕ → List ℕ → List ℕ → List Question
+addPermutationLeft width held len input output =
+    storeAsks len
+    ++ (storeAsks (length input) ++ (storeAsks (length output)
+    ++ (question 9 (eqb (length input) width)
+    ∷ question 9 (eqb (length output) width)
+    ∷ question 3 (allBelow maxCount input)
+    ∷ question 3 (allBelow maxCount output)
+    ∷ question 10 (leb (wordsOf width (held + 1)) len)
+    ∷ [])))
+
+-- mint: 2 of the store's and the list's size, 9, 3, 5, 6, 10
+abbrev pub allocatePermutationLeft : ℕ → ℕ → ℕ → ℕ → ℕ → List ℕ → List Question
+allocatePermutationLeft width n slots held len input =
+    storeAsks len
+    ++ (storeAsks (length input)
+    ++ (question 9 (eqb (length input) width)
+    ∷ question 3 (allBelow maxCount input)
+    ∷ (growAsks n slots width ++ (question 10 (leb (wordsOf width (held + 1)) len) ∷ []))))
+
+-- equation: 2 of the store's size, 3, 4, 10
+abbrev pub addEquationLeft : List Equation → ℕ → List Term → ℕ → List Question
+addEquationLeft stated len terms image =
+    storeAsks len
+    ++ (question 3 (allBelow maxCount (termVars terms))
+    ∷ question 4 (allBelow prime (termWeights terms))
+    ∷ question 4 (ltb image prime)
+    ∷ question 10 (leb (length (equationsWords stated) + equationSize (length terms)) len)
+    ∷ [])
