@@ -186,4 +186,4 @@ add-equation-spec 𝓤 H 𝓜 𝓖 𝓡 =
     entered 𝓤 H (tripleOf 𝓤 H (𝓖 .A) add-equation.signature (add-equation.spec 𝓤 H (𝓖 .A) (𝓜 .mem) (𝓡 .run)))
     (tables 𝓤 H 𝓜 𝓡 code.env .C) (tables 𝓤 H 𝓜 𝓡 code.env .Λ) #calls·add-equation code.function (code.unfolded 𝓤 H 𝓜 𝓡)
     (add-equation-meets 𝓤 H (𝓖 .A) (givenOf 𝓤 H 𝓜 𝓖) (𝓜 .mem) (𝓡 .run) (tablesOf 𝓤 H 𝓜 (tables 𝓤 H 𝓜 𝓡 code.env))
-    (cited 𝓤 H (Added 𝓤 H (𝓖 .A) (𝓜 .mem) (𝓡 .run)) 𝓜 𝓡 code.env #called called-def.routine code.calls-permutation·add-equation (called-thm.met 𝓤 H 𝓜 𝓖 𝓡)))
+    (cited 𝓤 H (Added 𝓤 H (𝓖 .A) (𝓜 .mem) (𝓡 .run)) 𝓜 𝓡 code.env #called called-def.routine code.calls-recording·add-equation (called-thm.met 𝓤 H 𝓜 𝓖 𝓡)))
