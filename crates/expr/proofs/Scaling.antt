@@ -14,7 +14,7 @@ use Rattle.limits.proofs.Questions.{zero-▸, ▸-zero, onYes-yes, onYes-no, fi
 use Rattle.expr.specs.Equation.{termsAsks}
 use Rattle.expr.specs.Weighted.{termsOf, scaledBy, scaleNo, scale, scaleTerms}
 use Rattle.expr.specs.declared.Weighted.{Weighted}
-use Rattle.expr.specs.declared.Scaled.the-variants.{Accepted, Refused}
+use Rattle.limits.specs.declared.Outcome.the-variants.{Accepted, Refused}
 
 -- ---- the answer
 -- the terms' number, then question 4 of the factor

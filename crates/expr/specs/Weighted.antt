@@ -7,8 +7,8 @@ use Rattle.limits.specs.Questions.{pick, ask, _▸_, Question, question, firstN
 use Rattle.baby_bear.specs.Field.{mulUnit}
 use Rattle.expr.specs.Equation.{Term, termsAsks}
 use Rattle.expr.specs.declared.Weighted.{Weighted}
-use Rattle.expr.specs.declared.Scaled.{Scaled}
-use Rattle.expr.specs.declared.Scaled.the-variants.{Accepted, Refused}
+use Rattle.limits.specs.declared.Outcome.{Outcome}
+use Rattle.limits.specs.declared.Outcome.the-variants.{Accepted, Refused}
 
 -- the terms that the records are, in order
 abbrev pub termsOf : List Weighted → List Term
@@ -33,7 +33,7 @@ unfoldable pub scaleNo : List Weighted → ℕ → ℕ
 scaleNo ts factor = firstNo (scaleAsks ts factor)
 
 -- what scaling answers, and the list afterwards: every weight scaled, or as it was
-abbrev pub scale : List Weighted → ℕ → Scaled
+abbrev pub scale : List Weighted → ℕ → Outcome
 scale ts factor = onYes (scaleNo ts factor) Accepted (Refused (scaleNo ts factor))
 
 -- the list afterwards: every weight times the factor, or as it was

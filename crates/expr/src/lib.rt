@@ -17,6 +17,7 @@ ghost use Rattle.expr.specs.Weighted.{termsOf, askedTerm, scaledBy, scal
 use allocator::FieldVar;
 use baby_bear::BabyBearUnit;
 use limits::MAX_COUNT;
+use limits::Outcome;
 use limits::P;
 use limits::WORD_END;
 
@@ -25,12 +26,6 @@ use limits::WORD_END;
 pub struct Weighted {
     pub var: FieldVar,
     pub weight: BabyBearUnit,
-}
-
-// What scaling answers.
-pub enum Scaled {
-    Accepted,
-    Refused(u32),
 }
 
 // The no of the terms before, and one term more: 3 for a wire of 2^30 or more, else what was said before,
@@ -182,15 +177,15 @@ fn asked_factor(no: u32, factor: BabyBearUnit) -> u32
 
 // Every weight times the factor (the source's product of a sum and a unit). Questions 3 over all wires, 4 over
 // all weights and the factor; a refusal leaves the list as it was.
-pub fn scale(terms: &mut [Weighted], factor: BabyBearUnit) -> Scaled
+pub fn scale(terms: &mut [Weighted], factor: BabyBearUnit) -> Outcome
     ensures { λ r. ⌜ (r ≡ scale (now (terms .entry)) (factor .0)) × (now (terms .exit) ≡ scaleTerms (now (terms .entry)) (factor .0)) ⌝ }
 {
     let asked = asked_terms(0, terms);
     let no = asked_factor(asked, factor);
     if no != 0 {
-        return Scaled::Refused(no);
+        return Outcome::Refused(no);
     } else {
         scale_all(terms, factor);
-        return Scaled::Accepted;
+        return Outcome::Accepted;
     }
 }

@@ -2,8 +2,6 @@
 -- Assumes nothing.
 use Prim.Native.Nat.{ℕ}
 use mathlib.Core.Bool.{true, false}
-use Rattle.expr.specs.declared.Scaled.{Scaled}
-use Rattle.expr.specs.declared.Scaled.the-variants as scaling
 use Rattle.limits.specs.Outcome.{outcomeNumber}
 use Rattle.permutation.specs.Answers.{firstNumber, firstVar}
 use Rattle.permutation.specs.declared.Recorded.{Recorded}
@@ -17,11 +15,6 @@ use Rattle.sfr.specs.declared.relation.SfrRelationAnswer.{SfrRelationAns
 use Rattle.sfr.specs.declared.relation.SfrTally.{SfrTally}
 use Rattle.sfr.specs.declared.relation.SfrValue.{SfrValue}
 use Rattle.sfr.specs.declared.relation.SfrFlag.{SfrFlag}
-
--- document 01's number of a scaling
-abbrev pub scaledNumber : Scaled → ℕ
-scaledNumber scaling.Accepted = 0
-scaledNumber (scaling.Refused k) = k
 
 -- a call that has no value to give: its number and the record
 abbrev pub recordedAnswer : Recorded → SfrRelationAnswer

@@ -7,11 +7,10 @@ ghost use Rattle.limits.specs.Outcome.{outcomeNumber};
 ghost use Rattle.permutation.specs.Answers.{valueOf, isAllocated};
 ghost use Rattle.permutation.specs.Contracts.{MakesRelation, AllocatesVars, SetsVar, SetsVars};
 ghost use Rattle.recording.specs.Contracts.{AddsPermutation, AllocatesPermutation, AddsEquation};
-ghost use Rattle.sfr.specs.Relation.{recordedAnswer, allocatedAnswer, tallyOf, scaledNumber, valueAnswer, flagOf};
+ghost use Rattle.sfr.specs.Relation.{recordedAnswer, allocatedAnswer, tallyOf, valueAnswer, flagOf};
 use allocator::FieldVar;
 use allocator::VarValue;
 use baby_bear::BabyBearUnit;
-use expr::Scaled;
 use expr::Weighted;
 use limits::Outcome;
 use permutation::Allocated;
@@ -184,22 +183,12 @@ pub extern "C" fn sfr_add_equation(
     recorded_answer(recording::add_equation(rel, equations, terms, BabyBearUnit(image)))
 }
 
-// Document 01's number of a scaling.
-fn scaled_no(s: Scaled) -> u32
-    ensures { λ r. ⌜ r ≡ scaledNumber s ⌝ }
-{
-    match s {
-        Scaled::Accepted => 0,
-        Scaled::Refused(k) => k,
-    }
-}
-
 // Every weight of the list times the factor, or the list as it was.
 #[no_mangle]
 pub extern "C" fn sfr_scale(terms: &mut [Weighted], factor: u32) -> u32
-    ensures { λ r. ⌜ (r ≡ scaledNumber (scale (now (terms .entry)) factor)) × (now (terms .exit) ≡ scaleTerms (now (terms .entry)) factor) ⌝ }
+    ensures { λ r. ⌜ (r ≡ outcomeNumber (scale (now (terms .entry)) factor)) × (now (terms .exit) ≡ scaleTerms (now (terms .entry)) factor) ⌝ }
 {
-    scaled_no(expr::scale(terms, BabyBearUnit(factor)))
+    outcome_no(expr::scale(terms, BabyBearUnit(factor)))
 }
 
 // What a look at a value answers, for C.

@@ -49,15 +49,15 @@ use Rattle.limits.specs.Questions.{ask, _▸_, firstNo}
 use Rattle.expr.specs.Equation.{termsAsks}
 use Rattle.expr.specs.Weighted.{termsOf, scaledBy, scale, scaleTerms}
 use Rattle.expr.specs.declared.Weighted.{Weighted}
-use Rattle.expr.specs.declared.Scaled.{Scaled}
-use Rattle.expr.specs.declared.Scaled.the-variants.{Accepted, Refused}
+use Rattle.limits.specs.declared.Outcome.{Outcome}
+use Rattle.limits.specs.declared.Outcome.the-variants.{Accepted, Refused}
 use Rattle.baby_bear.specs.declared.BabyBearUnit.{BabyBearUnit}
 use Rattle.expr.proofs.Again.{LentAgain, lends-again, comes-back}
 use Rattle.expr.proofs.Reshared.{keptS, lends-shared, shared-back}
 use Rattle.expr.proofs.Scaling.{scale-asked, scale-refused, scale-accepted}
 use Rattle.expr.proofs.Weighted as T
-use Rattle.expr.proofs.Scaled as S
-use Rattle.expr.proofs.Scaled.Laws as S′
+use Rattle.limits.proofs.Outcome as S
+use Rattle.limits.proofs.Outcome.Laws as S′
 use Rattle.baby_bear.proofs.BabyBearUnit as U
 use Rattle.baby_bear.proofs.BabyBearUnit.Laws as U′
 use Rattle.expr.proofs.asked_terms as asked-terms
@@ -133,7 +133,7 @@ module _ {M : Type 1} (𝓤 : URA M) (H : Heap 𝓤) (A : Atoms 𝓤) (W : Given
   abbrev Own : List Weighted → Fml
   Own l = MutSlice (named 0) κ T.the-row .own (x γ l) (s ∷ [])
 
-  exits : (r : Scaled) (u : Val) (l : List Weighted) → length l ≡ length ts → (r ≡ scale ts (w .0)) × (l ≡ scaleTerms ts (w .0)) → Is S.the-row r (u ∷ [])
+  exits : (r : Outcome) (u : Val) (l : List Weighted) → length l ≡ length ts → (r ≡ scale ts (w .0)) × (l ≡ scaleTerms ts (w .0)) → Is S.the-row r (u ∷ [])
       → ent 𝓤 (⋆ 𝓤 H A (‵ (Own l) ∷ ‵ (flft κ q) ∷ [])) (Post u)
   exits r u l e e′ is =
       qed W (‵ (Own l) ∷ ‵ (flft κ q) ∷ []) ∵
