@@ -5,6 +5,8 @@ use mathlib.Core.Path.{_≡_, refl, sym, _∙_}
 use mathlib.Core.Bool.{Bool, true, false}
 use mathlib.Core.List.{List}
 use native.Mathlib.Omega.{arith}
+use borrow.Author.Tests.{lt-ltb}
+use lib.Dec.{ltb}
 use lib.ListN.{length, take, drop, length-drop}
 use lib.Seq.{take-all}
 use Rattle.limits.specs.Questions.{pick, onYes}
@@ -66,12 +68,17 @@ module _ (ev : List ℕ → Bool) (k : ℕ) (trace : List ℕ) (at left known : 
       go zero y l = rw y (fewer ev k (min left 64) left (drop at trace) (omega arith))
       go (suc m) y l = rw y l
 
-  pub first-none : n ≡ 0 → ev (take k (drop at trace)) ≡ false
+  -- the first step is an evaluation where some are known
+  pub first-is : ltb 0 n ≡ ev (take k (drop at trace))
   unfolding leading
-  first-none z =
-      none-first _ _ (rw (pieces-cons k trace at (min left 64) (omega arith)) at (none-known z))
+  first-is = go n refl
+    where
+      go : (m : ℕ) → n ≡ m → ltb 0 m ≡ ev (take k (drop at trace))
+      go zero z = sym (none-first _ _ (rw (pieces-cons k trace at (min left 64) (omega arith)) at (none-known z)))
+      go (suc m) z =
+          lt-ltb 0 (suc m) (omega arith)
+          ∙ sym (one-first _ _ n (omega (arith, z)) (rw (pieces-cons k trace at left h) at known-within) .0)
 
-  pub first-known : (n ≡ 0 → ⊥) → (ev (take k (drop at trace)) ≡ true) × (n - 1 ≤ leading ev (pieces k (left - 1) (drop (at + k) trace)))
+  pub next-known : 0 < n → n - 1 ≤ leading ev (pieces k (left - 1) (drop (at + k) trace))
   unfolding leading
-  first-known z =
-      one-first _ _ n (omega (arith, z)) (rw (pieces-cons k trace at left h) at known-within)
+  next-known z = one-first (ev (take k (drop at trace))) _ n z (rw (pieces-cons k trace at left h) at known-within) .1

@@ -7,53 +7,76 @@ use mathlib.Core.List.{List, _∷_}
 use native.Mathlib.Omega.{arith}
 use native.Mathlib.Numerals.{add-one}
 use borrow.Author.Tests.{lt-ltb, le-ltb}
+use lib.Dec.{lit<}
 use lib.ListN.{length, getD, drop, set, length-set, drop-of-length-le}
 use lib.Seq.{drop-cons}
 use Rattle.limits.specs.Numbers.{prime}
 use Rattle.limits.specs.Questions.{ask, _▸_}
+use Rattle.limits.proofs.Below.{below-getD}
+use Rattle.words.specs.Store.{allBelow}
 use Rattle.allocator.specs.Slots.{Pair, pair, pairs}
 use Rattle.allocator.specs.Values.{Values, putAll, fits}
 use Rattle.validity.specs.Check.{cellsNo}
-use Rattle.validity.specs.Scratch.{entry, valueAt, Walked}
-use Rattle.validity.proofs.Scratch.{put-entry, put-units, Walking, stopped, ended}
+use Rattle.validity.specs.Scratch.{entry, valueAt, areEntries, CellsPut}
+use Rattle.validity.proofs.Scratch.{put-entry, put-units, Walking, begins, stopped, ended}
 
--- what is left of the walk over cells
-abbrev pub CellsLeft : (len k : ℕ) → Values → List ℕ → List Pair → Type 0
-CellsLeft len k g t ps = Walking len k g (cellsNo len (valueAt t) ps) (putAll (valueAt t) ps) t
+-- the cells ps of all, put to the words t
+abbrev Rest : (t₀ : List ℕ) (all : List Pair) (t : List ℕ) (ps : List Pair) → Type 0
+Rest t₀ all t ps =
+    Walking (length t₀) (cellsNo (length t₀) (valueAt t₀) all) (putAll (valueAt t₀) all) (cellsNo (length t₀) (valueAt t) ps) (putAll (valueAt t) ps) t
 
-module _ (len k : ℕ) (g : Values) (t xs vs : List ℕ) (i : ℕ) (w : CellsLeft len k g t (pairs (drop i xs) (drop i vs))) where
-  pub cells-done : length xs ≤ i → Walked len k g 0 t
-  cells-done h = ended (rw (drop-of-length-le xs h) at w) refl refl
+-- what is left of the walk over cells from the i-th on, which began with the words t₀
+pub record CellsLeft (t₀ xs vs t : List ℕ) (i : ℕ) : Type 0 where
+  pub same : length xs ≡ length vs
+  pub values : allBelow prime vs ≡ true
+  pub rest : Rest t₀ (pairs xs vs) t (pairs (drop i xs) (drop i vs))
 
-  module _ (h : i < length xs) (j : i < length vs) where
-    at-cell : CellsLeft len k g t (pair (getD xs i 0) (getD vs i 0) ∷ pairs (drop (i + 1) xs) (drop (i + 1) vs))
-    at-cell = rw add-one (rw (drop-cons xs i 0 h, drop-cons vs i 0 j) at w)
+pub cells-start : (t xs vs : List ℕ) → length xs ≡ length vs → allBelow prime vs ≡ true → areEntries t ≡ true → CellsLeft t xs vs t 0
+cells-start t xs vs l e u = record { same = l; values = e; rest = begins t _ _ u }
 
-    pub cells-36 : length t ≤ getD xs i 0 → Walked len k g 36 t
+module _ {t₀ xs vs t : List ℕ} {i : ℕ} (w : CellsLeft t₀ xs vs t i) where
+  pub cells-done : length xs ≤ i → CellsPut t₀ (pairs xs vs) 0 t
+  cells-done h = ended (rw (drop-of-length-le xs h) at (w .rest)) refl refl
+
+  pub cell-below : getD vs i 0 < prime
+  cell-below = below-getD prime vs i (lit< tt) (w .values)
+
+  module _ (h : i < length xs) where
+    at-cell : Rest t₀ (pairs xs vs) t (pair (getD xs i 0) (getD vs i 0) ∷ pairs (drop (i + 1) xs) (drop (i + 1) vs))
+    at-cell =
+        let j : i < length vs = omega (arith, w .same) in
+        rw add-one (rw (drop-cons xs i 0 h, drop-cons vs i 0 j) at (w .rest))
+
+    pub cells-36 : length t ≤ getD xs i 0 → CellsPut t₀ (pairs xs vs) 36 t
     unfolding ask _▸_
     cells-36 x =
-        let e : len ≤ getD xs i 0 = omega (arith, w .long) in
-        stopped at-cell 36 (λ z. absurd (let q : ⊥ = omega arith in q)) (rw (le-ltb (getD xs i 0) len e))
+        let e : length t₀ ≤ getD xs i 0 = omega (arith, w .rest .long) in
+        stopped at-cell 36 (λ z. absurd (let q : ⊥ = omega arith in q)) (rw (le-ltb (getD xs i 0) (length t₀) e))
 
     module _ (x : getD xs i 0 < length t) where
-      in-count : getD xs i 0 < len
-      in-count = omega (arith, w .long)
+      in-count : getD xs i 0 < length t₀
+      in-count = omega (arith, w .rest .long)
 
-      pub cells-33 : fits (entry (getD t (getD xs i 0) 0)) (getD vs i 0) ≡ false → Walked len k g 33 t
+      pub cells-33 : fits (entry (getD t (getD xs i 0) 0)) (getD vs i 0) ≡ false → CellsPut t₀ (pairs xs vs) 33 t
       unfolding ask _▸_
       cells-33 f =
-          stopped at-cell 33 (λ z. absurd (let q : ⊥ = omega arith in q)) (rw (lt-ltb (getD xs i 0) len in-count, f))
+          stopped at-cell 33 (λ z. absurd (let q : ⊥ = omega arith in q)) (rw (lt-ltb (getD xs i 0) (length t₀) in-count, f))
 
-      pub cells-turn : fits (entry (getD t (getD xs i 0) 0)) (getD vs i 0) ≡ true → getD vs i 0 < prime
-          → CellsLeft len k g (set t (getD xs i 0) (getD vs i 0 + 1)) (pairs (drop (i + 1) xs) (drop (i + 1) vs))
+      pub cells-turn : fits (entry (getD t (getD xs i 0) 0)) (getD vs i 0) ≡ true
+          → CellsLeft t₀ xs vs (set t (getD xs i 0) (getD vs i 0 + 1)) (i + 1)
       unfolding ask _▸_
-      cells-turn f v =
+      cells-turn f =
           let p = pair (getD xs i 0) (getD vs i 0) in
-          let rest = pairs (drop (i + 1) xs) (drop (i + 1) vs) in
+          let later = pairs (drop (i + 1) xs) (drop (i + 1) vs) in
           let e = put-entry t p x in
           rw (add-one (getD vs i 0)) (record {
-            number = ap (λ (c : Values). cellsNo len c rest) e ∙ (rw (lt-ltb (getD xs i 0) len in-count, f) at (at-cell .number));
-            values = ap (λ (c : Values). putAll c rest) e ∙ at-cell .values;
-            long = length-set t (getD xs i 0) (suc (getD vs i 0)) ∙ w .long;
-            units = put-units t (getD xs i 0) (getD vs i 0) v (w .units);
+            same = w .same;
+            values = w .values;
+            rest =
+                record {
+                  number = ap (λ (c : Values). cellsNo (length t₀) c later) e ∙ (rw (lt-ltb (getD xs i 0) (length t₀) in-count, f) at (at-cell .number));
+                  values = ap (λ (c : Values). putAll c later) e ∙ at-cell .values;
+                  long = length-set t (getD xs i 0) (suc (getD vs i 0)) ∙ w .rest .long;
+                  units = put-units t (getD xs i 0) (getD vs i 0) cell-below (w .rest .units);
+                };
           })

@@ -1,33 +1,95 @@
 -- The check's parts in order: 31, the publics, the steps, the equations; each on the words that the one
 -- before it left. Assumes nothing.
-use Prim.Native.Nat.{ℕ, zero, suc, _+_, _*_, _≤_}
-use mathlib.Core.Path.{_≡_, refl, sym, ap, _∙_}
+use Prim.Native.Nat.{ℕ, suc, _+_, _*_, _≤_}
+use mathlib.Core.Path.{_≡_, sym, ap, _∙_}
 use mathlib.Core.Bool.{Bool, true}
-use mathlib.Core.List.{List}
+use mathlib.Core.List.{List, []}
 use native.Mathlib.Omega.{arith}
 use borrow.Author.Tests.{eq-eqb, ne-eqb}
 use lib.Dec.{eqb, lit<}
-use lib.ListN.{length, take, drop, replicate, length-replicate}
+use lib.ListN.{length, take, replicate, length-replicate}
 use lib.Seq.{length-take-le}
 use Rattle.limits.specs.Numbers.{prime}
 use Rattle.limits.specs.Questions.{_▸_}
-use Rattle.limits.proofs.Questions.{stays, goes-on, ask-yes, ask-no}
+use Rattle.limits.proofs.Questions.{stays, goes-on, ask-yes, ask-no, ▸-assoc}
 use Rattle.limits.proofs.Below.{below-replicate}
 use Rattle.words.specs.Store.{allBelow}
-use Rattle.words.specs.Pieces.{wordsOf, pieces}
+use Rattle.words.specs.Pieces.{wordsOf, pieces, stepsOf}
 use Rattle.words.proofs.Pieces.{length-pieces}
 use Rattle.allocator.specs.Slots.{Pair}
 use Rattle.allocator.specs.Values.{nothing, putAll}
 use Rattle.expr.specs.Equation.{equationsAt}
-use Rattle.instance.specs.Parts.{heldPublics, heldQueries, heldEquations, pairsAt, partsOf}
+use Rattle.instance.specs.Parts.{Parts, heldPublics, heldQueries, heldEquations, pairsAt, partsOf}
 use Rattle.held.specs.Held.{publicsSound, equationsSound}
 use Rattle.instance.specs.declared.PermutationInstance.{PermutationInstance}
-use Rattle.validity.specs.Values.{cells}
-use Rattle.validity.specs.Check.{publicsNo, stepsNo, equationsNo, checkNo}
-use Rattle.validity.specs.Scratch.{valueAt, Walked}
-use Rattle.validity.specs.Valid.{stepsOf, Sound}
+use Rattle.validity.specs.Check.{publicsNo, stepsNo, equationsNo, checkNo, carried}
+use Rattle.validity.specs.Scratch.{valueAt, areEntries, Walked, PublicsPut, StepsPut, AllPut, Sound}
 use Rattle.validity.proofs.Scratch.{nothing-entry}
 
+-- ---- the publics and the steps
+module _ {ins : PermutationInstance} {publics queries : List ℕ} {steps : ℕ} {trace : List ℕ} {len : ℕ}
+    (sound : Sound ins publics queries steps trace len) where
+  abbrev pairsHeld : List Pair
+  pairsHeld = pairsAt (ins .publics) (heldPublics ins publics)
+
+  -- the words are all 0; the pairs as they are lent
+  module _ {t ps : List ℕ} (z : t ≡ replicate len 0) (p : ps ≡ heldPublics ins publics) where
+    pub publics-asked : (2 * ins .publics ≤ length ps) × (publicsSound (ins .publics) ps ≡ true) × (areEntries t ≡ true)
+    publics-asked = (
+      rw (p, length-take-le (2 * ins .publics) publics (sound .fitPublics)) (omega arith),
+      rw p (sound .public),
+      rw z (below-replicate (suc prime) len 0 (lit< tt)),
+    )
+
+    t-long : length t ≡ ins .vars
+    t-long = ap length z ∙ length-replicate len 0 ∙ sound .words
+
+    t-values : valueAt t ≡ nothing
+    t-values = ap valueAt z ∙ nothing-entry len
+
+    pub publics-put : {n : ℕ} {u : List ℕ} → PublicsPut t (pairsAt (ins .publics) ps) n u
+        → Walked (ins .vars) (publicsNo (ins .vars) pairsHeld) (putAll nothing pairsHeld) n u
+    publics-put a = rw (t-long, t-values, p) at a
+
+  -- the cells and units as they are lent
+  pub steps-asked : steps ≡ ins .queries → (u : List ℕ) → areEntries u ≡ true → {cs us : List ℕ}
+      → cs ≡ take (wordsOf (ins .width) steps) queries → us ≡ take (wordsOf (ins .width) steps) trace
+      → (wordsOf (ins .width) steps ≤ length cs) × (wordsOf (ins .width) steps ≤ length us) × (allBelow prime us ≡ true) × (areEntries u ≡ true)
+  steps-asked e u v c d = (
+    rw (c, length-take-le (wordsOf (ins .width) steps) queries (rw e (sound .fitQueries))) (omega arith),
+    rw (d, length-take-le (wordsOf (ins .width) steps) trace (sound .fitTrace)) (omega arith),
+    rw d (sound .units),
+    v,
+  )
+
+  -- the publics are put
+  module _ (ev : List ℕ → Bool) (e : steps ≡ ins .queries) {n : ℕ} {u : List ℕ}
+      (a : Walked (ins .vars) (publicsNo (ins .vars) pairsHeld) (putAll nothing pairsHeld) n u) where
+    pub all-stops : (n ≡ 0 → ⊥) → AllPut ev (partsOf ins publics queries []) (stepsOf (ins .width) steps trace) n u
+    unfolding partsOf
+    all-stops h =
+        record {
+          number = a .number ∙ sym (stays _ _ (λ y. h (a .number ∙ y)));
+          values = λ y. absurd (h y);
+          long = a .long;
+          units = a .units;
+        }
+
+    pub all-put : {cs us : List ℕ} → cs ≡ take (wordsOf (ins .width) steps) queries → us ≡ take (wordsOf (ins .width) steps) trace
+        → n ≡ 0 → {m : ℕ} {v : List ℕ}
+        → StepsPut ev u (pieces (ins .width + ins .width) steps cs) (pieces (ins .width + ins .width) steps us) m v
+        → AllPut ev (partsOf ins publics queries []) (stepsOf (ins .width) steps trace) m v
+    unfolding partsOf
+    all-put c d y b =
+        let w = rw (a .long, a .values y, c, d) at b in
+        record {
+          number = rw (sym e) (w .number ∙ sym (goes-on _ _ (sym (a .number) ∙ y)));
+          values = rw (sym e) (w .values);
+          long = w .long;
+          units = w .units;
+        }
+
+-- ---- the check's number
 module _ (ev : List ℕ → Bool) (ins : PermutationInstance) (publics queries equations : List ℕ) (steps : ℕ) (trace : List ℕ) where
   abbrev wholeNo : ℕ
   wholeNo = checkNo ev (partsOf ins publics queries equations) (stepsOf (ins .width) steps trace)
@@ -47,80 +109,17 @@ module _ (ev : List ℕ → Bool) (ins : PermutationInstance) (publics queries e
       let a = ask-no 31 _ (counts-are ∙ ne-eqb _ _ h) in
       sym (stays _ _ (λ z. absurd (let q : ⊥ = omega (arith, a, z) in q)) ∙ a)
 
-  abbrev pairsHeld : List Pair
-  pairsHeld = pairsAt (ins .publics) (heldPublics ins publics)
-
-  abbrev queriesHeld : List (List ℕ)
-  queriesHeld = pieces (ins .width + ins .width) steps (take (wordsOf (ins .width) steps) queries)
-
-  -- one step per query
-  module _ (e : steps ≡ ins .queries) where
-    whole-is : wholeNo ≡ publicsNo (ins .vars) pairsHeld
-        ▸ stepsNo ev (ins .vars) (putAll nothing pairsHeld) queriesHeld (stepsOf (ins .width) steps trace)
-        ▸ equationsNo (putAll (putAll nothing pairsHeld) (cells queriesHeld (stepsOf (ins .width) steps trace)))
-        (equationsAt (ins .equations) (heldEquations ins equations))
+  -- one step per query; publics and steps are put
+  module _ (e : steps ≡ ins .queries) {n : ℕ} {u : List ℕ}
+      (a : AllPut ev (partsOf ins publics queries []) (stepsOf (ins .width) steps trace) n u) where
+    whole-is : wholeNo ≡ n ▸ equationsNo (carried (partsOf ins publics queries []) (stepsOf (ins .width) steps trace)) (equationsAt (ins .equations) (heldEquations ins equations))
     unfolding checkNo partsOf
-    whole-is = goes-on _ _ (ask-yes 31 _ (counts-are ∙ eq-eqb _ _ e)) ∙ rw (sym e)
+    whole-is =
+        goes-on _ _ (ask-yes 31 _ (counts-are ∙ eq-eqb _ _ e)) ∙ sym (▸-assoc _ _ _)
+        ∙ ap (λ (k : ℕ). k ▸ equationsNo (carried (partsOf ins publics queries []) (stepsOf (ins .width) steps trace)) (equationsAt (ins .equations) (heldEquations ins equations))) (sym (a .number))
 
-    -- the words of scratch are all 0, one per wire; the held pairs as they are lent
-    module _ (t : List ℕ) (z : t ≡ replicate (ins .vars) 0) (ps : List ℕ) (p : ps ≡ heldPublics ins publics) where
-      t-long : length t ≡ ins .vars
-      t-long = ap length z ∙ length-replicate (ins .vars) 0
+    pub check-stops : (n ≡ 0 → ⊥) → n ≡ wholeNo
+    check-stops h = sym (whole-is ∙ stays _ _ h)
 
-      t-values : valueAt t ≡ nothing
-      t-values = ap valueAt z ∙ nothing-entry (ins .vars)
-
-      pub publics-sound : Sound ins publics queries equations steps trace
-          → (2 * ins .publics ≤ length ps) × (publicsSound (ins .publics) ps ≡ true) × (allBelow (suc prime) t ≡ true)
-      publics-sound s = (
-        rw (p, length-take-le (2 * ins .publics) publics (s .fitPublics)) (omega arith),
-        rw p (s .public),
-        rw z (below-replicate (suc prime) (ins .vars) 0 (lit< tt)),
-      )
-
-      module _ (n : ℕ) (u : List ℕ) (a : Walked (length t) (publicsNo (length t) (pairsAt (ins .publics) ps)) (putAll (valueAt t) (pairsAt (ins .publics) ps)) n u) where
-        publics-number : n ≡ publicsNo (ins .vars) pairsHeld
-        publics-number = rw (t-long, p) at (a .number)
-
-        pub check-publics : (n ≡ 0 → ⊥) → n ≡ wholeNo
-        check-publics h = publics-number ∙ sym (whole-is ∙ stays _ _ (λ y. h (publics-number ∙ y)))
-
-        -- the publics are below the count; the held cells and units as they are lent
-        module _ (y : n ≡ 0) (cs us : List ℕ) (c : cs ≡ take (wordsOf (ins .width) steps) queries) (d : us ≡ take (wordsOf (ins .width) steps) trace) where
-          u-values : valueAt u ≡ putAll nothing pairsHeld
-          u-values = rw (t-values, p) at (a .values y)
-
-          after-publics : wholeNo ≡ stepsNo ev (ins .vars) (putAll nothing pairsHeld) queriesHeld (stepsOf (ins .width) steps trace)
-              ▸ equationsNo (putAll (putAll nothing pairsHeld) (cells queriesHeld (stepsOf (ins .width) steps trace)))
-              (equationsAt (ins .equations) (heldEquations ins equations))
-          after-publics = whole-is ∙ goes-on _ _ (sym publics-number ∙ y)
-
-          pub steps-sound : Sound ins publics queries equations steps trace
-              → (wordsOf (ins .width) steps ≤ length cs) × (wordsOf (ins .width) steps ≤ length us)
-              × (allBelow prime us ≡ true) × (allBelow (suc prime) u ≡ true)
-          steps-sound s = (
-            rw (c, length-take-le (wordsOf (ins .width) steps) queries (rw e (s .fitQueries))) (omega arith),
-            rw (d, length-take-le (wordsOf (ins .width) steps) trace (s .fitTrace)) (omega arith),
-            rw d (s .units),
-            a .units,
-          )
-
-          module _ (m : ℕ) (v : List ℕ) (b : Walked (length u)
-              (stepsNo ev (length u) (valueAt u) (pieces (ins .width + ins .width) steps cs) (pieces (ins .width + ins .width) steps us))
-              (putAll (valueAt u) (cells (pieces (ins .width + ins .width) steps cs) (pieces (ins .width + ins .width) steps us))) m v) where
-            steps-number : m ≡ stepsNo ev (ins .vars) (putAll nothing pairsHeld) queriesHeld (stepsOf (ins .width) steps trace)
-            steps-number = rw (a .long ∙ t-long, u-values, c, d) at (b .number)
-
-            pub check-steps : (m ≡ 0 → ⊥) → m ≡ wholeNo
-            check-steps h = steps-number ∙ sym (after-publics ∙ stays _ _ (λ x. h (steps-number ∙ x)))
-
-            -- the steps are evaluations that fit; the held equations as they are lent
-            module _ (x : m ≡ 0) (es : List ℕ) (f : es ≡ heldEquations ins equations) where
-              v-values : valueAt v ≡ putAll (putAll nothing pairsHeld) (cells queriesHeld (stepsOf (ins .width) steps trace))
-              v-values = rw (u-values, c, d) at (b .values x)
-
-              pub equations-sound : Sound ins publics queries equations steps trace → (equationsSound (ins .equations) es ≡ true) × (allBelow (suc prime) v ≡ true)
-              equations-sound s = (rw f (s .linear), b .units)
-
-              pub check-equations : (k : ℕ) → k ≡ equationsNo (valueAt v) (equationsAt (ins .equations) es) → k ≡ wholeNo
-              check-equations k g = (rw (v-values, f) at g) ∙ sym (after-publics ∙ goes-on _ _ (sym steps-number ∙ x))
+    pub check-equations : n ≡ 0 → {es : List ℕ} → es ≡ heldEquations ins equations → {k : ℕ} → k ≡ equationsNo (valueAt u) (equationsAt (ins .equations) es) → k ≡ wholeNo
+    check-equations z f g = (rw (a .values z, f) at g) ∙ sym (whole-is ∙ goes-on _ _ z)

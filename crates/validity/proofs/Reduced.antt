@@ -7,6 +7,7 @@ use native.Mathlib.Nat.{le-of-lt, lt-of-le-of-lt, mul-le-mul-left, mul-lt-mul-of
 use lib.Dec.{lit<}
 use Rattle.limits.specs.Numbers.{prime}
 use Rattle.baby_bear.specs.Field.{addUnit, mulUnit}
+use Rattle.validity.specs.Scratch.{Added}
 
 -- the product of two units
 product-below : (a b : ℕ) → a < prime → b < prime → a * b < prime * prime
@@ -29,11 +30,11 @@ module _ (s a b : ℕ) where
   kept = mods s (a * b)
 
   -- below p·p it is kept as it is
-  pub plus-kept : s + a * b < prime * prime
-      → (s + a * b < prime * prime) × ((s + a * b) % prime ≡ addUnit (s % prime) (mulUnit a b))
-  plus-kept h = (h, kept)
+  pub plus-kept : s + a * b < prime * prime → Added s a b (s + a * b)
+  plus-kept h = record { below = h; counts = kept }
 
   -- from p·p on, p·p is taken off
-  pub plus-less : s < prime * prime → a < prime → b < prime → prime * prime ≤ s + a * b
-      → (s + a * b - prime * prime < prime * prime) × ((s + a * b - prime * prime) % prime ≡ addUnit (s % prime) (mulUnit a b))
-  plus-less h ha hb k = let l = product-below a b ha hb in (omega arith, less (s + a * b) k ∙ kept)
+  pub plus-less : s < prime * prime → a < prime → b < prime → prime * prime ≤ s + a * b → Added s a b (s + a * b - prime * prime)
+  plus-less h ha hb k =
+      let l = product-below a b ha hb in
+      record { below = omega arith; counts = less (s + a * b) k ∙ kept }

@@ -1,4 +1,5 @@
--- Words of scratch as what wires carry: one word, a word that is set, and words of 0. Assumes nothing.
+-- Words of scratch as what wires carry: one word, a word that is set, and words of 0; and a walk over them on
+-- its way. Assumes nothing.
 use Prim.Native.Nat.{ℕ, zero, suc, _-_, _<_}
 use mathlib.Core.Path.{_≡_, refl, sym, ap, _∙_, fun-ext}
 use mathlib.Core.Bool.{Bool, true, false}
@@ -12,10 +13,9 @@ use lib.Seq.{getD-set-same, getD-set-other}
 use Rattle.limits.specs.Numbers.{prime}
 use Rattle.limits.specs.Questions.{pick}
 use Rattle.limits.proofs.Below.{below-set}
-use Rattle.words.specs.Store.{allBelow}
 use Rattle.allocator.specs.Slots.{Pair}
 use Rattle.allocator.specs.Values.{Values, nothing, put, fits}
-use Rattle.validity.specs.Scratch.{entry, valueAt, Walked}
+use Rattle.validity.specs.Scratch.{entry, valueAt, areEntries, Walked}
 
 -- ---- one word
 pub fits-none : (m v : ℕ) → m ≡ 0 → true ≡ fits (entry m) v
@@ -48,19 +48,19 @@ put-entry t p h = fun-ext (λ x. go x (eqb x (p .var)) refl)
         ∙ ap entry (getD-set-same t (p .var) (suc (p .value)) 0 h)
     go x false e = ap entry (getD-set-other t (p .var) x (suc (p .value)) 0 (eqb-false x (p .var) e))
 
--- so set, the words stay as many, each 0 or a unit and one more
-pub put-units : (t : List ℕ) (x v : ℕ) → v < prime → allBelow (suc prime) t ≡ true → allBelow (suc prime) (set t x (suc v)) ≡ true
+-- so set, each word is an entry as before
+pub put-units : (t : List ℕ) (x v : ℕ) → v < prime → areEntries t ≡ true → areEntries (set t x (suc v)) ≡ true
 put-units t x v h u = below-set (suc prime) t x (suc v) (omega arith) u
 
 -- ---- a walk on its way
--- what is left of it, from the words t, comes to the whole: k, and the values g
+-- what is left of it, k′ and g′, put to the words t, comes to the whole: k, and the values g
 pub record Walking (len k : ℕ) (g : Values) (k′ : ℕ) (g′ : Values) (t : List ℕ) : Type 0 where
   pub number : k′ ≡ k
   pub values : g′ ≡ g
   pub long : length t ≡ len
-  pub units : allBelow (suc prime) t ≡ true
+  pub units : areEntries t ≡ true
 
-pub begins : (t : List ℕ) (k : ℕ) (g : Values) → allBelow (suc prime) t ≡ true → Walking (length t) k g k g t
+pub begins : (t : List ℕ) (k : ℕ) (g : Values) → areEntries t ≡ true → Walking (length t) k g k g t
 begins t k g u = record { number = refl; values = refl; long = refl; units = u }
 
 module _ {len k : ℕ} {g g′ : Values} {k′ : ℕ} {t : List ℕ} (w : Walking len k g k′ g′ t) where

@@ -1,4 +1,4 @@
 pub mod Values
 pub mod Check
-pub mod Scratch
 pub mod Valid
+pub mod Scratch

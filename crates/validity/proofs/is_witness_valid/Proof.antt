@@ -4,7 +4,8 @@ use Prim.Native.Nat.{ℕ}
 use mathlib.Core.Path.{ap, _∙_}
 use borrow.Author.Needs.{needs}
 use lib.ListN.{replicate}
-use Rattle.validity.proofs.Asked.{outcome-refused, outcome-accepted}
+use Rattle.limits.specs.Outcome.{outcomeOf}
+use Rattle.limits.proofs.Answered.{outcome-refused, outcome-accepted}
 use Rattle.validity.proofs.is_witness_valid.Statement.{statement}
 use Rattle.validity.proofs.is_witness_valid.Tie as tie
 
@@ -20,7 +21,7 @@ same-length c = search needs
 returns : tie.Need-returns
 returns c =
     let v = c .before .before .before .before .before .before .before .valid-no in
-    (outcome-refused _ _ (v .ensures) (c .if1 .taken), c .before .before .before .fill .ensures ∙ ap (λ (k : ℕ). replicate k 0) (v .kept .1 .1 .1 .1 .1 .1 .1 .0))
+    (outcome-refused _ (c .if1 .taken) ∙ ap outcomeOf (v .ensures), c .before .before .before .fill .ensures ∙ ap (λ (k : ℕ). replicate k 0) (v .kept .1 .1 .1 .1 .1 .1 .1 .0))
 
 same-length-2 : tie.Need-same-length-2
 same-length-2 c = search needs
@@ -28,7 +29,7 @@ same-length-2 c = search needs
 returns-2 : tie.Need-returns-2
 returns-2 c =
     let v = c .before .before .before .before .before .before .before .valid-no in
-    (outcome-accepted _ _ (v .ensures) (c .if1 .left), c .before .before .before .fill .ensures ∙ ap (λ (k : ℕ). replicate k 0) (v .kept .1 .1 .1 .1 .1 .1 .1 .0))
+    (outcome-accepted _ (c .if1 .left) ∙ ap outcomeOf (v .ensures), c .before .before .before .fill .ensures ∙ ap (λ (k : ℕ). replicate k 0) (v .kept .1 .1 .1 .1 .1 .1 .1 .0))
 
 pub is-witness-valid-spec : {M : Type 1} → statement M
 is-witness-valid-spec =

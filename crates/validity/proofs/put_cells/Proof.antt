@@ -1,36 +1,24 @@
 -- `validity::put_cells` meets its contract: the cells that are left, put to the words as they are, come to
 -- the whole.
 -- Assumes nothing.
-use Prim.Native.Nat.{_-_, _<_}
-use mathlib.Core.Path.{_≡_, sym, _∙_}
+use Prim.Native.Nat.{_-_}
+use mathlib.Core.Path.{sym, _∙_}
 use native.Mathlib.Omega.{arith}
 use borrow.Author.Needs.{needs}
 use borrow.Author.Tests.{not-true, not-false}
-use denote.Ref.{now}
-use lib.Dec.{lit<}
-use lib.ListN.{length, drop}
-use Rattle.limits.specs.Numbers.{prime}
-use Rattle.limits.proofs.Below.{below-getD}
-use Rattle.allocator.specs.Slots.{pairs}
-use Rattle.allocator.specs.Values.{putAll}
-use Rattle.validity.specs.Check.{cellsNo}
-use Rattle.validity.specs.Scratch.{valueAt}
-use Rattle.validity.proofs.Scratch.{begins}
-use Rattle.validity.proofs.Cells.{CellsLeft, cells-done, cells-36, cells-33, cells-turn}
+use lib.ListN.{length}
+use Rattle.validity.proofs.Cells.{CellsLeft, cells-start, cells-done, cell-below, cells-36, cells-33, cells-turn}
 use Rattle.validity.proofs.put_cells.Statement.{statement}
 use Rattle.validity.proofs.put_cells.Tie as tie
 
 abbrev Inv-loop : tie.InvT-loop
-Inv-loop scratch₀ vars values i₀ scratch i =
-    (length vars ≡ length values)
-    × CellsLeft (length scratch₀) (cellsNo (length scratch₀) (valueAt scratch₀) (pairs vars values))
-    (putAll (valueAt scratch₀) (pairs vars values)) scratch (pairs (drop i vars) (drop i values))
+Inv-loop scratch₀ vars values i₀ scratch i = CellsLeft scratch₀ vars values scratch i
 
 abbrev μ-loop : tie.MeasureT-loop
 μ-loop scratch₀ vars values i₀ scratch i = length vars - i
 
 loop-holds : tie.Need-loop-holds Inv-loop μ-loop
-loop-holds c = let p = c .before .before .before .pre in (p .0, begins _ _ _ (p .2))
+loop-holds c = let p = c .before .before .before .pre in cells-start _ _ _ (p .0) (p .1) (p .2)
 
 mul-x : tie.Need-mul-x Inv-loop μ-loop
 mul-x c = search needs
@@ -42,15 +30,10 @@ cast-x : tie.Need-cast-x Inv-loop μ-loop
 cast-x c = omega (arith, c .shared-slice-known3 .given (c .before .before .loop .i))
 
 same-length : tie.Need-same-length Inv-loop μ-loop
-same-length c = c .before .before .before .loop .inv .1 .long
+same-length c = c .before .before .before .loop .inv .rest .long
 
 returns : tie.Need-returns Inv-loop μ-loop
-returns c =
-    let l = c .before .before .before .loop in
-    let a = c .before .before .before .before .before .before .before .args in
-    let h = c .before .before .loop-test .taken in
-    let j : l .i < length (now (a .values)) = omega (arith, l .inv .0, h) in
-    cells-36 _ _ _ (l .scratch) (now (a .vars)) (now (a .values)) (l .i) (l .inv .1) h j (c .if1 .taken)
+returns c = cells-36 (c .before .before .before .loop .inv) (c .before .before .loop-test .taken) (c .if1 .taken)
 
 mul-m : tie.Need-mul-m Inv-loop μ-loop
 mul-m c = search needs
@@ -68,24 +51,17 @@ fits-requires : tie.Need-fits-requires Inv-loop μ-loop
 fits-requires c κs = search needs
 
 same-length-2 : tie.Need-same-length-2 Inv-loop μ-loop
-same-length-2 c = c .before .before .before .before .before .before .before .loop .inv .1 .long
+same-length-2 c = c .before .before .before .before .before .before .before .loop .inv .rest .long
 
 returns-2 : tie.Need-returns-2 Inv-loop μ-loop
 returns-2 c =
     let b = c .before .before .before .before in
-    let l = b .before .before .before .loop in
-    let a = b .before .before .before .before .before .before .before .args in
-    let h = b .before .before .loop-test .taken in
-    let j : l .i < length (now (a .values)) = omega (arith, l .inv .0, h) in
-    cells-33 _ _ _ (l .scratch) (now (a .vars)) (now (a .values)) (l .i) (l .inv .1) h j (b .if1 .left)
+    cells-33 (b .before .before .before .loop .inv) (b .before .before .loop-test .taken) (b .if1 .left)
     (sym (c .before .fits2 .ensures) ∙ not-true _ (c .if2 .taken))
 
 add-scratch : tie.Need-add-scratch Inv-loop μ-loop
 add-scratch c =
-    let b = c .before .before .before .before in
-    let l = b .before .before .before .loop in
-    let r = b .before .before .before .before .before .before .before in
-    let v = below-getD prime (now (r .args .values)) (l .i) (lit< tt) (r .pre .1) in
+    let v = cell-below (c .before .before .before .before .before .before .before .loop .inv) in
     omega arith
 
 mul-scratch : tie.Need-mul-scratch Inv-loop μ-loop
@@ -103,25 +79,14 @@ loop-less c = search needs
 loop-again : tie.Need-loop-again Inv-loop μ-loop
 loop-again c =
     let b = c .before .before .before .before in
-    let l = b .before .before .before .loop in
-    let r = b .before .before .before .before .before .before .before in
-    let a = r .args in
-    let h = b .before .before .loop-test .taken in
-    let j : l .i < length (now (a .values)) = omega (arith, l .inv .0, h) in (
-      l .inv .0,
-      cells-turn _ _ _ (l .scratch) (now (a .vars)) (now (a .values)) (l .i) (l .inv .1) h j (b .if1 .left)
-          (sym (c .before .fits2 .ensures) ∙ not-false _ (c .if2 .left))
-          (below-getD prime (now (a .values)) (l .i) (lit< tt) (r .pre .1)),
-    )
+    cells-turn (b .before .before .before .loop .inv) (b .before .before .loop-test .taken) (b .if1 .left)
+    (sym (c .before .fits2 .ensures) ∙ not-false _ (c .if2 .left))
 
 same-length-3 : tie.Need-same-length-3 Inv-loop μ-loop
-same-length-3 c = c .before .loop .inv .1 .long
+same-length-3 c = c .before .loop .inv .rest .long
 
 returns-3 : tie.Need-returns-3 Inv-loop μ-loop
-returns-3 c =
-    let l = c .before .loop in
-    let a = c .before .before .before .before .before .args in
-    cells-done _ _ _ (l .scratch) (now (a .vars)) (now (a .values)) (l .i) (l .inv .1) (c .loop-test .left)
+returns-3 c = cells-done (c .before .loop .inv) (c .loop-test .left)
 
 pub put-cells-spec : {M : Type 1} → statement M
 put-cells-spec =
