@@ -22,6 +22,8 @@ ghost use Rattle.held.specs.Held.{publicsSound, equationsSound};
 ghost use Rattle.validity.specs.Check.{equationNo, equationsNo, checkNo};
 ghost use Rattle.validity.specs.Scratch.{entry, valueAt, areEntries, PublicsPut, CellsPut, StepPut, StepsPut, AllPut, Sound, Added, AskedValid};
 ghost use Rattle.validity.specs.Valid.{sizeAsks, isWitnessValidNo, isWitnessValid};
+use held::held_pieces;
+use held::held_words;
 use instance::PermutationInstance;
 use limits::LABEL_END;
 use limits::Outcome;
