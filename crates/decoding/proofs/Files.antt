@@ -1,377 +1,311 @@
--- An instance read from bytes: the ends of reading its label, its parts, the file and the whole; the order of the
--- publics; and that the record and the stores hold the parts that were read. Assumes nothing.
-use Prim.Native.Nat.{ℕ, zero, suc, _+_, _*_, _-_, _≤_, _<_}
+-- An instance read: the ends of reading the file and the whole; what is answered, and what is left of the stores.
+-- Assumes nothing.
+use Prim.Native.Nat.{ℕ, zero, suc, _+_, _-_, _≤_, _<_}
 use mathlib.Core.Path.{_≡_, refl, sym, ap, _∙_, subst}
-use mathlib.Core.Bool.{Bool, true, false, _&&_}
-use mathlib.Core.List.{List, [], _∷_, _++_, append-nil}
+use mathlib.Core.Bool.{Bool, true, false}
+use mathlib.Core.List.{List}
 use native.Mathlib.Omega.{arith}
-use borrow.Author.Tests.{lt-ltb, le-ltb, leb-true}
-use lib.Dec.{ltb}
-use lib.ListN.{length, take, drop, getD, replicate}
-use lib.Seq.{take-at}
-use Rattle.limits.specs.Numbers.{maxCount}
-use Rattle.limits.specs.Questions.{firstNo}
-use Rattle.limits.proofs.Questions.{onYes-yes, onYes-no, accepted-says}
-use Rattle.words.specs.Store.{putWords, All}
-use Rattle.words.specs.Pieces.{wordsOf, flat}
-use Rattle.words.proofs.Held.{flat-length, pieces-flat}
-use Rattle.narg.specs.Reader.{Got, got, stop, word, wire, times, items}
-use Rattle.narg.specs.Cursor.{readU32}
+use lib.ListN.{length, drop, replicate, drop-of-length-le}
+use lib.Seq.{drop-cons}
+use Rattle.limits.specs.Questions.{_▸_, ask, firstNo}
+use Rattle.limits.specs.Asks.{storeAsks}
+use Rattle.limits.specs.declared.Outcome.the-variants.{Accepted, Refused}
+use Rattle.limits.proofs.Questions.{both, firstNo-append, zero-▸, ask-yes, ask-no}
+use Rattle.words.specs.Store.{All}
+use Rattle.narg.specs.Reader.{Got, got, stop, _>>_, give}
+use Rattle.narg.specs.Cursor.{cursor}
 use Rattle.narg.specs.declared.Cursor.{Cursor}
-use Rattle.narg.specs.declared.Word.the-variants.{Read as ReadWord, Short}
-use Rattle.narg.proofs.Lists.{passed, items-all, times-count}
-use Rattle.narg.proofs.At.{readU32-stop, word-next}
-use Rattle.allocator.specs.Slots.{Pair, pair}
-use Rattle.expr.specs.Equation.{Equation, equationsWords}
-use Rattle.expr.proofs.Held.{equations-words}
-use Rattle.instance.specs.Parts.{Parts, pairWords, pairsAt, partsOf}
+use Rattle.instance.specs.Parts.{Parts, pairsAt, partsOf}
 use Rattle.validated.specs.Validated.{gateNo}
 use Rattle.instance.specs.declared.PermutationInstance.{PermutationInstance}
-use Rattle.instance.proofs.Pairs.{pairs-at}
-use Rattle.instance.proofs.Parts.{pairsAt-take, pairsAt-pairWords, pairWords-length}
-use Rattle.limits.specs.declared.Outcome.the-variants.{Accepted, Refused}
 use Rattle.header.specs.Form.{letterI, version}
 use Rattle.header.specs.Read.{readHeader}
-use Rattle.decoding.specs.Read.{Rooms, rooms, File, file, readLabel, readPublics, readQueries, readEquations, readParts, increasing, pieceSize, readFile, readInstance}
-use Rattle.decoding.specs.Answers.{readAsks, instanceFromBytes, instanceRead, refusedInstance, instanceAnswer, publicsAfter, queriesAfter, equationsAfter, labelStart, span}
-use Rattle.decoding.specs.Given.{Holds, PartsGiven, ToldParts, FileGiven, ToldFile, After}
-use Rattle.decoding.specs.Told.{Listed}
+use Rattle.header.specs.Answers.{headerField}
+use Rattle.header.specs.declared.Field.{Field}
+use Rattle.header.specs.declared.Field.the-variants.{Read as ReadField}
+use Rattle.header.proofs.Got.{took, asked, field-got}
+use Rattle.items.proofs.Lists.{after-no, after-yes}
+use Rattle.parts.specs.Answers.{partsAsks, labelEnd, labelField, partsFrom, partsEnd, PartsReads}
+use Rattle.parts.specs.Told.{PartsStored, partsHere}
+use Rattle.parts.specs.declared.PartsRead.{PartsRead}
+use Rattle.parts.proofs.Label.{LabelGot, label-at}
+use Rattle.parts.proofs.Parts.{from-here, PartsGot, parts-at, pairs-held, parts-held}
+use Rattle.decoding.specs.Read.{Rooms, rooms, File, file, readLabel, readParts, increasing, isEmpty, ended, readFile, readInstance}
+use Rattle.decoding.specs.Answers.{readAsks, instanceFromBytes, headerEnd, labelStart, acceptedInstance, refusedInstance, instanceAnswer, Stores, stores, roomsOf, instanceGot, InstanceReads}
+use Rattle.decoding.specs.Given.{acceptedAt, fileEnd, fileAnswer, FileLeft, fileHere, FileTold, Kept, InstanceLeft, instanceHere, InstanceTold}
+use Rattle.decoding.specs.declared.InstanceRead.{InstanceRead}
 use Rattle.decoding.specs.declared.FileRead.{FileRead}
 use Rattle.decoding.specs.declared.FileRead.the-variants.{Read as FileGot, Refused as FileRefused}
-use Rattle.decoding.specs.declared.InstanceRead.{InstanceRead}
-use Rattle.decoding.proofs.Steps.{ended-left, ended-yes, put-padded}
 
--- ---- the order of the publics
-few : (n : ℕ) (s : List ℕ) → n ≤ 1 → increasing (pairsAt n s) ≡ true
-few zero s h = refl
-few (suc zero) s h = refl
-few (suc (suc n)) s h = absurd (omega arith)
+-- ---- the header's end
+pub header-past : (last width : ℕ) (s : List ℕ) (f : Field) → f ≡ headerField (readHeader last version width s) → (n words : ℕ) (next : Cursor) → f ≡ ReadField n words next
+    → next .at ≡ headerEnd
+header-past last width s f e n words next i = go (readHeader last version width s) (sym e ∙ i)
+  where
+    go : (g : Got (Unit {0})) → headerField g ≡ ReadField n words next → next .at ≡ headerEnd
+    go (got u r) h = let z : cursor headerEnd ≡ next = cc in ap (λ (c : Cursor). c .at) (sym z)
+    go (stop j) h = absurd (let z : _≡_ {A = ℕ} 0 1 = cc in omega arith)
 
-order-at : (s : List ℕ) (at left : ℕ) → 1 < left
-    → increasing (pairsAt left (drop at s)) ≡ (ltb (getD s at 0) (getD s (at + 2) 0) && increasing (pairsAt (left - 1) (drop (at + 2) s)))
-order-at s at left h =
-    let a = pairs-at s at left (omega arith) in
-    let b = pairs-at s (at + 2) (left - 1) (omega arith) in
-    ap increasing a
-    ∙ ap (λ (l : List Pair). increasing (pair (getD s at 0) (getD s (at + 1) 0) ∷ l)) b
-    ∙ ap (λ (l : List Pair). ltb (getD s at 0) (getD s (at + 2) 0) && increasing l) (sym b)
+pub header-end : (version width : ℕ) (s : List ℕ) (u : Unit {0}) (r : List ℕ) → readHeader letterI version width s ≡ got u r → r ≡ drop headerEnd s
+header-end version width s u r e =
+    let g = field-got letterI version width s (headerField (readHeader letterI version width s)) refl 0 0 (cursor headerEnd) (ap headerField e) in
+    let z : got u r ≡ got tt (drop headerEnd s) = sym e ∙ g in
+    cc
 
-module _ (s : List ℕ) (at left : ℕ) (whole : Bool) (e : increasing (pairsAt left (drop at s)) ≡ whole) where
-  pub order-no : 1 < left → getD s (at + 2) 0 ≤ getD s at 0 → false ≡ whole
-  order-no h k = sym (order-at s at left h ∙ simp (le-ltb (getD s at 0) (getD s (at + 2) 0) k)) ∙ e
+-- ---- nothing left over
+empty-left : (s : List ℕ) (end : ℕ) → end < length s → isEmpty (drop end s) ≡ false
+empty-left s end h = rw (drop-cons s end 0 h)
 
-  pub order-more : 1 < left → getD s at 0 < getD s (at + 2) 0 → increasing (pairsAt (left - 1) (drop (at + 2) s)) ≡ whole
-  order-more h k = sym (order-at s at left h ∙ simp (lt-ltb (getD s at 0) (getD s (at + 2) 0) k)) ∙ e
+pub ended-left : {B : Type 0} (s : List ℕ) (end : ℕ) (b : B) → end < length s → (ended >> give b) (drop end s) ≡ stop 28
+ended-left s end b h = rw (empty-left s end h)
 
-  pub order-done : left ≤ 1 → true ≡ whole
-  order-done h = sym (few left (drop at s) h) ∙ e
-
--- ---- the parts
-module _ (width p q e : ℕ) (s : List ℕ) (at : ℕ) where
-  abbrev partsGot : Got Parts
-  partsGot = readParts width (rooms p q e 0) (drop at s)
-
-  pub parts-short : readU32 s at ≡ Short → partsGot ≡ stop 20
-  unfolding readParts
-  parts-short w = rw (readU32-stop s at w)
-
-  module _ (vars : ℕ) (c : Cursor) (ew : readU32 s at ≡ ReadWord vars c) where
-    pub publics-stop : (k : ℕ) → readPublics p (drop (c .at) s) ≡ stop k → partsGot ≡ stop k
-    unfolding readParts
-    publics-stop k f = rw (word-next s at vars c ew, f)
-
-    module _ (ps : List Pair) (r1 : List ℕ) (ep : readPublics p (drop (c .at) s) ≡ got ps r1) where
-      pub queries-stop : (k : ℕ) → readQueries width q r1 ≡ stop k → partsGot ≡ stop k
-      unfolding readParts
-      queries-stop k f = rw (word-next s at vars c ew, ep, f)
-
-      module _ (qs : List (List ℕ)) (r2 : List ℕ) (eq : readQueries width q r1 ≡ got qs r2) where
-        pub equations-stop : (k : ℕ) → readEquations e r2 ≡ stop k → partsGot ≡ stop k
-        unfolding readParts
-        equations-stop k f = rw (word-next s at vars c ew, ep, eq, f)
-
-        pub parts-yes : (es : List Equation) (r3 : List ℕ) → readEquations e r2 ≡ got es r3
-            → partsGot ≡ got (record { vars = vars; publics = ps; queries = qs; equations = es }) r3
-        unfolding readParts
-        parts-yes es r3 f = rw (word-next s at vars c ew, ep, eq, f)
-
--- each query has 2w cells
-pub queries-cells : (width room : ℕ) (bs : List ℕ) (qs : List (List ℕ)) (r : List ℕ) → readQueries width room bs ≡ got qs r
-    → All (λ x. length x ≡ width + width) qs
-unfolding readQueries
-queries-cells width room bs qs r e =
-    let n = passed (word bs) (λ n. items (times wire (width + width)) (pieceSize width) room 0 n) qs r e in
-    items-all (times wire (width + width)) (λ x. length x ≡ width + width) (λ b a t f. times-count wire (width + width) b a t f)
-    (pieceSize width) room 0 (n .value) (n .rest) qs r (n .second)
-
--- ---- the record and the stores hold them
-module _ (width : ℕ) (parts : Parts) (ins : PermutationInstance) (p₀ p q₀ q e₀ e : List ℕ) (h : Holds width parts ins p₀ p q₀ q e₀ e) where
-  pub pairs-held : pairsAt (ins .publics) p ≡ parts .publics
-  pairs-held = rw (h .is, h .publics) (pairsAt-pairWords (parts .publics) (drop (0 + length (pairWords (parts .publics))) p₀))
-
-  pub pairs-fit : 2 * ins .publics ≤ length p₀
-  pairs-fit =
-      let f = h .publicsFit in
-      let l = pairWords-length (parts .publics) in
-      let i = ap (λ (x : PermutationInstance). x .publics) (h .is) in
-      omega arith
-
-  pub parts-held : partsOf ins p q e ≡ parts
-  unfolding partsOf
-  parts-held =
-      let ps = parts .publics in
-      let qs = parts .queries in
-      let es = parts .equations in
-      let lq = flat-length (width + width) qs (h .cells) in
-      let tq : take (wordsOf width (length qs)) (flat qs ++ drop (0 + length (flat qs)) q₀) ≡ flat qs ++ [] =
-      take-at (flat qs) (drop (0 + length (flat qs)) q₀) (wordsOf width (length qs)) lq ∙ sym (append-nil (flat qs)) in
-      let te : take (length (equationsWords es)) (equationsWords es ++ drop (0 + length (equationsWords es)) e₀) ≡ equationsWords es ++ [] =
-      take-at (equationsWords es) (drop (0 + length (equationsWords es)) e₀) (length (equationsWords es)) refl ∙ sym (append-nil (equationsWords es)) in
-      rw (
-        h .is,
-        h .publics,
-        h .queries,
-        h .equations,
-        pairsAt-take (length ps) (pairWords ps ++ drop (0 + length (pairWords ps)) p₀),
-        pairsAt-pairWords ps (drop (0 + length (pairWords ps)) p₀),
-        tq,
-        pieces-flat (width + width) qs [] (h .cells),
-        te,
-        equations-words es [],
-      )
-
--- the parts as their readers list them
-module _ (width label : ℕ) (s p₀ p₁ q₀ q₁ e₀ e₁ : List ℕ) (at vars : ℕ) (c : Cursor) (ew : readU32 s at ≡ ReadWord vars c)
-    (np wp : ℕ) (c1 : Cursor) (lp : Listed (readPublics (length p₀) (drop (c .at) s)) pairWords s p₀ p₁ np wp c1)
-    (nq wq : ℕ) (c2 : Cursor) (lq : Listed (readQueries width (length q₀) (drop (c1 .at) s)) flat s q₀ q₁ nq wq c2)
-    (ne we : ℕ) (c3 : Cursor) (le : Listed (readEquations (length e₀) (drop (c2 .at) s)) equationsWords s e₀ e₁ ne we c3) where
-  pub parts-given : PartsGiven width label (partsGot width (length p₀) (length q₀) (length e₀) s at) s p₀ p₁ q₀ q₁ e₀ e₁
-      (record { width = width; vars = vars; queries = nq; equations = ne; words = we; publics = np }) label c3
-  parts-given = record {
-    parts = record { vars = vars; publics = lp .items; queries = lq .items; equations = le .items };
-    reads =
-        parts-yes width (length p₀) (length q₀) (length e₀) s at vars c ew (lp .items) (drop (c1 .at) s) (lp .reads)
-        (lq .items) (drop (c2 .at) s) (lq .reads) (le .items) (drop (c3 .at) s) (le .reads);
-    holds = record {
-      is = λ j. record {
-        width = width;
-        vars = vars;
-        queries = lq .count j;
-        equations = le .count j;
-        words = le .size j;
-        publics = lp .count j;
-      };
-      cells = queries-cells width (length q₀) (drop (c1 .at) s) (lq .items) (drop (c2 .at) s) (lq .reads);
-      publics = lp .stored;
-      queries = lq .stored;
-      equations = le .stored;
-      publicsFit = lp .fits;
-    };
-    labelIs = refl;
-  }
-
--- ---- telling
-module _ (width label : ℕ) (g : Got Parts) (bytes p₀ p q₀ q e₀ e : List ℕ) where
-  pub tell-parts-stop : (j k : ℕ) → j ≡ k → g ≡ stop k → ToldParts width label g bytes p₀ p q₀ q e₀ e (FileRefused j)
-  unfolding ToldParts
-  tell-parts-stop j k i x = x ∙ ap (λ (n : ℕ). stop n) (sym i)
-
-  pub tell-parts : (ins : PermutationInstance) (n : ℕ) (next : Cursor) → PartsGiven width label g bytes p₀ p q₀ q e₀ e ins n next
-      → ToldParts width label g bytes p₀ p q₀ q e₀ e (FileGot ins n next)
-  unfolding ToldParts
-  tell-parts ins n next x = x
-
-  pub parts-told-stop : (r : FileRead) (k : ℕ) → r ≡ FileRefused k → ToldParts width label g bytes p₀ p q₀ q e₀ e r → g ≡ stop k
-  unfolding ToldParts
-  parts-told-stop r k i x = subst (ToldParts width label g bytes p₀ p q₀ q e₀ e) i x
-
-  pub parts-told : (r : FileRead) (ins : PermutationInstance) (n : ℕ) (next : Cursor) → r ≡ FileGot ins n next → ToldParts width label g bytes p₀ p q₀ q e₀ e r
-      → PartsGiven width label g bytes p₀ p q₀ q e₀ e ins n next
-  unfolding ToldParts
-  parts-told r ins n next i x = subst (ToldParts width label g bytes p₀ p q₀ q e₀ e) i x
-
-module _ (width : ℕ) (g : Got File) (bytes p₀ p q₀ q e₀ e : List ℕ) where
-  pub tell-file-stop : (j k : ℕ) → j ≡ k → g ≡ stop k → ToldFile width g bytes p₀ p q₀ q e₀ e (FileRefused j)
-  unfolding ToldFile
-  tell-file-stop j k i x = x ∙ ap (λ (n : ℕ). stop n) (sym i)
-
-  pub tell-file-on : (r : FileRead) (k : ℕ) → r ≡ FileRefused k → g ≡ stop k → ToldFile width g bytes p₀ p q₀ q e₀ e r
-  unfolding ToldFile
-  tell-file-on r k i x = rw i x
-
-  pub tell-file : (ins : PermutationInstance) (n : ℕ) (next : Cursor) → FileGiven width g bytes p₀ p q₀ q e₀ e ins n next
-      → ToldFile width g bytes p₀ p q₀ q e₀ e (FileGot ins n next)
-  unfolding ToldFile
-  tell-file ins n next x = x
-
-  pub file-told-stop : (r : FileRead) (k : ℕ) → r ≡ FileRefused k → ToldFile width g bytes p₀ p q₀ q e₀ e r → g ≡ stop k
-  unfolding ToldFile
-  file-told-stop r k i x = subst (ToldFile width g bytes p₀ p q₀ q e₀ e) i x
-
-  pub file-told : (r : FileRead) (ins : PermutationInstance) (n : ℕ) (next : Cursor) → r ≡ FileGot ins n next → ToldFile width g bytes p₀ p q₀ q e₀ e r
-      → FileGiven width g bytes p₀ p q₀ q e₀ e ins n next
-  unfolding ToldFile
-  file-told r ins n next i x = subst (ToldFile width g bytes p₀ p q₀ q e₀ e) i x
+pub ended-yes : {B : Type 0} (s : List ℕ) (end : ℕ) (b : B) → length s ≤ end → (ended >> give b) (drop end s) ≡ got b (drop end s)
+ended-yes s end b h = rw (drop-of-length-le s h)
 
 -- ---- the file
-module _ (width p q e : ℕ) (s : List ℕ) where
-  abbrev fileGot : Got File
-  fileGot = readFile version width (rooms p q e 0) s
+module _ (width : ℕ) (s p q e : List ℕ) (yes : firstNo (partsAsks width (rooms (length p) (length q) (length e) 0)) ≡ 0) where
+  abbrev here : Got File
+  here = fileHere width s p q e
 
-  pub header-refused : (k : ℕ) → readHeader letterI version width s ≡ stop k → fileGot ≡ stop k
+  pub header-no : (k : ℕ) → readHeader letterI version width s ≡ stop k → here ≡ stop k
   unfolding readFile
-  header-refused k f = rw f
+  header-no k f = rw f
 
-  module _ (u : Unit {0}) (r1 : List ℕ) (eh : readHeader letterI version width s ≡ got u r1) where
-    pub label-refused : (k : ℕ) → readLabel r1 ≡ stop k → fileGot ≡ stop k
+  module _ (c : Cursor) (eh : readHeader letterI version width s ≡ got tt (drop (c .at) s)) where
+    pub label-no : (k : ℕ) → readLabel (drop (c .at) s) ≡ stop k → here ≡ stop k
     unfolding readFile
-    label-refused k f = rw (eh, f)
+    label-no k f = rw (eh, f)
 
-    module _ (l r2 : List ℕ) (el : readLabel r1 ≡ got l r2) where
-      pub parts-refused : (k : ℕ) → readParts width (rooms p q e 0) r2 ≡ stop k → fileGot ≡ stop k
+    module _ (rl : Field) (al : rl ≡ labelField (c .at) (readLabel (drop (c .at) s))) (n : ℕ) (c1 : Cursor) (gl : LabelGot s (c .at) rl al n c1) where
+      parts-are : partsFrom width s (c1 .at) p q e ≡ partsHere width s (c1 .at) p q e
+      parts-are = from-here width s (c1 .at) p q e 0 (sym yes) refl
+
+      pub parts-no : (k : ℕ) → partsFrom width s (c1 .at) p q e ≡ stop k → here ≡ stop k
       unfolding readFile
-      parts-refused k f = rw (eh, el, f)
+      parts-no k f = rw (eh, gl .reads, sym parts-are ∙ f)
 
-      module _ (ps : Parts) (r3 : List ℕ) (ep : readParts width (rooms p q e 0) r2 ≡ got ps r3) where
-        pub order-refused : increasing (ps .publics) ≡ false → fileGot ≡ stop 27
-        unfolding readFile
-        order-refused f = rw (eh, el, ep, f)
+      module _ (p' q' e' : List ℕ) (rp : PartsRead) (hp : PartsReads width s (c1 .at) p q e p' q' e' rp) (ins : PermutationInstance) (end : Cursor)
+          (gp : PartsGot width s (c1 .at) p q e p' q' e' rp hp ins end) where
+        parts-got : readParts width (rooms (length p) (length q) (length e) 0) (drop (c1 .at) s) ≡ got (gp .parts) (gp .rest)
+        parts-got = sym parts-are ∙ gp .reads
 
-        pub file-yes : increasing (ps .publics) ≡ true → fileGot ≡ got (file l ps) r3
-        unfolding readFile
-        file-yes f = rw (eh, el, ep, f)
+        module _ (no : ℕ) (ao : no ≡ 0 ▸ ask 27 (increasing (pairsAt (ins .publics) p'))) where
+          order-is : no ≡ ask 27 (increasing (gp .parts .publics))
+          order-is = ao ∙ zero-▸ _ ∙ ap (λ l. ask 27 (increasing l)) (pairs-held width (gp .parts) ins (gp .is) p q e p' q' e' (gp .stored))
 
--- a file from its header, its label and its parts
-module _ (width : ℕ) (s p₀ p₁ q₀ q₁ e₀ e₁ : List ℕ) (u : Unit {0}) (r1 : List ℕ) (eh : readHeader letterI version width s ≡ got u r1)
-    (l r2 : List ℕ) (el : readLabel r1 ≡ got l r2) (len : ℕ) (i : len ≡ length l) (ins : PermutationInstance) (n : ℕ) (next : Cursor)
-    (g : PartsGiven width len (readParts width (rooms (length p₀) (length q₀) (length e₀) 0) r2) s p₀ p₁ q₀ q₁ e₀ e₁ ins n next) where
-  order-is : (b : Bool) → b ≡ increasing (pairsAt (ins .publics) p₁) → increasing (g .parts .publics) ≡ b
-  order-is b o = ap increasing (sym (pairs-held width (g .parts) ins p₀ p₁ q₀ q₁ e₀ e₁ (g .holds))) ∙ sym o
+          pub order-no : (no ≡ 0 → ⊥) → here ≡ stop no
+          unfolding readFile
+          order-no h = go (increasing (gp .parts .publics)) refl
+            where
+              go : (b : Bool) → increasing (gp .parts .publics) ≡ b → here ≡ stop no
+              go true t = absurd (h (order-is ∙ ask-yes 27 _ t))
+              go false t = rw (eh, gl .reads, parts-got, t) (ap (λ (m : ℕ). stop m) (sym (order-is ∙ ask-no 27 _ t)))
 
-  pub unordered : (b : Bool) → b ≡ increasing (pairsAt (ins .publics) p₁) → b ≡ false → fileGot width (length p₀) (length q₀) (length e₀) s ≡ stop 27
-  unordered b o f =
-      order-refused width (length p₀) (length q₀) (length e₀) s u r1 eh l r2 el (g .parts) (drop (next .at) s) (g .reads) (order-is b o ∙ f)
+          -- a label that ends at a cursor begins so many bytes before it
+          pub label-fits : n ≤ c1 .at
+          label-fits = let a = gl .count in let b = gl .past in omega arith
 
-  pub file-given : (b : Bool) → b ≡ increasing (pairsAt (ins .publics) p₁) → b ≡ true
-      → FileGiven width (fileGot width (length p₀) (length q₀) (length e₀) s) s p₀ p₁ q₀ q₁ e₀ e₁ ins n next
-  file-given b o f = record {
-    file = file l (g .parts);
-    reads = file-yes width (length p₀) (length q₀) (length e₀) s u r1 eh l r2 el (g .parts) (drop (next .at) s) (g .reads) (order-is b o ∙ f);
-    holds = g .holds;
-    labelIs = g .labelIs ∙ i;
-  }
+          pub file-told : no ≡ 0 → c .at ≡ headerEnd → (r : InstanceRead) → r ≡ acceptedAt ins (c1 .at - n) n → FileTold width s p q e p' q' e' (FileGot r end)
+          unfolding readFile FileLeft
+          file-told z i r er = go (increasing (gp .parts .publics)) refl
+            where
+              f : File
+              f = file (gl .label) (gp .parts)
 
--- ---- the whole
-module _ (width p q e t : ℕ) (s : List ℕ) where
-  abbrev pub instanceGot : Got File
-  instanceGot = readInstance version width (rooms p q e t) s
+              go : (b : Bool) → increasing (gp .parts .publics) ≡ b → FileTold width s p q e p' q' e' (FileGot r end)
+              go false t = absurd (let y = sym z ∙ order-is ∙ ask-no 27 _ t in omega arith)
+              go true t =
+                  let g : here ≡ got f (gp .rest) = rw (eh, gl .reads, parts-got, t) in
+                  let a = gl .count in
+                  let b = gl .past in
+                  let start : c1 .at - n ≡ labelStart = omega arith in
+                  let past : c1 .at ≡ labelEnd headerEnd (gl .label) = omega arith in
+                  let last = gp .past ∙ ap (λ (m : ℕ). partsEnd m (gp .parts)) past in
+                  record {
+                    answer =
+                        ap (λ (x : InstanceRead). FileGot x end) (er ∙ (λ j. acceptedAt (gp .is j) (start j) (a j)))
+                        ∙ (λ j. FileGot (acceptedInstance width f) (cursor (last j)))
+                        ∙ sym (ap (fileAnswer width) g);
+                    left = rw g (gp .stored);
+                  }
 
-  same-file : readFile version width (rooms p q e t) s ≡ fileGot width p q e s
+-- a refusal
+pub file-no : (width : ℕ) (s p q e p' q' e' : List ℕ) (j k : ℕ) → j ≡ k → fileHere width s p q e ≡ stop k → FileTold width s p q e p' q' e' (FileRefused j)
+unfolding FileLeft
+file-no width s p q e p' q' e' j k i x = record { answer = ap FileRefused i ∙ sym (ap (fileAnswer width) x); left = rw x tt }
+
+-- ---- what a file's answer tells
+-- where it ends, and that each query has 2w cells
+record FileAt (width : ℕ) (s : List ℕ) (f : File) (rest : List ℕ) : Type 0 where
+  next : rest ≡ drop (fileEnd f) s
+  cells : All (λ x. length x ≡ width + width) (f .parts .queries)
+
+file-at : (width : ℕ) (m : Rooms) (s : List ℕ) (f : File) (rest : List ℕ) → readFile version width m s ≡ got f rest → FileAt width s f rest
+unfolding readFile
+file-at width m s f rest e =
+    took (readHeader letterI version width s) _ f rest e (λ u r₁ e₁ n₁.
+    took (readLabel r₁) _ f rest n₁ (λ l r₂ e₂ n₂.
+    took (readParts width m r₂) _ f rest n₂ (λ ps r₃ e₃ n₃.
+    asked 27 (increasing (ps .publics)) r₃ _ f rest n₃ (λ t n₄.
+    let same : file l ps ≡ f = cc in
+    let last : r₃ ≡ rest = cc in
+    let i₁ = header-end version width s u r₁ e₁ in
+    let i₂ = label-at s headerEnd l r₂ (ap readLabel (sym i₁) ∙ e₂) .next in
+    let p = parts-at width m s (labelEnd headerEnd l) ps r₃ (ap (readParts width m) (sym i₂) ∙ e₃) in
+    record {
+      next = sym last ∙ p .next ∙ ap (λ (x : File). drop (fileEnd x) s) same;
+      cells = subst (λ (x : File). All (λ y. length y ≡ width + width) (x .parts .queries)) same (p .cells);
+    }))))
+
+module _ (width : ℕ) (s p q e p' q' e' : List ℕ) (r : FileRead) (h : FileTold width s p q e p' q' e' r) where
+  pub file-refused : (k : ℕ) → r ≡ FileRefused k → fileHere width s p q e ≡ stop k
+  file-refused k i = go (fileHere width s p q e) (sym (h .answer) ∙ i)
+    where
+      go : (y : Got File) → fileAnswer width y ≡ FileRefused k → y ≡ stop k
+      go (got f rest) z = absurd (let n : _≡_ {A = ℕ} 0 1 = cc in omega arith)
+      go (stop j) z = let n : j ≡ k = cc in ap (λ (m : ℕ). stop m) n
+
+  -- a file that was got, and stored
+  pub record FileGiven (read : InstanceRead) (end : Cursor) : Type 0 where
+    pub file : File
+    pub reads : fileHere width s p q e ≡ got file (drop (end .at) s)
+    pub is : read ≡ acceptedInstance width file
+    pub stored : PartsStored (file .parts) p q e p' q' e'
+    pub holds : partsOf (read .instance) p' q' e' ≡ file .parts
+
+  pub file-got : (read : InstanceRead) (end : Cursor) → r ≡ FileGot read end → FileGiven read end
+  unfolding FileLeft
+  file-got read end i = go (fileHere width s p q e) refl (sym (h .answer) ∙ i)
+    where
+      go : (y : Got File) → fileHere width s p q e ≡ y → fileAnswer width y ≡ FileGot read end → FileGiven read end
+      go (got f rest) g z =
+          let n : acceptedInstance width f ≡ read = cc in
+          let c : cursor (fileEnd f) ≡ end = cc in
+          let a = file-at width (rooms (length p) (length q) (length e) 0) s f rest g in
+          let st : PartsStored (f .parts) p q e p' q' e' = subst (λ (x : Got File). FileLeft x p q e p' q' e') g (h .left) in
+          record {
+            file = f;
+            reads = g ∙ ap (λ (t : List ℕ). got f t) (a .next ∙ ap (λ (x : Cursor). drop (x .at) s) c);
+            is = sym n;
+            stored = st;
+            holds = parts-held width (f .parts) (read .instance) (ap (λ (x : InstanceRead). x .instance) (sym n)) p q e p' q' e' st (a .cells);
+          }
+      go (stop j) g z = absurd (let n : _≡_ {A = ℕ} 0 1 = cc in omega arith)
+
+-- ---- the whole: the file, the gate and the end
+module _ (width : ℕ) (s : List ℕ) (before : Stores) where
+  abbrev whole : Got File
+  whole = instanceHere width s before
+
+  abbrev inner : Got File
+  inner = fileHere width s (before .publics) (before .queries) (before .equations)
+
+  same-file : readFile version width (roomsOf before) s ≡ inner
   unfolding readFile readParts
   same-file = refl
 
-  pub file-refused : (k : ℕ) → fileGot width p q e s ≡ stop k → instanceGot ≡ stop k
+  pub whole-refused : (k : ℕ) → inner ≡ stop k → whole ≡ stop k
   unfolding readInstance
-  file-refused k f = rw (same-file, f)
+  whole-refused k f = rw (same-file, f)
 
-  module _ (f : File) (end : ℕ) (ef : fileGot width p q e s ≡ got f (drop end s)) where
-    gate-number : (k : ℕ) → gateNo (f .parts) t ≡ suc k → instanceGot ≡ stop (suc k)
+  module _ (f : File) (end : ℕ) (ef : inner ≡ got f (drop end s)) where
+    gate-number : (k : ℕ) → gateNo (f .parts) (length (before .scratch)) ≡ suc k → whole ≡ stop (suc k)
     unfolding readInstance
     gate-number k g = rw (same-file, ef, g)
 
-    pub gate-refused : (k : ℕ) → k ≡ gateNo (f .parts) t → (k ≡ 0 → ⊥) → instanceGot ≡ stop k
-    gate-refused zero g n = absurd (n refl)
-    gate-refused (suc k) g n = gate-number k (sym g)
+    module _ (no : ℕ) (ps : Parts) (same : ps ≡ f .parts) (a : no ≡ 0 ▸ gateNo ps (length (before .scratch))) where
+      gate-is : no ≡ gateNo (f .parts) (length (before .scratch))
+      gate-is = a ∙ zero-▸ _ ∙ ap (λ (x : Parts). gateNo x (length (before .scratch))) same
 
-    module _ (z : gateNo (f .parts) t ≡ 0) where
-      pub end-refused : end < length s → instanceGot ≡ stop 28
-      unfolding readInstance
-      end-refused h = rw (same-file, ef, z) (ended-left s end f h)
+      pub gate-refused : (no ≡ 0 → ⊥) → whole ≡ stop no
+      gate-refused n = go no gate-is n
+        where
+          go : (k : ℕ) → k ≡ gateNo (f .parts) (length (before .scratch)) → (k ≡ 0 → ⊥) → whole ≡ stop k
+          go zero g h = absurd (h refl)
+          go (suc k) g h = gate-number k (sym g)
 
-      pub instance-yes : length s ≤ end → instanceGot ≡ got f (drop end s)
-      unfolding readInstance
-      instance-yes h = rw (same-file, ef, z) (ended-yes s end f h)
+      module _ (z : no ≡ 0) where
+        pub end-refused : end < length s → whole ≡ stop 28
+        unfolding readInstance
+        end-refused h = rw (same-file, ef, sym gate-is ∙ z) (ended-left s end f h)
 
--- ---- what is answered, and what is left of the stores
-module _ (width : ℕ) (g : Got File) (p₀ p q₀ q e₀ e s₀ s : List ℕ) where
-  pub after-stop : (k : ℕ) → g ≡ stop k → (refusedInstance k ≡ instanceAnswer width g) × After g p₀ p q₀ q e₀ e s₀ s
-  unfolding After
-  after-stop k f = rw f (refl, tt)
+        pub whole-yes : length s ≤ end → whole ≡ got f (drop end s)
+        unfolding readInstance
+        whole-yes h = rw (same-file, ef, sym gate-is ∙ z) (ended-yes s end f h)
 
-  pub after-got : (f : File) (rest : List ℕ) → g ≡ got f rest → (ins : PermutationInstance) (n : ℕ) → Holds width (f .parts) ins p₀ p q₀ q e₀ e → n ≡ length (f .label)
-      → s ≡ replicate (length s₀) 0
-      → (record { outcome = Accepted; instance = ins; label = span labelStart n } ≡ instanceAnswer width g) × After g p₀ p q₀ q e₀ e s₀ s
-  unfolding After
-  after-got f rest x ins n h l z =
-      rw x (
-        ap (λ (i : PermutationInstance). record { outcome = Accepted; instance = i; label = span labelStart n }) (h .is)
-            ∙ ap (λ (m : ℕ). record { outcome = Accepted; instance = instanceRead width (f .parts); label = span labelStart m }) l,
-        record { publics = h .publics; queries = h .queries; equations = h .equations; scratch = z },
-      )
+  -- telling
+  pub tell-no : (after : Stores) (r : InstanceRead) (k : ℕ) → r ≡ refusedInstance k → whole ≡ stop k → InstanceTold width s before after r
+  unfolding InstanceLeft
+  tell-no after r k i x = record { answer = i ∙ sym (ap (instanceAnswer width) x); left = rw x tt }
 
-pub after-same : (g h : Got File) (p₀ p q₀ q e₀ e s₀ s : List ℕ) → g ≡ h → After g p₀ p q₀ q e₀ e s₀ s → After h p₀ p q₀ q e₀ e s₀ s
-after-same g h p₀ p q₀ q e₀ e s₀ s i x = subst (λ (y : Got File). After y p₀ p q₀ q e₀ e s₀ s) i x
+  pub tell-yes : (after : Stores) (f : File) (rest : List ℕ) → whole ≡ got f rest → (r : InstanceRead) → r ≡ acceptedInstance width f
+      → PartsStored (f .parts) (before .publics) (before .queries) (before .equations) (after .publics) (after .queries) (after .equations)
+      → after .scratch ≡ replicate (length (before .scratch)) 0 → InstanceTold width s before after r
+  unfolding InstanceLeft
+  tell-yes after f rest x r i st sc = record { answer = i ∙ sym (ap (instanceAnswer width) x); left = rw x (record { parts = st; scratch = sc }) }
 
--- ---- 1 and 2 first
-pub rooms-are : {p p' q q' e e' : ℕ} (t : ℕ) → p ≡ p' → q ≡ q' → e ≡ e' → rooms p q e t ≡ rooms p' q' e' t
-rooms-are t i j k = λ x. rooms (i x) (j x) (k x) t
+-- ---- the open read: 1 and 2 first
+-- all 0
+abbrev pub zeros : List ℕ → List ℕ
+zeros s = replicate (length s) 0
 
-module _ (width : ℕ) (bytes : List ℕ) (m : Rooms) (no : ℕ) (e : no ≡ firstNo (readAsks width m)) where
-  pub asked-refused : (no ≡ 0 → ⊥) → instanceFromBytes width bytes m ≡ stop no
-  unfolding instanceFromBytes
-  asked-refused h = rw (← e) (onYes-no no _ _ h)
+abbrev pub cleared : Stores → Stores
+cleared before = stores (zeros (before .publics)) (zeros (before .queries)) (zeros (before .equations)) (zeros (before .scratch))
 
-  pub asked-read : no ≡ 0 → instanceFromBytes width bytes m ≡ readInstance version width m bytes
-  unfolding instanceFromBytes
-  asked-read z = rw (← e) (onYes-yes no _ _ z)
-
-  pub asked-sizes : no ≡ 0 → (m .publics ≤ maxCount) × (m .queries ≤ maxCount) × (m .equations ≤ maxCount) × (width ≤ 24)
-  asked-sizes z =
-      let says = accepted-says (readAsks width m) tt (sym e ∙ z) in (
-        leb-true (m .publics) maxCount (says 2),
-        leb-true (m .queries) maxCount (says 3),
-        leb-true (m .equations) maxCount (says 4),
-        leb-true width 24 (says 1),
-      )
-
--- ---- the stores of the open read
-pub record Left (width : ℕ) (g : Got File) (r : InstanceRead) (p q e p' q' e' : List ℕ) : Type 0 where
-  pub answer : r ≡ instanceAnswer width g
-  pub publics : p' ≡ publicsAfter (length p) g
-  pub queries : q' ≡ queriesAfter (length q) g
-  pub equations : e' ≡ equationsAfter (length e) g
-
-pub left-stop : (width : ℕ) (g : Got File) (k : ℕ) (p q e : List ℕ) → g ≡ stop k
-    → Left width g (refusedInstance k) p q e (replicate (length p) 0) (replicate (length q) 0) (replicate (length e) 0)
-left-stop width g k p q e f = record { answer = rw f; publics = rw f; queries = rw f; equations = rw f }
+pub cleared-is : (before : Stores) {p q e s : List ℕ} → p ≡ zeros (before .publics) → q ≡ zeros (before .queries) → e ≡ zeros (before .equations)
+    → s ≡ zeros (before .scratch) → stores p q e s ≡ cleared before
+cleared-is before i j k l = λ x. stores (i x) (j x) (k x) (l x)
 
 not-accepted : (k : ℕ) → Refused k ≡ Accepted → ⊥
 not-accepted k e = let z : _≡_ {A = ℕ} 0 1 = cc in omega arith
 
--- of an answer that is accepted, or is not
-module _ (width : ℕ) (g : Got File) (r : InstanceRead) (p q e s p₀ p₁ q₀ q₁ e₀ e₁ s₁ : List ℕ) (a : r ≡ instanceAnswer width g)
-    (x : After g p₀ p₁ q₀ q₁ e₀ e₁ s s₁) where
-  pub left-accepted : r .outcome ≡ Accepted → p₀ ≡ replicate (length p) 0 → q₀ ≡ replicate (length q) 0 → e₀ ≡ replicate (length e) 0
-      → Left width g r p q e p₁ q₁ e₁ × (s₁ ≡ replicate (length s) 0)
-  unfolding After
-  left-accepted o zp zq ze = go g refl
-    where
-      go : (y : Got File) → g ≡ y → Left width g r p q e p₁ q₁ e₁ × (s₁ ≡ replicate (length s) 0)
-      go (got f rest) i =
-          let k = subst (λ (y : Got File). After y p₀ p₁ q₀ q₁ e₀ e₁ s s₁) i x in (
-            record {
-              answer = a;
-              publics = rw i (k .publics ∙ ap (λ (l : List ℕ). putWords 0 (pairWords (f .parts .publics)) l) zp ∙ put-padded (length p) (pairWords (f .parts .publics)));
-              queries = rw i (k .queries ∙ ap (λ (l : List ℕ). putWords 0 (flat (f .parts .queries)) l) zq ∙ put-padded (length q) (flat (f .parts .queries)));
-              equations = rw i (k .equations ∙ ap (λ (l : List ℕ). putWords 0 (equationsWords (f .parts .equations)) l) ze ∙ put-padded (length e) (equationsWords (f .parts .equations)));
-            },
-            k .scratch,
-          )
-      go (stop k) i = absurd (not-accepted k (sym (ap (λ (y : InstanceRead). y .outcome) (a ∙ ap (instanceAnswer width) i)) ∙ o))
+module _ (width : ℕ) (bytes : List ℕ) (before : Stores) (no : ℕ) (a : no ≡ firstNo (readAsks width (roomsOf before))) where
+  abbrev got-file : Got File
+  got-file = instanceGot width bytes before
 
-  pub left-refused : (k : ℕ) → r .outcome ≡ Refused k → Left width g r p q e (replicate (length p) 0) (replicate (length q) 0) (replicate (length e) 0)
-  left-refused k o = go g refl
-    where
-      go : (y : Got File) → g ≡ y → Left width g r p q e (replicate (length p) 0) (replicate (length q) 0) (replicate (length e) 0)
-      go (got f rest) i = absurd (not-accepted k (sym o ∙ ap (λ (y : InstanceRead). y .outcome) (a ∙ ap (instanceAnswer width) i)))
-      go (stop j) i = record { answer = a; publics = rw i; queries = rw i; equations = rw i }
+  -- a refusal leaves all 0
+  no-reads : (r : InstanceRead) (k : ℕ) → got-file ≡ stop k → r ≡ instanceAnswer width got-file → (after : Stores) → after ≡ cleared before
+      → InstanceReads (instanceAnswer width) width bytes before after r
+  no-reads r k f i after c = record {
+    answer = i;
+    left = rw (f, c) (record { publics = refl; queries = refl; equations = refl; scratch = refl });
+  }
+
+  pub asked-no : (no ≡ 0 → ⊥) → (after : Stores) → after ≡ cleared before → (r : InstanceRead) → r ≡ refusedInstance no
+      → InstanceReads (instanceAnswer width) width bytes before after r
+  unfolding instanceFromBytes
+  asked-no h after c r i =
+      let f = after-no (firstNo (readAsks width (roomsOf before))) (instanceHere width bytes before) no a h in
+      no-reads r no f (i ∙ sym (ap (instanceAnswer width) f)) after c
+
+  -- the parts' questions among them
+  pub asked-parts : no ≡ 0 → firstNo (partsAsks width (rooms (length (before .publics)) (length (before .queries)) (length (before .equations)) 0)) ≡ 0
+  asked-parts z = both _ _ (sym (firstNo-append (partsAsks width (roomsOf before)) (storeAsks (length (before .scratch)))) ∙ sym a ∙ z) .0
+
+  whole-is : no ≡ 0 → got-file ≡ instanceHere width bytes before
+  unfolding instanceFromBytes
+  whole-is z = after-yes _ _ no a z
+
+  module _ (z : no ≡ 0) (after : Stores) (r : InstanceRead) (t : InstanceTold width bytes before after r) where
+    answered : r ≡ instanceAnswer width got-file
+    answered = t .answer ∙ sym (ap (instanceAnswer width) (whole-is z))
+
+    pub read-no : (k : ℕ) → r .outcome ≡ Refused k → (last : Stores) → last ≡ cleared before → InstanceReads (instanceAnswer width) width bytes before last r
+    read-no k o last c = go got-file refl
+      where
+        go : (y : Got File) → got-file ≡ y → InstanceReads (instanceAnswer width) width bytes before last r
+        go (got f rest) i = absurd (not-accepted k (sym o ∙ ap (λ (x : InstanceRead). x .outcome) (answered ∙ ap (instanceAnswer width) i)))
+        go (stop j) i = no-reads r j i answered last c
+
+    pub read-yes : r .outcome ≡ Accepted → InstanceReads (instanceAnswer width) width bytes before after r
+    unfolding InstanceLeft
+    read-yes o = go got-file refl
+      where
+        go : (y : Got File) → got-file ≡ y → InstanceReads (instanceAnswer width) width bytes before after r
+        go (got f rest) i =
+            let l : Kept f before after = subst (λ (x : Got File). InstanceLeft x before after) (sym (whole-is z) ∙ i) (t .left) in
+            record {
+              answer = answered;
+              left = rw i (record { publics = l .parts .publics; queries = l .parts .queries; equations = l .parts .equations; scratch = l .scratch });
+            }
+        go (stop j) i = absurd (not-accepted j (sym (ap (λ (x : InstanceRead). x .outcome) (answered ∙ ap (instanceAnswer width) i)) ∙ o))

@@ -1,103 +1,114 @@
--- Steps read: a count and as many items, the ends of reading, and what a read answers; and a store that was filled
--- with 0 before it was written to. Assumes nothing.
-use Prim.Native.Nat.{ℕ, zero, suc, _+_, _-_, _≤_, _<_}
-use mathlib.Core.Bool.{false}
-use mathlib.Core.Path.{_≡_, refl, sym, ap, _∙_}
-use mathlib.Core.List.{List, _++_}
+-- A witness read: the ends of reading it, what is answered, and what is left of the trace. Assumes nothing.
+use Prim.Native.Nat.{ℕ, _≤_, _<_}
+use mathlib.Core.Path.{_≡_, refl, sym, ap, _∙_, subst}
+use mathlib.Core.List.{List}
 use native.Mathlib.Omega.{arith}
-use borrow.Author.Tests.{leb-true}
-use lib.ListN.{length, drop, replicate, drop-of-length-le}
-use lib.Seq.{drop-cons}
-use Rattle.limits.specs.Numbers.{maxCount}
-use Rattle.limits.specs.Questions.{_▸_, firstNo}
-use Rattle.limits.specs.Asks.{widthAsks, storeAsks}
-use Rattle.limits.proofs.Questions.{▸-zero, zero-▸, ▸-assoc, onYes-yes, onYes-no, accepted-says}
-use Rattle.words.specs.Store.{putWords}
+use lib.ListN.{length, drop, replicate}
+use Rattle.limits.specs.Numbers.{prime}
+use Rattle.limits.specs.Questions.{firstNo}
+use Rattle.limits.specs.declared.Outcome.the-variants.{Accepted}
 use Rattle.words.specs.Pieces.{flat}
-use Rattle.narg.specs.Reader.{Got, got, stop, Reader, _>>=_, _>>_, give, word, items}
-use Rattle.narg.specs.Cursor.{readU32}
+use Rattle.narg.specs.Reader.{Got, got, stop}
 use Rattle.narg.specs.declared.Cursor.{Cursor}
-use Rattle.narg.specs.declared.Word.the-variants.{Read, Short}
-use Rattle.narg.proofs.At.{readU32-stop, word-next}
-use Rattle.limits.specs.declared.Outcome.the-variants.{Accepted, Refused}
 use Rattle.header.specs.Form.{letterW, version}
 use Rattle.header.specs.Read.{readHeader}
-use Rattle.decoding.specs.Read.{readSteps, isEmpty, ended, readWitness}
-use Rattle.decoding.specs.Answers.{witnessFromBytes, padded, witnessAnswer, traceAfter}
+use Rattle.header.specs.declared.Field.{Field}
+use Rattle.header.specs.declared.Field.the-variants.{Read, Refused as RefusedField}
+use Rattle.items.specs.Answers.{padded, listField, listEnd, piecesAsks, piecesGot, ListReads}
+use Rattle.items.proofs.Ends.{pieces-end}
+use Rattle.items.proofs.Lists.{ListGot, after-no, after-yes}
+use Rattle.decoding.specs.Read.{readSteps, readWitness}
+use Rattle.decoding.specs.Answers.{witnessFromBytes, headerEnd, refusedWitness, witnessAnswer, traceAfter}
+use Rattle.decoding.specs.declared.WitnessRead.{WitnessRead}
+use Rattle.decoding.specs.Given.{StepsLeft, stepsHere, StepsTold}
+use Rattle.decoding.proofs.Files.{ended-left, ended-yes}
 
--- ---- a store that was all 0
-drop-replicate : (n len : ℕ) → drop {A = ℕ} n (replicate len 0) ≡ replicate (len - n) 0
-drop-replicate zero len = let z : len - 0 ≡ len = omega arith in rw z
-drop-replicate (suc n) zero = let z : 0 - suc n ≡ 0 = omega arith in rw z
-drop-replicate (suc n) (suc len) = let z : suc len - suc n ≡ len - n = omega arith in rw z (drop-replicate n len)
+-- ---- the ends of reading it
+module _ (width : ℕ) (s t : List ℕ) (yes : firstNo (piecesAsks width (length t)) ≡ 0) where
+  abbrev here : Got (List (List ℕ))
+  here = stepsHere width s t
 
-pub put-padded : (len : ℕ) (words : List ℕ) → putWords 0 words (replicate len 0) ≡ padded len words
-put-padded len words =
-    let z : 0 + length words ≡ length words = omega arith in
-    rw z (ap (λ (l : List ℕ). words ++ l) (drop-replicate (length words) len))
-
--- a count and as many items, by what stands at the place
-module _ {A : Type 0} (p : Reader A) (size : A → ℕ) (room : ℕ) (s : List ℕ) (at : ℕ) where
-  pub count-short : readU32 s at ≡ Short → (word >>= λ n. items p size room 0 n) (drop at s) ≡ stop 20
-  count-short e = rw (readU32-stop s at e)
-
-  pub count-on : (n : ℕ) (next : Cursor) → readU32 s at ≡ Read n next
-      → items p size room 0 n (drop (next .at) s) ≡ (word >>= λ m. items p size room 0 m) (drop at s)
-  count-on n next e = rw (word-next s at n next e)
-
-empty-left : (s : List ℕ) (end : ℕ) → end < length s → isEmpty (drop end s) ≡ false
-empty-left s end h = rw (drop-cons s end 0 h)
-
--- nothing left over
-pub ended-left : {B : Type 0} (s : List ℕ) (end : ℕ) (b : B) → end < length s → (ended >> give b) (drop end s) ≡ stop 28
-ended-left s end b h = rw (empty-left s end h)
-
-pub ended-yes : {B : Type 0} (s : List ℕ) (end : ℕ) (b : B) → length s ≤ end → (ended >> give b) (drop end s) ≡ got b (drop end s)
-ended-yes s end b h = rw (drop-of-length-le s h)
-
-module _ (width room : ℕ) (s : List ℕ) where
-  pub witness-stop : (k : ℕ) → readHeader letterW version width s ≡ stop k → readWitness version width room s ≡ stop k
+  pub header-no : (k : ℕ) → readHeader letterW version width s ≡ stop k → here ≡ stop k
   unfolding readWitness
-  witness-stop k e = rw e
+  header-no k e = rw e
 
-  module _ (u : Unit {0}) (rest : List ℕ) (eh : readHeader letterW version width s ≡ got u rest) where
-    pub witness-steps-stop : (k : ℕ) → readSteps width room rest ≡ stop k → readWitness version width room s ≡ stop k
+  module _ (c : Cursor) (eh : readHeader letterW version width s ≡ got tt (drop (c .at) s)) where
+    abbrev steps : Got (List (List ℕ))
+    steps = piecesGot prime 4 width (length t) s (c .at)
+
+    steps-at : steps ≡ readSteps width (length t) (drop (c .at) s)
+    unfolding piecesGot readSteps
+    steps-at = after-yes _ _ 0 (sym yes) refl
+
+    pub steps-no : (k : ℕ) → steps ≡ stop k → here ≡ stop k
     unfolding readWitness
-    witness-steps-stop k e = rw (eh, e)
+    steps-no k e = rw (eh, sym steps-at ∙ e)
 
-    module _ (steps : List (List ℕ)) (end : ℕ) (es : readSteps width room rest ≡ got steps (drop end s)) where
-      pub witness-left : end < length s → readWitness version width room s ≡ stop 28
+    module _ (t' : List ℕ) (r : Field) (l : ListReads flat steps (c .at) t t' r) (n words : ℕ) (end : Cursor) (g : ListGot flat steps (c .at) t t' r l n words end) where
+      after-steps : readSteps width (length t) (drop (c .at) s) ≡ got (g .items) (drop (end .at) s)
+      unfolding readSteps
+      after-steps =
+          let f = sym steps-at ∙ g .reads in
+          f ∙ ap (λ (x : List ℕ). got (g .items) x) (pieces-end (length t) s (c .at) prime 4 width (g .items) (g .rest) f ∙ ap (λ (m : ℕ). drop m s) (sym (g .past)))
+
+      pub steps-left : end .at < length s → here ≡ stop 28
       unfolding readWitness
-      witness-left h = rw (eh, es) (ended-left s end steps h)
+      steps-left h = rw (eh, after-steps) (ended-left s (end .at) (g .items) h)
 
-      pub witness-yes : length s ≤ end → readWitness version width room s ≡ got steps (drop end s)
-      unfolding readWitness
-      witness-yes h = rw (eh, es) (ended-yes s end steps h)
+      pub steps-told : length s ≤ end .at → c .at ≡ headerEnd → StepsTold width s t t' (Read n words end)
+      unfolding readWitness StepsLeft
+      steps-told h i =
+          let f : here ≡ got (g .items) (drop (end .at) s) = rw (eh, after-steps) (ended-yes s (end .at) (g .items) h) in
+          let p = g .past ∙ ap (λ (m : ℕ). listEnd m (flat (g .items))) i in
+          record {
+            answer = (λ j. Read (g .count j) (g .size j) (record { at = p j })) ∙ sym (ap (listField flat headerEnd) f);
+            left = rw f (g .stored);
+          }
 
--- ---- what a read answers: 1 and 2 first
-pub from-no : (width len room a no : ℕ) → a ≡ 0 ▸ firstNo (widthAsks width) → no ≡ a ▸ firstNo (storeAsks len) → len ≡ room
-    → no ≡ firstNo (widthAsks width ++ storeAsks room)
-from-no width len room a k e f l = rw (f, e, l) (simp (▸-assoc, zero-▸, ▸-zero))
+-- a refusal
+pub told-no : (width : ℕ) (s t t' : List ℕ) (r : Field) (k : ℕ) → r ≡ RefusedField k → stepsHere width s t ≡ stop k → StepsTold width s t t' r
+unfolding StepsLeft
+told-no width s t t' r k i x = record { answer = i ∙ sym (ap (listField flat headerEnd) x); left = rw x tt }
 
-module _ (width : ℕ) (bytes : List ℕ) (room no : ℕ) (e : no ≡ firstNo (widthAsks width ++ storeAsks room)) where
-  pub from-refused : (no ≡ 0 → ⊥) → witnessFromBytes width bytes room ≡ stop no
+-- ---- the open read: 1 and 2 first
+module _ (width : ℕ) (s t : List ℕ) (no : ℕ) (a : no ≡ firstNo (piecesAsks width (length t))) where
+  abbrev whole : Got (List (List ℕ))
+  whole = witnessFromBytes width s (length t)
+
+  answer-no : (k : ℕ) (r : WitnessRead) (t' : List ℕ) → whole ≡ stop k → r ≡ refusedWitness k → t' ≡ replicate (length t) 0
+      → (r ≡ witnessAnswer whole) × (t' ≡ traceAfter (length t) whole)
+  answer-no k r t' e i z = rw e (i, z)
+
+  pub asked-no : (no ≡ 0 → ⊥) → (r : WitnessRead) (t' : List ℕ) → r ≡ refusedWitness no → t' ≡ replicate (length t) 0
+      → (r ≡ witnessAnswer whole) × (t' ≡ traceAfter (length t) whole)
   unfolding witnessFromBytes
-  from-refused h = rw (← e) (onYes-no no _ _ h)
+  asked-no h r t' i z = answer-no no r t' (after-no (firstNo (piecesAsks width (length t))) (stepsHere width s t) no a h) i z
 
-  pub from-read : no ≡ 0 → witnessFromBytes width bytes room ≡ readWitness version width room bytes
+  whole-is : no ≡ 0 → whole ≡ stepsHere width s t
   unfolding witnessFromBytes
-  from-read z = rw (← e) (onYes-yes no _ _ z)
+  whole-is z = after-yes _ _ no a z
 
-  pub from-sizes : no ≡ 0 → (room ≤ maxCount) × (width ≤ 24)
-  from-sizes z =
-      let q = widthAsks width ++ storeAsks room in
-      (leb-true room maxCount (accepted-says q tt (sym e ∙ z) 2), leb-true width 24 (accepted-says q tt (sym e ∙ z) 1))
+  module _ (z : no ≡ 0) (t₁ : List ℕ) (r : Field) (h : StepsTold width s t t₁ r) where
+    answered : r ≡ listField flat headerEnd whole
+    answered = h .answer ∙ sym (ap (listField flat headerEnd) (whole-is z))
 
-pub answer-stop : (g : Got (List (List ℕ))) (len k : ℕ) → g ≡ stop k
-    → (record { outcome = Refused k; steps = 0 } ≡ witnessAnswer g) × (replicate len 0 ≡ traceAfter len g)
-answer-stop g len k e = rw e (refl, refl)
+    pub read-no : (k : ℕ) → r ≡ RefusedField k → (w : WitnessRead) (t' : List ℕ) → w ≡ refusedWitness k → t' ≡ replicate (length t) 0
+        → (w ≡ witnessAnswer whole) × (t' ≡ traceAfter (length t) whole)
+    read-no k er w t' i zt = go whole refl (sym answered ∙ er)
+      where
+        go : (y : Got (List (List ℕ))) → whole ≡ y → listField flat headerEnd y ≡ RefusedField k → (w ≡ witnessAnswer whole) × (t' ≡ traceAfter (length t) whole)
+        go (got xs rest) f x = absurd (let n : _≡_ {A = ℕ} 0 1 = cc in omega arith)
+        go (stop m) f x = let n : m ≡ k = cc in answer-no k w t' (f ∙ ap (λ (y : ℕ). stop y) n) i zt
 
-pub answer-got : (g : Got (List (List ℕ))) (len : ℕ) (steps : List (List ℕ)) (rest : List ℕ) (n : ℕ) (trace : List ℕ) → g ≡ got steps rest
-    → n ≡ length steps → trace ≡ padded len (flat steps)
-    → (record { outcome = Accepted; steps = n } ≡ witnessAnswer g) × (trace ≡ traceAfter len g)
-answer-got g len steps rest n trace e c t = rw e (ap (λ (m : ℕ). record { outcome = Accepted; steps = m }) c, t)
+    pub read-yes : (n words : ℕ) (next : Cursor) → r ≡ Read n words next
+        → (record { outcome = Accepted; steps = n } ≡ witnessAnswer whole) × (t₁ ≡ traceAfter (length t) whole)
+    unfolding StepsLeft
+    read-yes n words next er = go whole refl (sym answered ∙ er)
+      where
+        go : (y : Got (List (List ℕ))) → whole ≡ y → listField flat headerEnd y ≡ Read n words next
+            → (record { outcome = Accepted; steps = n } ≡ witnessAnswer whole) × (t₁ ≡ traceAfter (length t) whole)
+        go (got xs rest) f w =
+            let c : length xs ≡ n = cc in
+            let l : t₁ ≡ padded (length t) (flat xs) = subst (λ (x : Got (List (List ℕ))). StepsLeft x t t₁) (sym (whole-is z) ∙ f) (h .left) in
+            rw f (ap (λ (m : ℕ). record { outcome = Accepted; steps = m }) (sym c), l)
+        go (stop m) f w = absurd (let k : _≡_ {A = ℕ} 0 1 = cc in omega arith)

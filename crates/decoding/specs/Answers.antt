@@ -1,21 +1,21 @@
 -- What the calls that read answer, and what they leave of the lent stores. Assumes nothing.
-use Prim.Native.Nat.{ℕ, _+_, _-_}
+use Prim.Native.Nat.{ℕ, _+_}
 use mathlib.Core.Path.{_≡_}
 use mathlib.Core.List.{List, [], _++_}
 use lib.ListN.{length, replicate}
 use denote.Ref.{RefT, now}
 use Rattle.limits.specs.Questions.{Question, firstNo}
-use Rattle.limits.specs.Asks.{widthAsks, storeAsks}
+use Rattle.limits.specs.Asks.{storeAsks}
+use Rattle.limits.specs.declared.Outcome.the-variants.{Accepted, Refused}
 use Rattle.words.specs.Pieces.{flat}
 use Rattle.narg.specs.Reader.{Got, got, stop}
-use Rattle.expr.specs.Equation.{equationsWords}
-use Rattle.limits.specs.declared.Outcome.the-variants.{Accepted, Refused}
-use Rattle.instance.specs.Parts.{Parts, pairWords}
 use Rattle.instance.specs.Looks.{noInstance}
-use Rattle.instance.specs.declared.PermutationInstance.{PermutationInstance}
 use Rattle.header.specs.Form.{version}
+-- a store after a read
+pub use Rattle.items.specs.Answers.{padded}
+use Rattle.items.specs.Answers.{gotAfter, storeAfter, piecesAsks}
+use Rattle.parts.specs.Answers.{partsAsks, instanceRead, wordsOfPublics, wordsOfQueries, wordsOfEquations}
 use Rattle.decoding.specs.Read.{Rooms, rooms, File, readInstance, readWitness}
-use Rattle.decoding.specs.Sound.{gotAfter}
 use Rattle.decoding.specs.declared.Span.{Span}
 use Rattle.decoding.specs.declared.InstanceRead.{InstanceRead}
 use Rattle.decoding.specs.declared.InstanceFile.{InstanceFile}
@@ -24,9 +24,7 @@ use Rattle.decoding.specs.declared.WitnessRead.{WitnessRead}
 -- ---- 1 and 2 first, then the bytes field by field
 -- 1, and 2 of each store
 abbrev pub readAsks : ℕ → Rooms → List Question
-readAsks width rooms =
-    widthAsks width
-    ++ (storeAsks (rooms .publics) ++ (storeAsks (rooms .queries) ++ (storeAsks (rooms .equations) ++ storeAsks (rooms .scratch))))
+readAsks width rooms = partsAsks width rooms ++ storeAsks (rooms .scratch)
 
 -- what a read of SFRI gets, or the number of its first no
 unfoldable pub instanceFromBytes : (width : ℕ) (bytes : List ℕ) → Rooms → Got File
@@ -35,27 +33,15 @@ instanceFromBytes width bytes rooms = gotAfter (firstNo (readAsks width rooms)) 
 -- what a read of SFRW gets, after 1 and 2 of its one store, or the number of its first no
 unfoldable pub witnessFromBytes : (width : ℕ) (bytes : List ℕ) → ℕ → Got (List (List ℕ))
 witnessFromBytes width bytes room =
-    gotAfter (firstNo (widthAsks width ++ storeAsks room)) (readWitness version width room bytes)
+    gotAfter (firstNo (piecesAsks width room)) (readWitness version width room bytes)
 
--- the record of parts that were read
-abbrev pub instanceRead : ℕ → Parts → PermutationInstance
-instanceRead width parts =
-    record {
-      width = width;
-      vars = parts .vars;
-      queries = length (parts .queries);
-      equations = length (parts .equations);
-      words = length (equationsWords (parts .equations));
-      publics = length (parts .publics);
-    }
+-- a header has 13 bytes
+abbrev pub headerEnd : ℕ
+headerEnd = 13
 
--- a store of that length: the words, then 0 to its end
-abbrev pub padded : ℕ → List ℕ → List ℕ
-padded len words = words ++ replicate (len - length words) 0
-
--- where a label lies in SFRI: behind the header and the label's length, 13 and 4 bytes
+-- where a label lies in SFRI: behind the header and the label's length, 4 bytes
 abbrev pub labelStart : ℕ
-labelStart = 17
+labelStart = headerEnd + 4
 
 -- where a part of the bytes lies
 abbrev pub span : (at len : ℕ) → Span
@@ -91,28 +77,28 @@ labelPlace (stop k) place = place
 
 -- the store of publics after a read: the pairs that were read, then 0
 abbrev pub publicsAfter : ℕ → Got File → List ℕ
-publicsAfter len (got file rest) = padded len (pairWords (file .parts .publics))
-publicsAfter len (stop k) = replicate len 0
+publicsAfter = storeAfter (λ file. wordsOfPublics (file .parts))
 
 -- the store of queries: those that were read, then 0
 abbrev pub queriesAfter : ℕ → Got File → List ℕ
-queriesAfter len (got file rest) = padded len (flat (file .parts .queries))
-queriesAfter len (stop k) = replicate len 0
+queriesAfter = storeAfter (λ file. wordsOfQueries (file .parts))
 
 -- the store of equations: those that were read, then 0
 abbrev pub equationsAfter : ℕ → Got File → List ℕ
-equationsAfter len (got file rest) = padded len (equationsWords (file .parts .equations))
-equationsAfter len (stop k) = replicate len 0
+equationsAfter = storeAfter (λ file. wordsOfEquations (file .parts))
+
+-- the answer of a refused read of SFRW
+abbrev pub refusedWitness : ℕ → WitnessRead
+refusedWitness k = record { outcome = Refused k; steps = 0 }
 
 -- the number of steps that were read, 0 where the read refuses
 abbrev pub witnessAnswer : Got (List (List ℕ)) → WitnessRead
 witnessAnswer (got steps rest) = record { outcome = Accepted; steps = length steps }
-witnessAnswer (stop k) = record { outcome = Refused k; steps = 0 }
+witnessAnswer (stop k) = refusedWitness k
 
 -- the trace after a read: the steps that were read, then 0
 abbrev pub traceAfter : ℕ → Got (List (List ℕ)) → List ℕ
-traceAfter len (got steps rest) = padded len (flat steps)
-traceAfter len (stop k) = replicate len 0
+traceAfter = storeAfter flat
 
 -- ---- an SFRI read: its answer, and what it leaves of what it was lent
 -- what the three stores and the scratch hold

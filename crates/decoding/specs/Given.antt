@@ -1,70 +1,96 @@
--- What the readers of an instance tell: the record and the stores hold the parts that were read. Where a reader
--- refuses, its stores may hold anything. Assumes nothing.
-use Prim.Native.Nat.{ℕ, _+_, _≤_}
+-- What the private readers of both byte forms tell, after 1 and 2. Where a reader refuses, its stores may hold
+-- anything. Only private contracts cite what is here. Assumes nothing.
+use Prim.Native.Nat.{ℕ}
 use mathlib.Core.Path.{_≡_}
 use mathlib.Core.List.{List}
-use lib.ListN.{length, drop, replicate}
-use Rattle.words.specs.Store.{putWords, All}
+use lib.ListN.{length, replicate}
 use Rattle.words.specs.Pieces.{flat}
 use Rattle.narg.specs.Reader.{Got, got, stop}
-use Rattle.narg.specs.declared.Cursor.{Cursor}
-use Rattle.expr.specs.Equation.{equationsWords}
-use Rattle.instance.specs.Parts.{Parts, pairWords}
+use Rattle.narg.specs.Cursor.{cursor}
 use Rattle.instance.specs.declared.PermutationInstance.{PermutationInstance}
-use Rattle.decoding.specs.Read.{File}
-use Rattle.decoding.specs.Answers.{instanceRead}
+use Rattle.limits.specs.declared.Outcome.the-variants.{Accepted}
+use Rattle.header.specs.Form.{version}
+use Rattle.header.specs.declared.Field.{Field}
+use Rattle.items.specs.Answers.{padded, listField}
+use Rattle.parts.specs.Answers.{labelEnd, partsEnd}
+use Rattle.parts.specs.Told.{PartsStored}
+use Rattle.parts.specs.declared.PartsRead.{PartsRead}
+use Rattle.parts.specs.declared.PartsRead.the-variants.{Read as ReadParts, Refused as RefusedParts}
+use Rattle.decoding.specs.Read.{rooms, File, readFile, readInstance, readWitness}
+use Rattle.decoding.specs.Answers.{headerEnd, acceptedInstance, instanceAnswer, Stores, roomsOf, span}
+use Rattle.decoding.specs.declared.InstanceRead.{InstanceRead}
 use Rattle.decoding.specs.declared.FileRead.{FileRead}
 use Rattle.decoding.specs.declared.FileRead.the-variants.{Read, Refused}
 
 -- the number of a refusal, or 0
+abbrev pub partsNumberOf : PartsRead → ℕ
+partsNumberOf (ReadParts ins next) = 0
+partsNumberOf (RefusedParts k) = k
+
+-- of a file
 abbrev pub fileNumberOf : FileRead → ℕ
-fileNumberOf (Read ins label next) = 0
+fileNumberOf (Read read next) = 0
 fileNumberOf (Refused k) = k
 
--- the record and the stores (before, after) hold the parts
-pub record Holds (width : ℕ) (parts : Parts) (ins : PermutationInstance) (p₀ p q₀ q e₀ e : List ℕ) : Type 0 where
-  pub is : ins ≡ instanceRead width parts
-  pub cells : All (λ x. length x ≡ width + width) (parts .queries)
-  pub publics : p ≡ putWords 0 (pairWords (parts .publics)) p₀
-  pub queries : q ≡ putWords 0 (flat (parts .queries)) q₀
-  pub equations : e ≡ putWords 0 (equationsWords (parts .equations)) e₀
-  pub publicsFit : length (pairWords (parts .publics)) ≤ length p₀
-
--- ---- the parts, with the length of the label before them handed on
--- what was read: parts that the reader gets too, held by the record and the stores
-pub record PartsGiven (width label : ℕ) (g : Got Parts) (bytes p₀ p q₀ q e₀ e : List ℕ) (ins : PermutationInstance) (n : ℕ) (next : Cursor) : Type 0 where
-  pub parts : Parts
-  pub reads : g ≡ got parts (drop (next .at) bytes)
-  pub holds : Holds width parts ins p₀ p q₀ q e₀ e
-  pub labelIs : n ≡ label
-
--- an answer tells what the reader of parts gets: what was read, or the number of a refusal
-unfoldable pub ToldParts : (width label : ℕ) → Got Parts → (bytes p₀ p q₀ q e₀ e : List ℕ) → FileRead → Type 0
-ToldParts width label g bytes p₀ p q₀ q e₀ e (Read ins n next) = PartsGiven width label g bytes p₀ p q₀ q e₀ e ins n next
-ToldParts width label g bytes p₀ p q₀ q e₀ e (Refused k) = g ≡ stop k
+-- the answer of an accepted read, by its record and where its label lies
+abbrev pub acceptedAt : PermutationInstance → (at len : ℕ) → InstanceRead
+acceptedAt ins at len = record { outcome = Accepted; instance = ins; label = span at len }
 
 -- ---- the file: label and parts
--- what was read: a file that the reader gets too, its parts held, its label by its length
-pub record FileGiven (width : ℕ) (g : Got File) (bytes p₀ p q₀ q e₀ e : List ℕ) (ins : PermutationInstance) (n : ℕ) (next : Cursor) : Type 0 where
-  pub file : File
-  pub reads : g ≡ got file (drop (next .at) bytes)
-  pub holds : Holds width (file .parts) ins p₀ p q₀ q e₀ e
-  pub labelIs : n ≡ length (file .label)
+-- where it ends
+abbrev pub fileEnd : File → ℕ
+fileEnd f = partsEnd (labelEnd headerEnd (f .label)) (f .parts)
 
--- an answer tells what the reader of a file gets
-unfoldable pub ToldFile : (width : ℕ) → Got File → (bytes p₀ p q₀ q e₀ e : List ℕ) → FileRead → Type 0
-ToldFile width g bytes p₀ p q₀ q e₀ e (Read ins n next) = FileGiven width g bytes p₀ p q₀ q e₀ e ins n next
-ToldFile width g bytes p₀ p q₀ q e₀ e (Refused k) = g ≡ stop k
+-- what its reader answers
+abbrev pub fileAnswer : ℕ → Got File → FileRead
+fileAnswer width (got f rest) = Read (acceptedInstance width f) (cursor (fileEnd f))
+fileAnswer width (stop k) = Refused k
 
--- ---- the stores and the scratch after an accepted read
--- each store begins with its part and goes on as it was; scratch is all 0
-pub record Kept (parts : Parts) (p₀ p q₀ q e₀ e s₀ s : List ℕ) : Type 0 where
-  pub publics : p ≡ putWords 0 (pairWords (parts .publics)) p₀
-  pub queries : q ≡ putWords 0 (flat (parts .queries)) q₀
-  pub equations : e ≡ putWords 0 (equationsWords (parts .equations)) e₀
-  pub scratch : s ≡ replicate (length s₀) 0
+-- what it leaves of the stores (before, after)
+unfoldable pub FileLeft : Got File → (p q e p' q' e' : List ℕ) → Type 0
+FileLeft (got f rest) p q e p' q' e' = PartsStored (f .parts) p q e p' q' e'
+FileLeft (stop k) p q e p' q' e' = Unit {0}
 
--- so after an accepted read; a refused one may leave anything
-unfoldable pub After : Got File → (p₀ p q₀ q e₀ e s₀ s : List ℕ) → Type 0
-After (got f rest) p₀ p q₀ q e₀ e s₀ s = Kept (f .parts) p₀ p q₀ q e₀ e s₀ s
-After (stop k) p₀ p q₀ q e₀ e s₀ s = Unit {0}
+-- what it gets, with these stores lent
+abbrev pub fileHere : (width : ℕ) (bytes p q e : List ℕ) → Got File
+fileHere width bytes p q e = readFile version width (rooms (length p) (length q) (length e) 0) bytes
+
+-- a file read into three stores
+pub record FileTold (width : ℕ) (bytes p q e p' q' e' : List ℕ) (r : FileRead) : Type 0 where
+  pub answer : r ≡ fileAnswer width (fileHere width bytes p q e)
+  pub left : FileLeft (fileHere width bytes p q e) p q e p' q' e'
+
+-- ---- the whole: the file, the gate and the end
+-- what a read leaves of the stores and the scratch
+pub record Kept (f : File) (before after : Stores) : Type 0 where
+  pub parts : PartsStored (f .parts) (before .publics) (before .queries) (before .equations) (after .publics) (after .queries) (after .equations)
+  pub scratch : after .scratch ≡ replicate (length (before .scratch)) 0
+
+-- so where it accepts
+unfoldable pub InstanceLeft : Got File → (before after : Stores) → Type 0
+InstanceLeft (got f rest) before after = Kept f before after
+InstanceLeft (stop k) before after = Unit {0}
+
+-- what it gets, with these stores lent
+abbrev pub instanceHere : (width : ℕ) (bytes : List ℕ) → Stores → Got File
+instanceHere width bytes before = readInstance version width (roomsOf before) bytes
+
+-- an instance read into its stores
+pub record InstanceTold (width : ℕ) (bytes : List ℕ) (before after : Stores) (r : InstanceRead) : Type 0 where
+  pub answer : r ≡ instanceAnswer width (instanceHere width bytes before)
+  pub left : InstanceLeft (instanceHere width bytes before) before after
+
+-- ---- the steps
+-- what their reader leaves of the trace
+unfoldable pub StepsLeft : Got (List (List ℕ)) → (t t' : List ℕ) → Type 0
+StepsLeft (got steps rest) t t' = t' ≡ padded (length t) (flat steps)
+StepsLeft (stop k) t t' = Unit {0}
+
+-- what it gets, with this trace lent
+abbrev pub stepsHere : (width : ℕ) (bytes t : List ℕ) → Got (List (List ℕ))
+stepsHere width bytes t = readWitness version width (length t) bytes
+
+-- the steps read into a trace
+pub record StepsTold (width : ℕ) (bytes t t' : List ℕ) (r : Field) : Type 0 where
+  pub answer : r ≡ listField flat headerEnd (stepsHere width bytes t)
+  pub left : StepsLeft (stepsHere width bytes t) t t'

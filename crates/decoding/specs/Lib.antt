@@ -1,5 +1,4 @@
 pub mod Read
 pub mod Sound
-pub mod Told
 pub mod Answers
 pub mod Given

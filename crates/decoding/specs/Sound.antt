@@ -6,17 +6,18 @@ use mathlib.Core.List.{List, [], _∷_}
 use lib.Dec.{leb}
 use lib.ListN.{length}
 use Rattle.limits.specs.Numbers.{prime, maxCount}
-use Rattle.limits.specs.Questions.{Question, question, onYes}
+use Rattle.limits.specs.Questions.{Question, question}
 use Rattle.words.specs.Store.{All}
 use Rattle.words.specs.Pieces.{wordsOf}
 use Rattle.utf8.specs.Utf8.{isUtf8}
 use Rattle.narg.specs.Bytes.{wordEnd}
-use Rattle.narg.specs.Reader.{Got, stop}
 use Rattle.allocator.specs.Slots.{Pair}
 use Rattle.expr.specs.Equation.{Term, Equation, equationsWords}
 use Rattle.instance.specs.Parts.{Parts}
 use Rattle.validated.specs.Validated.{gateAsks}
-use Rattle.decoding.specs.Read.{Rooms, increasing}
+-- what was got after some questions
+pub use Rattle.items.specs.Answers.{gotAfter}
+use Rattle.parts.specs.Read.{Rooms, increasing}
 
 -- ---- sound items: wires are below 2^30, units below p
 -- of a public
@@ -72,7 +73,3 @@ roomAsks width rooms parts =
 -- 27, then 16 and 12 to 15
 abbrev pub orderAsks : Rooms → Parts → List Question
 orderAsks rooms parts = question 27 (increasing (parts .publics)) ∷ gateAsks parts (rooms .scratch)
-
--- what was got where a number is 0, else that number's refusal
-abbrev pub gotAfter : {A : Type 0} → ℕ → Got A → Got A
-gotAfter k g = onYes k g (stop k)

@@ -1,7 +1,8 @@
 // The byte forms of an instance and of a witness (the source's encoding.rs), read. Crate `encoding` writes them and
-// tells their fields (encoding/src/lib.rt); what both begin with is read in crate `header`.
+// tells their fields (encoding/src/lib.rt); what both begin with is read in crate `header`, lists in `items`, label and
+// parts in `parts`.
 //
-// A read first fills its stores with 0 and a refused one leaves them all 0. Every open function answers on every
+// A store that is read into has 0 behind what was read, and is all 0 where a read refuses. Every open function answers on every
 // input.
 
 ghost use mathlib.Core.Path.{_≡_};
@@ -10,8 +11,6 @@ use instance::PermutationInstance;
 use limits::Outcome;
 use narg::Cursor;
 
-mod items;
-mod parts;
 mod sfri;
 mod sfrw;
 
@@ -46,10 +45,10 @@ pub struct WitnessRead {
     pub steps: u32,
 }
 
-// What a reader of several parts answers: the record, the length of the label, and the cursor past the parts; or
-// the number of the question that said no.
+// What a reader of label and parts answers: what an accepted read does, and the cursor past them; or the number of the
+// question that said no.
 enum FileRead {
-    Read(PermutationInstance, u32, Cursor),
+    Read(InstanceRead, Cursor),
     Refused(u32),
 }
 
@@ -58,7 +57,7 @@ fn file_number(file: FileRead) -> u32
     ensures { λ r. ⌜ r ≡ fileNumberOf file ⌝ }
 {
     match file {
-        FileRead::Read(_, _, _) => 0,
+        FileRead::Read(_, _) => 0,
         FileRead::Refused(k) => k,
     }
 }

@@ -1,22 +1,18 @@
 // An instance read: SFRI (the source's `PermutationInstance::from_bytes`).
 
 ghost use mathlib.Core.Path.{_≡_};
-ghost use Prim.Native.Nat.{_≤_};
+ghost use Prim.Native.Nat.{_-_, _≤_};
 ghost use lib.ListN.{length, replicate};
-ghost use Rattle.limits.specs.Numbers.{maxCount};
 ghost use Rattle.limits.specs.Questions.{firstNo};
-ghost use Rattle.header.specs.Form.{version};
-ghost use Rattle.decoding.specs.Read.{rooms, readFile, readInstance};
+ghost use Rattle.parts.specs.Answers.{partsAsks};
+ghost use Rattle.decoding.specs.Read.{rooms};
 ghost use Rattle.decoding.specs.Answers.{readAsks, refusedInstance, instanceAnswer, stores, InstanceReads, FileReads};
-ghost use Rattle.decoding.specs.Given.{ToldFile, After};
+ghost use Rattle.decoding.specs.Given.{partsNumberOf, acceptedAt, FileTold, InstanceTold};
 use crate::FileRead;
 use crate::InstanceFile;
 use crate::InstanceRead;
 use crate::Span;
 use crate::file_number;
-use crate::parts::increasing;
-use crate::parts::read_label;
-use crate::parts::read_parts;
 use header::Field;
 use header::VERSION;
 use header::field_number;
@@ -24,39 +20,31 @@ use header::read_header;
 use instance::PermutationInstance;
 use limits::Outcome;
 use narg::Cursor;
+use parts::PartsRead;
 
-// Where the label of an accepted read begins: behind the header and the label's length, 13 and 4 bytes.
-const LABEL_AT: usize = 17;
-
-// Header, label, parts, and 27.
-fn read_file(
-    width: u32,
-    bytes: &[u8],
-    publics: &mut [u32],
-    queries: &mut [u32],
-    equations: &mut [u32],
-) -> FileRead
-    requires { ⌜ (length (now publics) ≤ maxCount) × (length (now queries) ≤ maxCount) × (length (now equations) ≤ maxCount) × (width ≤ 24) ⌝ }
-    ensures { λ r. ⌜ ToldFile width
-        (readFile version width (rooms (length (now (publics .entry))) (length (now (queries .entry))) (length (now (equations .entry))) 0) (now (bytes .entry)))
-        (now (bytes .entry)) (now (publics .entry)) (now (publics .exit)) (now (queries .entry)) (now (queries .exit)) (now (equations .entry)) (now (equations .exit)) r ⌝ }
+// The number of a refusal, or 0.
+fn parts_number(parts: PartsRead) -> u32
+    ensures { λ r. ⌜ r ≡ partsNumberOf parts ⌝ }
 {
-    let header = read_header(bytes, b'I', VERSION, width);
-    let Field::Read(_, _, c) = header else {
-        return FileRead::Refused(field_number(header));
-    };
-    let label = read_label(bytes, c);
-    let Field::Read(len, _, after) = label else {
-        return FileRead::Refused(field_number(label));
-    };
-    let parts = read_parts(bytes, after, width, len, publics, queries, equations);
-    let FileRead::Read(ins, _, _) = parts else {
-        return parts;
-    };
-    if !increasing(publics, ins.publics) {
-        return FileRead::Refused(27);
+    match parts {
+        PartsRead::Read(_, _) => 0,
+        PartsRead::Refused(k) => k,
     }
-    parts
+}
+
+// The answer of an accepted read whose label has `len` bytes and ends at a cursor.
+fn accepted(instance: PermutationInstance, end: Cursor, len: u32) -> InstanceRead
+    requires { ⌜ len ≤ end .at ⌝ }
+    ensures { λ r. ⌜ r ≡ acceptedAt instance (end .at - len) len ⌝ }
+{
+    let last = end.at;
+    let len = len as usize;
+    let at = last - len;
+    InstanceRead {
+        outcome: Outcome::Accepted,
+        instance,
+        label: Span { at, len },
+    }
 }
 
 // The answer of a refused read.
@@ -77,7 +65,39 @@ fn refused(no: u32) -> InstanceRead
     }
 }
 
-// The file, then the gate (16, 12 to 15), then 28. Where it refuses, the stores may hold anything.
+// Header, label, parts, and 27, after 1 and 2.
+fn read_file(
+    width: u32,
+    bytes: &[u8],
+    publics: &mut [u32],
+    queries: &mut [u32],
+    equations: &mut [u32],
+) -> FileRead
+    requires { ⌜ firstNo (partsAsks width (rooms (length (now publics)) (length (now queries)) (length (now equations)) 0)) ≡ 0 ⌝ }
+    ensures { λ r. ⌜ FileTold width (now (bytes .entry))
+        (now (publics .entry)) (now (queries .entry)) (now (equations .entry))
+        (now (publics .exit)) (now (queries .exit)) (now (equations .exit)) r ⌝ }
+{
+    let header = read_header(bytes, b'I', VERSION, width);
+    let Field::Read(_, _, c) = header else {
+        return FileRead::Refused(field_number(header));
+    };
+    let label = parts::read_label(bytes, c);
+    let Field::Read(len, _, after) = label else {
+        return FileRead::Refused(field_number(label));
+    };
+    let parts = parts::read_parts(bytes, after, width, publics, queries, equations);
+    let PartsRead::Read(instance, end) = parts else {
+        return FileRead::Refused(parts_number(parts));
+    };
+    let no = parts::asked_order(0, publics, instance.publics);
+    if no != 0 {
+        return FileRead::Refused(no);
+    }
+    FileRead::Read(accepted(instance, after, len), end)
+}
+
+// The file, then the gate (16, 12 to 15), then 28, after 1 and 2.
 fn read_instance(
     width: u32,
     bytes: &[u8],
@@ -86,15 +106,16 @@ fn read_instance(
     equations: &mut [u32],
     scratch: &mut [u32],
 ) -> InstanceRead
-    requires { ⌜ (length (now publics) ≤ maxCount) × (length (now queries) ≤ maxCount) × (length (now equations) ≤ maxCount) × (width ≤ 24) ⌝ }
-    ensures { λ r. ⌜ (r ≡ instanceAnswer width (readInstance version width (rooms (length (now (publics .entry))) (length (now (queries .entry))) (length (now (equations .entry))) (length (now (scratch .entry)))) (now (bytes .entry))))
-        × After (readInstance version width (rooms (length (now (publics .entry))) (length (now (queries .entry))) (length (now (equations .entry))) (length (now (scratch .entry)))) (now (bytes .entry)))
-        (now (publics .entry)) (now (publics .exit)) (now (queries .entry)) (now (queries .exit)) (now (equations .entry)) (now (equations .exit)) (now (scratch .entry)) (now (scratch .exit)) ⌝ }
+    requires { ⌜ firstNo (partsAsks width (rooms (length (now publics)) (length (now queries)) (length (now equations)) 0)) ≡ 0 ⌝ }
+    ensures { λ r. ⌜ InstanceTold width (now (bytes .entry))
+        (stores (now (publics .entry)) (now (queries .entry)) (now (equations .entry)) (now (scratch .entry)))
+        (stores (now (publics .exit)) (now (queries .exit)) (now (equations .exit)) (now (scratch .exit))) r ⌝ }
 {
     let file = read_file(width, bytes, publics, queries, equations);
-    let FileRead::Read(ins, len, end) = file else {
+    let FileRead::Read(read, end) = file else {
         return refused(file_number(file));
     };
+    let ins = read.instance;
     let no = validated::asked_validated(0, ins, publics, queries, equations, scratch);
     if no != 0 {
         return refused(no);
@@ -102,36 +123,31 @@ fn read_instance(
     if end.at < bytes.len() {
         return refused(28);
     }
-    InstanceRead {
-        outcome: Outcome::Accepted,
-        instance: ins,
-        label: Span {
-            at: LABEL_AT,
-            len: len as usize,
-        },
-    }
-}
-
-// All three stores become 0.
-fn clear(publics: &mut [u32], queries: &mut [u32], equations: &mut [u32])
-    ensures { λ _. ⌜ (now (publics .exit) ≡ replicate (length (now (publics .entry))) 0)
-        × (now (queries .exit) ≡ replicate (length (now (queries .entry))) 0)
-        × (now (equations .exit) ≡ replicate (length (now (equations .entry))) 0) ⌝ }
-{
-    words::fill(publics, 0);
-    words::fill(queries, 0);
-    words::fill(equations, 0);
+    read
 }
 
 // What a refused read leaves: three stores and the scratch, all 0.
-fn clear_all(publics: &mut [u32], queries: &mut [u32], equations: &mut [u32], scratch: &mut [u32])
+fn clear(publics: &mut [u32], queries: &mut [u32], equations: &mut [u32], scratch: &mut [u32])
     ensures { λ _. ⌜ (now (publics .exit) ≡ replicate (length (now (publics .entry))) 0)
         × (now (queries .exit) ≡ replicate (length (now (queries .entry))) 0)
         × (now (equations .exit) ≡ replicate (length (now (equations .entry))) 0)
         × (now (scratch .exit) ≡ replicate (length (now (scratch .entry))) 0) ⌝ }
 {
-    clear(publics, queries, equations);
+    words::fill(publics, 0);
+    words::fill(queries, 0);
+    words::fill(equations, 0);
     words::fill(scratch, 0);
+}
+
+// What a read asks before the bytes: 1, and 2 of each store.
+fn asked_read(width: u32, publics: usize, queries: usize, equations: usize, scratch: usize) -> u32
+    ensures { λ r. ⌜ r ≡ firstNo (readAsks width (rooms publics queries equations scratch)) ⌝ }
+{
+    let a = limits::asked_width(0, width);
+    let b = limits::asked_store(a, publics);
+    let c = limits::asked_store(b, queries);
+    let d = limits::asked_store(c, equations);
+    limits::asked_store(d, scratch)
 }
 
 // SFRI of that width into lent stores: each part, then 0 to its store's end; all 0 where it refuses. Questions 1, 2,
@@ -149,7 +165,6 @@ pub fn instance_from_bytes_at(
         (stores (now (publics .entry)) (now (queries .entry)) (now (equations .entry)) (now (scratch .entry)))
         (stores (now (publics .exit)) (now (queries .exit)) (now (equations .exit)) (now (scratch .exit))) r ⌝ }
 {
-    clear(publics, queries, equations);
     let no = asked_read(
         width,
         publics.len(),
@@ -158,27 +173,16 @@ pub fn instance_from_bytes_at(
         scratch.len(),
     );
     if no != 0 {
-        words::fill(scratch, 0);
+        clear(publics, queries, equations, scratch);
         return refused(no);
     }
     let read = read_instance(width, bytes, publics, queries, equations, scratch);
     let outcome = read.outcome;
     let Outcome::Accepted = outcome else {
-        clear_all(publics, queries, equations, scratch);
+        clear(publics, queries, equations, scratch);
         return read;
     };
     read
-}
-
-// What a read asks before the bytes: 1, and 2 of each store.
-fn asked_read(width: u32, publics: usize, queries: usize, equations: usize, scratch: usize) -> u32
-    ensures { λ r. ⌜ r ≡ firstNo (readAsks width (rooms publics queries equations scratch)) ⌝ }
-{
-    let a = limits::asked_width(0, width);
-    let b = limits::asked_store(a, publics);
-    let c = limits::asked_store(b, queries);
-    let d = limits::asked_store(c, equations);
-    limits::asked_store(d, scratch)
 }
 
 // The same read, with the label as that very part of the bytes, taken through a reader; after a refusal it is empty.

@@ -21,7 +21,7 @@ use Rattle.expr.proofs.Held.{length-equation}
 use Rattle.encoding.specs.Form.{pairBytes, termBytes, pieceBytes, equationBytes}
 use Rattle.decoding.specs.Read.{readPair, readTerm, readEquation, pairSize, pieceSize, sizeOf}
 use Rattle.decoding.specs.Sound.{SoundPair, SoundTerm, SoundEquation, SoundPiece}
-use Rattle.decoding.proofs.Fields.{readTwo, Two, two-got, term}
+use Rattle.items.proofs.Fields.{readTwo, Two, two-got, term}
 
 -- a word that was read from bytes is a word
 pub word-below : (bs : List ℕ) (v : ℕ) (r : List ℕ) → IsBytes bs → word bs ≡ got v r → v < wordEnd

@@ -1,28 +1,26 @@
--- `sfri::instance_from_bytes_at` meets its contract: the stores are all 0 before they are read into, and again, with the
--- scratch, where a read is refused.
+-- `sfri::instance_from_bytes_at` meets its contract: 1 and 2, then the read; and the stores and the scratch all 0 where
+-- either refuses.
 -- Assumes nothing.
 use Prim.Native.Nat.{ℕ}
-use mathlib.Core.Path.{_≡_, sym, ap, _∙_}
-use native.Mathlib.Omega.{arith}
+use mathlib.Core.Path.{ap, _∙_}
+use mathlib.Core.List.{List}
 use denote.Ref.{now}
-use lib.ListN.{length, replicate}
-use Rattle.limits.specs.Questions.{firstNo}
-use Rattle.header.specs.Form.{version}
-use Rattle.decoding.specs.Read.{Rooms, rooms, readInstance}
-use Rattle.decoding.specs.Answers.{readAsks, instanceFromBytes, instanceAnswer}
-use Rattle.decoding.proofs.Files.{rooms-are, after-same, asked-refused, asked-read, asked-sizes, left-stop, left-refused, left-accepted}
+use lib.ListN.{replicate}
+use Rattle.decoding.specs.Answers.{stores}
+use Rattle.decoding.proofs.Files.{cleared-is, asked-no, asked-parts, read-no, read-yes}
 use borrow.Author.Needs.{needs}
 use Rattle.decoding.proofs.sfri.instance_from_bytes_at.Statement.{statement}
 use Rattle.decoding.proofs.sfri.instance_from_bytes_at.Tie as tie
 
-clear-requires : tie.Need-clear-requires
-clear-requires c κs = search needs
+-- that many zeros
+abbrev nulls : ℕ → List ℕ
+nulls n = replicate n 0
 
 asked-read-requires : tie.Need-asked-read-requires
 asked-read-requires c κs = search needs
 
-fill-requires : tie.Need-fill-requires
-fill-requires c κs = search needs
+clear-requires : tie.Need-clear-requires
+clear-requires c κs = search needs
 
 refused-requires : tie.Need-refused-requires
 refused-requires c κs = search needs
@@ -41,42 +39,20 @@ same-length-4 c = search needs
 
 returns : tie.Need-returns
 returns c =
-    let k = c .before .before .before .before .before .before .before .before .before .before .before .before .before in
-    let a = k .before .before .before .before .before .before .before .before .before .args in
-    let p = now (a .publics) in
-    let q = now (a .queries) in
-    let e = now (a .equations) in
-    let s = now (a .scratch) in
-    let m = rooms (length p) (length q) (length e) (length s) in
-    let same = rooms-are (length s) (k .clear .kept .0) (k .clear .kept .1 .0) (k .clear .kept .1 .1 .0) in
-    let asked = c .before .before .before .before .before .before .asked-read .ensures ∙ ap (λ (x : Rooms). firstNo (readAsks (a .width) x)) same in
-    let l = left-stop (a .width) (instanceFromBytes (a .width) (now (a .bytes)) m) _ p q e (asked-refused (a .width) (now (a .bytes)) m _ asked (c .before .before .before .before .before .if1 .taken)) in record {
-      answer = c .refused .ensures ∙ l .answer;
-      left = record {
-        publics = k .clear .ensures .0 ∙ l .publics;
-        queries = k .clear .ensures .1 ∙ l .queries;
-        equations = k .clear .ensures .2 ∙ l .equations;
-        scratch = c .before .before .before .fill .ensures;
-      };
-    }
+    let k = c .before .before .before .before .before .before .before .before .before in
+    let i = k .before .before .before .before .before in
+    let q = i .before in
+    let a = q .before .before .before .before .before .before .args in
+    let before = stores (now (a .publics)) (now (a .queries)) (now (a .equations)) (now (a .scratch)) in
+    let z = k .clear .ensures in
+    asked-no (a .width) (now (a .bytes)) before _ (q .asked-read .ensures) (i .if1 .taken) _ (cleared-is before (z .0) (z .1) (z .2) (z .3)) _ (c .refused .ensures)
 
 read-instance-requires : tie.Need-read-instance-requires
 read-instance-requires c κs =
-    let k = c .before .before .before .before .before .before .before .before .before .before .before .before in
-    let a = k .before .before .before .before .before .before .before .before .before .args in
-    let p = now (a .publics) in
-    let q = now (a .queries) in
-    let e = now (a .equations) in
-    let s = now (a .scratch) in
-    let m = rooms (length p) (length q) (length e) (length s) in
-    let same = rooms-are (length s) (k .clear .kept .0) (k .clear .kept .1 .0) (k .clear .kept .1 .1 .0) in
-    let asked = c .before .before .before .before .before .asked-read .ensures ∙ ap (λ (x : Rooms). firstNo (readAsks (a .width) x)) same in
-    let z = asked-sizes (a .width) (now (a .bytes)) m _ asked (c .before .before .before .before .if1 .left) in (
-      omega (arith, z .0, k .clear .kept .0),
-      omega (arith, z .1, k .clear .kept .1 .0),
-      omega (arith, z .2, k .clear .kept .1 .1 .0),
-      z .3,
-    )
+    let q = c .before .before .before .before .before in
+    let a = q .before .before .before .before .before .before .args in
+    let before = stores (now (a .publics)) (now (a .queries)) (now (a .equations)) (now (a .scratch)) in
+    asked-parts (a .width) (now (a .bytes)) before _ (q .asked-read .ensures) (c .before .before .before .before .if1 .left)
 
 enum-told : tie.Need-enum-told
 enum-told c = search needs
@@ -84,14 +60,14 @@ enum-told c = search needs
 enum-told-2 : tie.Need-enum-told-2
 enum-told-2 c = search needs
 
-clear-all-requires : tie.Need-clear-all-requires
-clear-all-requires c κs = search needs
+clear-requires-2 : tie.Need-clear-requires-2
+clear-requires-2 c κs = search needs
 
 same-length-5 : tie.Need-same-length-5
-same-length-5 c = c .before .before .before .before .before .before .before .before .clear-all .kept .0 ∙ c .before .before .before .before .before .before .before .before .before .before .before .before .before .before .before .before .before .before .before .before .before .before .before .read-instance .kept .1 .1 .0 ∙ c .before .before .before .before .before .before .before .before .before .before .before .before .before .before .before .before .before .before .before .before .before .before .before .before .before .before .before .before .before .before .before .before .before .before .before .before .clear .kept .0
+same-length-5 c = search needs
 
 same-length-6 : tie.Need-same-length-6
-same-length-6 c = c .before .before .before .before .before .before .before .before .clear-all .kept .1 .0 ∙ c .before .before .before .before .before .before .before .before .before .before .before .before .before .before .before .before .before .before .before .before .before .before .before .read-instance .kept .1 .1 .1 .0 ∙ c .before .before .before .before .before .before .before .before .before .before .before .before .before .before .before .before .before .before .before .before .before .before .before .before .before .before .before .before .before .before .before .before .before .before .before .before .clear .kept .1 .0
+same-length-6 c = search needs
 
 same-length-7 : tie.Need-same-length-7
 same-length-7 c = search needs
@@ -101,31 +77,17 @@ same-length-8 c = search needs
 
 returns-2 : tie.Need-returns-2
 returns-2 c =
-    let k = c .before .before .before .before .before .before .before .before .before .before .before .before .before .before .before .before .before .before .before .before .before .before .before .before .before .before .before .before .before .before .before .before .before .before .before .before in
-    let a = k .before .before .before .before .before .before .before .before .before .args in
-    let p = now (a .publics) in
-    let q = now (a .queries) in
-    let e = now (a .equations) in
-    let s = now (a .scratch) in
-    let m = rooms (length p) (length q) (length e) (length s) in
-    let same = rooms-are (length s) (k .clear .kept .0) (k .clear .kept .1 .0) (k .clear .kept .1 .1 .0) in
-    let asked = c .before .before .before .before .before .before .before .before .before .before .before .before .before .before .before .before .before .before .before .before .before .before .before .before .before .before .before .before .before .asked-read .ensures ∙ ap (λ (x : Rooms). firstNo (readAsks (a .width) x)) same in
-    let r = c .before .before .before .before .before .before .before .before .before .before .before .before .before .before .before .before .before .before .before .before .before .before .before in
-    let g = instanceFromBytes (a .width) (now (a .bytes)) m in
-    let eg : readInstance version (a .width) (rooms (length (k .clear .last .0)) (length (k .clear .last .1 .0)) (length (k .clear .last .1 .1 .0)) (length s)) (now (a .bytes)) ≡ g =
-    ap (λ (x : Rooms). readInstance version (a .width) x (now (a .bytes))) same ∙ sym (asked-read (a .width) (now (a .bytes)) m _ asked (c .before .before .before .before .before .before .before .before .before .before .before .before .before .before .before .before .before .before .before .before .before .before .before .before .before .before .before .before .if1 .left)) in
-    let answer = r .read-instance .ensures .0 ∙ ap (instanceAnswer (a .width)) eg in
-    let after = after-same _ _ _ _ _ _ _ _ _ _ eg (r .read-instance .ensures .1) in
-    let l = left-refused (a .width) g _ p q e s _ _ _ _ _ _ _ answer after _ (c .before .before .before .before .before .before .before .before .before .before .before .before .before .enum-told2 .given .1) in
-    let w = c .before .before .before .before .before .before .before .before in record {
-      answer = l .answer;
-      left = record {
-        publics = w .clear-all .ensures .0 ∙ ap (λ (n : ℕ). replicate {A = ℕ} n 0) (r .read-instance .kept .1 .1 .0 ∙ k .clear .kept .0) ∙ l .publics;
-        queries = w .clear-all .ensures .1 ∙ ap (λ (n : ℕ). replicate {A = ℕ} n 0) (r .read-instance .kept .1 .1 .1 .0 ∙ k .clear .kept .1 .0) ∙ l .queries;
-        equations = w .clear-all .ensures .2 ∙ ap (λ (n : ℕ). replicate {A = ℕ} n 0) (r .read-instance .kept .1 .1 .1 .1 .0 ∙ k .clear .kept .1 .1 .0) ∙ l .equations;
-        scratch = w .clear-all .ensures .3 ∙ ap (λ (n : ℕ). replicate {A = ℕ} n 0) (r .read-instance .kept .1 .1 .1 .1 .1 .0);
-      };
-    }
+    let k = c .before .before .before .before .before .before .before .before in
+    let t = k .before .before .before .before .before in
+    let r = t .before .before .before .before .before .before .before .before .before .before in
+    let i = r .before .before .before .before .before in
+    let q = i .before in
+    let a = q .before .before .before .before .before .before .args in
+    let before = stores (now (a .publics)) (now (a .queries)) (now (a .equations)) (now (a .scratch)) in
+    let z = k .clear2 .ensures in
+    let same = r .read-instance .kept .1 .1 in
+    read-no (a .width) (now (a .bytes)) before _ (q .asked-read .ensures) (i .if1 .left) _ _ (r .read-instance .ensures) _ (t .enum-told2 .given .1) _
+    (cleared-is before (z .0 ∙ ap nulls (same .0)) (z .1 ∙ ap nulls (same .1 .0)) (z .2 ∙ ap nulls (same .1 .1 .0)) (z .3 ∙ ap nulls (same .1 .1 .1 .0)))
 
 same-length-9 : tie.Need-same-length-9
 same-length-9 c = search needs
@@ -141,34 +103,19 @@ same-length-12 c = search needs
 
 returns-3 : tie.Need-returns-3
 returns-3 c =
-    let k = c .before .before .before .before .before .before .before .before .before .before .before .before .before .before .before .before .before .before .before .before .before .before .before in
-    let a = k .before .before .before .before .before .before .before .before .before .args in
-    let p = now (a .publics) in
-    let q = now (a .queries) in
-    let e = now (a .equations) in
-    let s = now (a .scratch) in
-    let m = rooms (length p) (length q) (length e) (length s) in
-    let same = rooms-are (length s) (k .clear .kept .0) (k .clear .kept .1 .0) (k .clear .kept .1 .1 .0) in
-    let asked = c .before .before .before .before .before .before .before .before .before .before .before .before .before .before .before .before .asked-read .ensures ∙ ap (λ (x : Rooms). firstNo (readAsks (a .width) x)) same in
     let r = c .before .before .before .before .before .before .before .before .before .before in
-    let g = instanceFromBytes (a .width) (now (a .bytes)) m in
-    let eg : readInstance version (a .width) (rooms (length (k .clear .last .0)) (length (k .clear .last .1 .0)) (length (k .clear .last .1 .1 .0)) (length s)) (now (a .bytes)) ≡ g =
-    ap (λ (x : Rooms). readInstance version (a .width) x (now (a .bytes))) same ∙ sym (asked-read (a .width) (now (a .bytes)) m _ asked (c .before .before .before .before .before .before .before .before .before .before .before .before .before .before .before .if1 .left)) in
-    let answer = r .read-instance .ensures .0 ∙ ap (instanceAnswer (a .width)) eg in
-    let after = after-same _ _ _ _ _ _ _ _ _ _ eg (r .read-instance .ensures .1) in
-    let l = left-accepted (a .width) g _ p q e s _ _ _ _ _ _ _ answer after (c .enum-told .given .1) (k .clear .ensures .0) (k .clear .ensures .1) (k .clear .ensures .2) in
-    record {
-      answer = l .0 .answer;
-      left = record { publics = l .0 .publics; queries = l .0 .queries; equations = l .0 .equations; scratch = l .1 };
-    }
+    let i = r .before .before .before .before .before in
+    let q = i .before in
+    let a = q .before .before .before .before .before .before .args in
+    let before = stores (now (a .publics)) (now (a .queries)) (now (a .equations)) (now (a .scratch)) in
+    read-yes (a .width) (now (a .bytes)) before _ (q .asked-read .ensures) (i .if1 .left) _ _ (r .read-instance .ensures) (c .enum-told .given .1)
 
 pub instance-from-bytes-at-spec : {M : Type 1} → statement M
 instance-from-bytes-at-spec =
     tie.close
     (tie.spec
-    clear-requires
     asked-read-requires
-    fill-requires
+    clear-requires
     refused-requires
     same-length
     same-length-2
@@ -178,7 +125,7 @@ instance-from-bytes-at-spec =
     read-instance-requires
     enum-told
     enum-told-2
-    clear-all-requires
+    clear-requires-2
     same-length-5
     same-length-6
     same-length-7

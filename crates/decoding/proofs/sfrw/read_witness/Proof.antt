@@ -1,9 +1,12 @@
 -- `sfrw::read_witness` meets its contract: header, steps, and 28.
 -- Assumes nothing.
-use borrow.Author.Needs.{needs}
+use mathlib.Core.Path.{refl}
+use denote.Ref.{now}
 use Rattle.header.proofs.Got.{field-stop, field-got}
-use Rattle.decoding.proofs.Steps.{witness-stop, witness-steps-stop, witness-left, witness-yes}
-use Rattle.decoding.proofs.Told.{list-stop, list-got, list-on, listed-stop, listed-got, listed-by}
+use Rattle.items.proofs.Lists.{list-refused, list-got}
+use Rattle.decoding.proofs.Files.{header-past}
+use Rattle.decoding.proofs.Steps.{header-no, steps-no, steps-left, steps-told, told-no}
+use borrow.Author.Needs.{needs}
 use Rattle.decoding.proofs.sfrw.read_witness.Statement.{statement}
 use Rattle.decoding.proofs.sfrw.read_witness.Tie as tie
 
@@ -18,11 +21,14 @@ enum-told c = search needs
 
 returns : tie.Need-returns
 returns c =
+    let h = c .before .before in
+    let s = h .before .before .before in
+    let a = s .args in
     let e = c .enum-told .given .1 in
-    list-on _ _ _ _ _ _ _ e (witness-stop _ _ _ _ (field-stop _ _ _ _ _ (c .before .before .read-header .ensures) _ e))
+    told-no (a .width) (now (a .bytes)) (now (a .trace)) _ _ _ e (header-no (a .width) (now (a .bytes)) (now (a .trace)) (s .pre) _ (field-stop _ _ _ _ _ (h .read-header .ensures) _ e))
 
-read-steps-requires : tie.Need-read-steps-requires
-read-steps-requires c κs = search needs
+read-pieces-requires : tie.Need-read-pieces-requires
+read-pieces-requires c κs = search needs
 
 enum-known-steps : tie.Need-enum-known-steps
 enum-known-steps c = search needs
@@ -35,35 +41,46 @@ same-length c = search needs
 
 returns-2 : tie.Need-returns-2
 returns-2 c =
-    let s = c .before .before .before .before in
-    let h = s .before .before .before in
+    let l = c .before .before .before .before in
+    let hd = l .before .before .before in
+    let h = hd .before .before in
+    let s = h .before .before .before in
+    let a = s .args in
+    let eh = field-got _ _ _ _ _ (h .read-header .ensures) _ _ _ (hd .header .given .1) in
     let e = c .enum-told2 .given .1 in
-    let g = field-got _ _ _ _ _ (h .before .before .read-header .ensures) _ _ _ (h .header .given .1) in
-    list-on _ _ _ _ _ _ _ e (witness-steps-stop _ _ _ _ _ g _ (listed-stop _ _ _ _ _ _ _ e (s .read-steps .ensures)))
+    told-no (a .width) (now (a .bytes)) (now (a .trace)) _ _ _ e (steps-no (a .width) (now (a .bytes)) (now (a .trace)) (s .pre) _ eh _ (list-refused _ _ _ _ _ _ (l .read-pieces .ensures) _ e))
 
 same-length-2 : tie.Need-same-length-2
 same-length-2 c = search needs
 
 returns-3 : tie.Need-returns-3
 returns-3 c =
-    let k = c .before .before .before in
-    let s = k .before .before .before .before in
-    let h = s .before .before .before in
-    let g = field-got _ _ _ _ _ (h .before .before .read-header .ensures) _ _ _ (h .header .given .1) in
-    let l = listed-got _ _ _ _ _ _ _ _ _ (k .steps .given .1) (s .read-steps .ensures) in
-    list-stop _ _ _ _ _ _ (witness-left _ _ _ _ _ g _ (k .steps .given .0 .1 .1 .0 .at) (l .reads) (c .if1 .taken))
+    let st = c .before .before .before in
+    let l = st .before .before .before .before in
+    let hd = l .before .before .before in
+    let h = hd .before .before in
+    let s = h .before .before .before in
+    let a = s .args in
+    let eh = field-got _ _ _ _ _ (h .read-header .ensures) _ _ _ (hd .header .given .1) in
+    let lr = l .read-pieces .ensures in
+    let g = list-got _ _ _ _ _ _ lr _ _ _ (st .steps .given .1) in
+    told-no (a .width) (now (a .bytes)) (now (a .trace)) _ _ 28 refl (steps-left (a .width) (now (a .bytes)) (now (a .trace)) (s .pre) _ eh _ _ lr _ _ _ g (c .if1 .taken))
 
 same-length-3 : tie.Need-same-length-3
 same-length-3 c = search needs
 
 returns-4 : tie.Need-returns-4
 returns-4 c =
-    let k = c .before .before .before in
-    let s = k .before .before .before .before in
-    let h = s .before .before .before in
-    let g = field-got _ _ _ _ _ (h .before .before .read-header .ensures) _ _ _ (h .header .given .1) in
-    let l = listed-got _ _ _ _ _ _ _ _ _ (k .steps .given .1) (s .read-steps .ensures) in
-    list-got _ _ _ _ _ _ _ _ (listed-by _ _ _ _ _ _ _ _ _ l (witness-yes _ _ _ _ _ g _ (k .steps .given .0 .1 .1 .0 .at) (l .reads) (c .if1 .left)))
+    let st = c .before .before .before in
+    let l = st .before .before .before .before in
+    let hd = l .before .before .before in
+    let h = hd .before .before in
+    let s = h .before .before .before in
+    let a = s .args in
+    let eh = field-got _ _ _ _ _ (h .read-header .ensures) _ _ _ (hd .header .given .1) in
+    let lr = l .read-pieces .ensures in
+    let g = list-got _ _ _ _ _ _ lr _ _ _ (st .steps .given .1) in
+    steps-told (a .width) (now (a .bytes)) (now (a .trace)) (s .pre) _ eh _ _ lr _ _ _ g (c .if1 .left) (header-past _ _ _ _ (h .read-header .ensures) _ _ _ (hd .header .given .1))
 
 pub read-witness-spec : {M : Type 1} → statement M
 read-witness-spec =
@@ -73,7 +90,7 @@ read-witness-spec =
     enum-known-header
     enum-told
     returns
-    read-steps-requires
+    read-pieces-requires
     enum-known-steps
     enum-told-2
     same-length

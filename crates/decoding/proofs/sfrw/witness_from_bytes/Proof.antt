@@ -1,27 +1,16 @@
--- `sfrw::witness_from_bytes` meets its contract: the trace is all 0 before it is read into, and again where a read
--- is refused.
+-- `sfrw::witness_from_bytes` meets its contract: 1 and 2, then the read; and the trace all 0 where either refuses.
 -- Assumes nothing.
 use Prim.Native.Nat.{ℕ}
-use mathlib.Core.Path.{_≡_, sym, ap, _∙_}
-use mathlib.Core.List.{List}
-use native.Mathlib.Omega.{arith}
-use borrow.Author.Needs.{needs}
+use mathlib.Core.Path.{refl, sym, ap, _∙_}
 use denote.Ref.{now}
 use lib.ListN.{length, replicate}
-use Rattle.words.specs.Store.{putWords}
-use Rattle.words.specs.Pieces.{flat}
-use Rattle.limits.specs.declared.Outcome.the-variants.{Refused}
-use Rattle.header.specs.Form.{version}
-use Rattle.decoding.specs.Read.{readWitness}
-use Rattle.decoding.specs.Answers.{witnessFromBytes}
 use Rattle.header.specs.Answers.{fieldNumber}
-use Rattle.decoding.proofs.Steps.{from-no, from-refused, from-read, from-sizes, answer-stop, answer-got, put-padded}
-use Rattle.decoding.proofs.Told.{listed-stop, listed-got}
+use Rattle.items.proofs.Lists.{pieces-no}
+use Rattle.decoding.specs.Answers.{refusedWitness}
+use Rattle.decoding.proofs.Steps.{asked-no, read-no, read-yes}
+use borrow.Author.Needs.{needs}
 use Rattle.decoding.proofs.sfrw.witness_from_bytes.Statement.{statement}
 use Rattle.decoding.proofs.sfrw.witness_from_bytes.Tie as tie
-
-fill-requires : tie.Need-fill-requires
-fill-requires c κs = search needs
 
 asked-width-requires : tie.Need-asked-width-requires
 asked-width-requires c κs = search needs
@@ -29,27 +18,27 @@ asked-width-requires c κs = search needs
 asked-store-requires : tie.Need-asked-store-requires
 asked-store-requires c κs = search needs
 
+refused-requires : tie.Need-refused-requires
+refused-requires c κs = search needs
+
 same-length : tie.Need-same-length
 same-length c = search needs
 
 returns : tie.Need-returns
 returns c =
-    let f = c .before .before .before .before .before in
-    let a = f .before .before .before .before .args in
-    let n = length (now (a .trace)) in
-    let l : length (f .fill .last .0) ≡ n = f .fill .kept .0 in
-    let no = from-no (a .width) _ _ _ _ (c .before .before .asked-width .ensures) (c .before .asked-store .ensures) l in
-    let g = answer-stop (witnessFromBytes (a .width) (now (a .bytes)) n) n _ (from-refused (a .width) (now (a .bytes)) n _ no (c .if1 .taken)) in
-    (g .0, f .fill .ensures ∙ g .1)
+    let f = c .before .before in
+    let i = f .before .before in
+    let q = i .before in
+    let a = q .before .before .before .before .args in
+    let no = pieces-no (a .width) _ (length (now (a .trace))) _ _ (q .before .asked-width .ensures) (q .asked-store .ensures) refl in
+    asked-no (a .width) (now (a .bytes)) (now (a .trace)) _ no (i .if1 .taken) _ _ (f .refused .ensures .0) (f .refused .ensures .1)
 
 read-witness-requires : tie.Need-read-witness-requires
 read-witness-requires c κs =
-    let f = c .before .before .before .before .before .before in
-    let a = f .before .before .before .before .args in
-    let l : length (f .fill .last .0) ≡ length (now (a .trace)) = f .fill .kept .0 in
-    let no = from-no (a .width) _ _ _ _ (c .before .before .before .asked-width .ensures) (c .before .before .asked-store .ensures) l in
-    let s = from-sizes (a .width) (now (a .bytes)) (length (now (a .trace))) _ no (c .before .if1 .left) in
-    (omega (arith, s .0), s .1)
+    let q = c .before .before in
+    let a = q .before .before .before .before .args in
+    let no = pieces-no (a .width) _ (length (now (a .trace))) _ _ (q .before .asked-width .ensures) (q .asked-store .ensures) refl in
+    sym no ∙ c .before .if1 .left
 
 enum-known-read : tie.Need-enum-known-read
 enum-known-read c = search needs
@@ -57,29 +46,28 @@ enum-known-read c = search needs
 enum-told : tie.Need-enum-told
 enum-told c = search needs
 
-fill-requires-2 : tie.Need-fill-requires-2
-fill-requires-2 c κs = search needs
-
 field-number-requires : tie.Need-field-number-requires
 field-number-requires c κs = search needs
+
+refused-requires-2 : tie.Need-refused-requires-2
+refused-requires-2 c κs = search needs
 
 same-length-2 : tie.Need-same-length-2
 same-length-2 c = search needs
 
 returns-2 : tie.Need-returns-2
 returns-2 c =
-    let r = c .before .before .before .before .before .before .before .before .before in
-    let f = r .before .before .before .before .before .before .before in
-    let a = f .before .before .before .before .args in
-    let n = length (now (a .trace)) in
-    let l : length (f .fill .last .0) ≡ n = f .fill .kept .0 in
-    let e = c .before .before .before .before .before .enum-told .given .1 in
-    let no = from-no (a .width) _ _ _ _ (r .before .before .before .before .asked-width .ensures) (r .before .before .before .asked-store .ensures) l in
-    let s = from-read (a .width) (now (a .bytes)) n _ no (r .before .before .if1 .left) ∙ ap (λ (m : ℕ). readWitness version (a .width) m (now (a .bytes))) (sym l) ∙ listed-stop _ _ _ _ _ _ _ e (r .read-witness .ensures) in
-    let g = answer-stop (witnessFromBytes (a .width) (now (a .bytes)) n) n _ s in (
-      ap (λ (k : ℕ). record { outcome = Refused k; steps = 0 }) (c .field-number .ensures ∙ ap fieldNumber e) ∙ g .0,
-      c .before .before .before .fill2 .ensures ∙ ap (λ (m : ℕ). replicate {A = ℕ} m 0) (r .read-witness .kept .1 .1 .0 ∙ l) ∙ g .1,
-    )
+    let f = c .before .before in
+    let n = f .before .before in
+    let r = n .before .before .before .before .before in
+    let i = r .before .before in
+    let q = i .before in
+    let a = q .before .before .before .before .args in
+    let no = pieces-no (a .width) _ (length (now (a .trace))) _ _ (q .before .asked-width .ensures) (q .asked-store .ensures) refl in
+    let e = n .before .enum-told .given .1 in
+    read-no (a .width) (now (a .bytes)) (now (a .trace)) _ no (i .if1 .left) _ _ (r .read-witness .ensures) _ e _ _
+    (f .refused2 .ensures .0 ∙ ap refusedWitness (n .field-number .ensures ∙ ap fieldNumber e))
+    (f .refused2 .ensures .1 ∙ ap (λ (n : ℕ). replicate {A = ℕ} n 0) (r .read-witness .kept .1 .1 .0))
 
 same-length-3 : tie.Need-same-length-3
 same-length-3 c = search needs
@@ -87,31 +75,26 @@ same-length-3 c = search needs
 returns-3 : tie.Need-returns-3
 returns-3 c =
     let r = c .before .before .before .before .before in
-    let f = r .before .before .before .before .before .before .before in
-    let a = f .before .before .before .before .args in
-    let n = length (now (a .trace)) in
-    let l : length (f .fill .last .0) ≡ n = f .fill .kept .0 in
-    let no = from-no (a .width) _ _ _ _ (r .before .before .before .before .asked-width .ensures) (r .before .before .before .asked-store .ensures) l in
-    let w = listed-got _ _ _ _ _ _ _ _ _ (c .before .read .given .1) (r .read-witness .ensures) in
-    answer-got (witnessFromBytes (a .width) (now (a .bytes)) n) n (w .items) _ _ _
-    (from-read (a .width) (now (a .bytes)) n _ no (r .before .before .if1 .left) ∙ ap (λ (m : ℕ). readWitness version (a .width) m (now (a .bytes))) (sym l) ∙ w .reads)
-    (w .count)
-    (w .stored ∙ ap (λ (t : List ℕ). putWords 0 (flat (w .items)) t) (f .fill .ensures) ∙ put-padded n (flat (w .items)))
+    let i = r .before .before in
+    let q = i .before in
+    let a = q .before .before .before .before .args in
+    let no = pieces-no (a .width) _ (length (now (a .trace))) _ _ (q .before .asked-width .ensures) (q .asked-store .ensures) refl in
+    read-yes (a .width) (now (a .bytes)) (now (a .trace)) _ no (i .if1 .left) _ _ (r .read-witness .ensures) _ _ _ (c .before .read .given .1)
 
 pub witness-from-bytes-spec : {M : Type 1} → statement M
 witness-from-bytes-spec =
     tie.close
     (tie.spec
-    fill-requires
     asked-width-requires
     asked-store-requires
+    refused-requires
     same-length
     returns
     read-witness-requires
     enum-known-read
     enum-told
-    fill-requires-2
     field-number-requires
+    refused-requires-2
     same-length-2
     returns-2
     same-length-3

@@ -1,0 +1,6 @@
+pub mod Fields
+pub mod Told
+pub mod Run
+pub mod Equations
+pub mod Ends
+pub mod Lists
