@@ -4,12 +4,11 @@ use Prim.Native.Nat.{ℕ, zero, suc, _<_}
 use mathlib.Core.Path.{_≡_, refl, ap}
 use mathlib.Core.Bool.{true}
 use mathlib.Core.List.{List, [], _∷_, map}
-use borrow.Author.Tests.{lt-ltb}
-use lib.Dec.{ltb, lit<}
+use lib.Dec.{lit<}
 use lib.ListN.{length, drop, length-map}
 use Rattle.limits.specs.Numbers.{prime}
 use Rattle.limits.specs.Below.{allBelow}
-use Rattle.limits.proofs.Below.{both-true, true-both}
+use Rattle.limits.proofs.Below.{below-cons, cons-below}
 use Rattle.baby_bear.specs.Field.{areUnits, addUnit, mulUnit, seventh, sumUnits, productUnits, dotUnits}
 use Rattle.baby_bear.proofs.Ring.{addUnit-below, seventh-below}
 use Rattle.permute.specs.Permute.{Round, addConstants, raise, timesMatrix, runRound, runRounds}
@@ -45,36 +44,28 @@ dotUnits-below [] x = lit< tt
 dotUnits-below (a ∷ r) [] = lit< tt
 dotUnits-below (a ∷ r) (b ∷ x) = addUnit-below (mulUnit a b) (sumUnits (productUnits r x))
 
-one-more : (a : ℕ) (l : List ℕ) → a < prime → areUnits l ≡ true → areUnits (a ∷ l) ≡ true
-unfolding allBelow
-one-more a l h e = true-both (ltb a prime) (areUnits l) (lt-ltb a prime h) e
-
-less : (a : ℕ) (l : List ℕ) → areUnits (a ∷ l) ≡ true → areUnits l ≡ true
-unfolding allBelow
-less a l e = both-true (ltb a prime) (areUnits l) e .1
-
 pub addConstants-units : (cs x : List ℕ) → areUnits x ≡ true → areUnits (addConstants cs x) ≡ true
 unfolding addConstants
 addConstants-units cs [] e = e
 addConstants-units [] (a ∷ x) e = e
 addConstants-units (c ∷ cs) (a ∷ x) e =
-    one-more (addUnit a c) (addConstants cs x) (addUnit-below a c) (addConstants-units cs x (less a x e))
+    cons-below prime (addUnit a c) (addConstants cs x) (addUnit-below a c) (addConstants-units cs x (below-cons prime a x e .1))
 
 sevenths-units : (x : List ℕ) → areUnits (map seventh x) ≡ true
 unfolding allBelow
 sevenths-units [] = refl
-sevenths-units (a ∷ x) = one-more (seventh a) (map seventh x) (seventh-below a) (sevenths-units x)
+sevenths-units (a ∷ x) = cons-below prime (seventh a) (map seventh x) (seventh-below a) (sevenths-units x)
 
 pub raise-units : (kind : ℕ) (x : List ℕ) → areUnits x ≡ true → areUnits (raise kind x) ≡ true
 unfolding raise
 raise-units kind [] e = e
 raise-units zero (a ∷ x) e = sevenths-units (a ∷ x)
-raise-units (suc kind) (a ∷ x) e = one-more (seventh a) x (seventh-below a) (less a x e)
+raise-units (suc kind) (a ∷ x) e = cons-below prime (seventh a) x (seventh-below a) (below-cons prime a x e .1)
 
 pub timesMatrix-units : (m : List (List ℕ)) (x : List ℕ) → areUnits (timesMatrix m x) ≡ true
 unfolding timesMatrix allBelow
 timesMatrix-units [] x = refl
-timesMatrix-units (row ∷ m) x = one-more (dotUnits row x) (timesMatrix m x) (dotUnits-below row x) (timesMatrix-units m x)
+timesMatrix-units (row ∷ m) x = cons-below prime (dotUnits row x) (timesMatrix m x) (dotUnits-below row x) (timesMatrix-units m x)
 
 -- ---- a round, and all rounds over a matrix of as many rows as the state has elements
 module _ (m : List (List ℕ)) where

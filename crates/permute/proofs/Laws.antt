@@ -9,6 +9,7 @@ use native.Mathlib.Nat.{mul-le-mul}
 use borrow.Author.Tests.{leb-true, le-leb, eqb-true, eq-eqb, ne-eqb}
 use lib.Dec.{eqb}
 use lib.ListN.{length, take, drop}
+use Rattle.limits.specs.Numbers.{maxCount, maxWidth}
 use Rattle.limits.proofs.Questions.{accepted-says, ask-yes, join, onYes-yes, onYes-no}
 use Rattle.limits.proofs.Below.{both-true, true-both}
 use Rattle.baby_bear.specs.Field.{areUnits}
@@ -19,16 +20,16 @@ use Rattle.permute.proofs.Parameters.{Sound, sound-is}
 use Rattle.permute.proofs.Words.{sameWords-refl, sameWords-is}
 
 -- 128 rounds of width 24 are few words
-parameters-fit : (w rounds : ℕ) (words : List ℕ) → Sound w rounds words → w ≤ 24 → length words ≤ 3776
+parameters-fit : (w rounds : ℕ) (words : List ℕ) → Sound w rounds words → w ≤ maxWidth → length words ≤ 3776
 parameters-fit w rounds words s h =
     let a = mul-le-mul {n₁ = rounds} {m₁ = w + 1} {n₂ = 128} {m₂ = 25} (s .few) (omega arith) in
-    let b = mul-le-mul {n₁ = w} {m₁ = w} {n₂ = 24} {m₂ = 24} h h in
+    let b = mul-le-mul {n₁ = w} {m₁ = w} {n₂ = maxWidth} {m₂ = maxWidth} h h in
     omega (arith, a, b, s .size)
 
 -- ---- accepted, and what that says
 pub record Accepted (w rounds : ℕ) (words x : List ℕ) : Type 0 where
   pub some : 1 ≤ w
-  pub most : w ≤ 24
+  pub most : w ≤ maxWidth
   pub size : length x ≡ w
   pub units : areUnits x ≡ true
   pub sound : soundParameters w rounds words ≡ true
@@ -40,7 +41,7 @@ module _ (w rounds : ℕ) (words x : List ℕ) where
       let says = accepted-says (permuteAsks w rounds words x) tt e in
       record {
         some = leb-true 1 w (says 0);
-        most = leb-true w 24 (says 1);
+        most = leb-true w maxWidth (says 1);
         size = eqb-true (length x) w (says 4);
         units = says 5;
         sound = says 6;
@@ -52,9 +53,9 @@ module _ (w rounds : ℕ) (words x : List ℕ) where
       let s = sound-is w rounds words (a .sound) in
       let n = parameters-fit w rounds words s (a .most) in
       join _ _ (ask-yes 1 _ (le-leb 1 w (a .some)))
-      (join _ _ (ask-yes 1 _ (le-leb w 24 (a .most)))
-      (join _ _ (ask-yes 2 _ (le-leb (length words) 1073741824 (omega (arith, n))))
-      (join _ _ (ask-yes 2 _ (le-leb (length x) 1073741824 (omega (arith, a .size, a .most))))
+      (join _ _ (ask-yes 1 _ (le-leb w maxWidth (a .most)))
+      (join _ _ (ask-yes 2 _ (le-leb (length words) maxCount (omega (arith, n))))
+      (join _ _ (ask-yes 2 _ (le-leb (length x) maxCount (omega (arith, a .size, a .most))))
       (join _ _ (ask-yes 9 _ (eq-eqb (length x) w (a .size)))
       (join _ _ (ask-yes 4 _ (a .units))
       (join _ _ (ask-yes 17 _ (a .sound)) refl))))))

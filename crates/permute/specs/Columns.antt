@@ -1,4 +1,5 @@
--- A matrix with the words of each column side by side, as the code multiplies by it. Assumes nothing.
+-- A matrix with the words of each column side by side, as the code multiplies by it. Private contracts alone
+-- cite this. Assumes nothing.
 use Prim.Native.Nat.{ℕ, zero, suc, _+_, _*_}
 use mathlib.Core.List.{List, [], _∷_}
 use lib.ListN.{getD}
@@ -17,3 +18,20 @@ turnedRows w (suc n) i words = strided w w i words ∷ turnedRows w n (suc i) wo
 unfoldable pub four : List ℕ → ℕ → ℕ → ℕ → ℕ → ℕ → ℕ → ℕ
 four words step a b c d i =
     getD words i 0 * a + getD words (step + i) 0 * b + getD words (step * 2 + i) 0 * c + getD words (step * 3 + i) 0 * d
+
+-- ---- sums in two parts
+-- 2^32: what of a sum lies below it is the low part, and how often it lies in the sum the high part
+abbrev pub half : ℕ
+half = 4294967296
+
+-- what 2^32 leaves modulo p
+abbrev pub halfLeaves : ℕ
+halfLeaves = 268435454
+
+-- 2^64: no u64 reaches it
+abbrev pub wideEnd : ℕ
+wideEnd = 18446744073709551616
+
+-- 2^63: up to it a part has room for one of four products more
+abbrev pub partMost : ℕ
+partMost = 9223372036854775808

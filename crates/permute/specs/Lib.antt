@@ -1,3 +1,4 @@
 pub mod Permute
 pub mod Parameters
 pub mod Columns
+pub mod Walks

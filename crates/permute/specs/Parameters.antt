@@ -28,6 +28,10 @@ parametersOf w rounds words = record {
 }
 
 -- ---- question 17
+-- "R rounds, 0 to 128"
+abbrev pub maxRounds : ℕ
+maxRounds = 128
+
 -- is every kind 0 or 1?
 unfoldable pub soundKinds : List Round → Bool
 soundKinds [] = true
@@ -46,7 +50,7 @@ unitRows (row ∷ m) = areUnits row && unitRows m
 -- 17 "has the sheet R ≤ 128, exactly R(w+1)+w·w words, kinds 0 or 1, units below p?"
 unfoldable pub soundParameters : ℕ → ℕ → List ℕ → Bool
 soundParameters w rounds words =
-    leb rounds 128
+    leb rounds maxRounds
     && (eqb (length words) (rounds * (w + 1) + w * w)
     && (soundKinds (roundsOf w rounds words)
     && (unitConstants (roundsOf w rounds words) && unitRows (rowsOf w w (drop (rounds * (w + 1)) words)))))

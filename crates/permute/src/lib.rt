@@ -6,18 +6,21 @@
 // input; what it answers is a definition of specs/.
 
 ghost use mathlib.Core.Path.{_≡_};
-ghost use mathlib.Core.Bool.{true};
-ghost use Prim.Native.Nat.{_+_, _≤_, _<_};
+ghost use Prim.Native.Nat.{_+_, _≤_};
 ghost use lib.ListN.{length};
 ghost use Rattle.limits.specs.Questions.{_▸_, ask};
 ghost use Rattle.words.specs.Pieces.{pieces};
 ghost use Rattle.permute.specs.Parameters.{soundParameters, permuteNo, permuted, sameWords, isEvaluation, leading};
+ghost use Rattle.permute.specs.Walks.{Ready};
 use limits::MAX_WIDTH;
 use limits::P;
 
 mod matrix;
 mod rounds;
 mod sound;
+
+// The most words of a state: MAX_WIDTH.
+const STATE_WORDS: usize = 24;
 
 // Question 17, after the number answered so far; the parameters are not looked at where an earlier question
 // said no.
@@ -69,7 +72,7 @@ pub fn evaluations(width: u32, rounds: u32, params: &[u32], trace: &[u32], steps
     if !sound::sound_parameters(width, rounds, params) {
         return 0;
     }
-    let mut state = [0u32; 24];
+    let mut state = [0u32; STATE_WORDS];
     leading(
         rounds as usize,
         params,
@@ -81,8 +84,7 @@ pub fn evaluations(width: u32, rounds: u32, params: &[u32], trace: &[u32], steps
 
 // The same for sound parameters, with room for the state.
 fn leading(rounds: usize, params: &[u32], trace: &[u32], steps: u32, state: &mut [u32]) -> u32
-    requires { ⌜ (soundParameters (length (now state)) rounds (now params) ≡ true)
-        × (0 < length (now state)) × (length (now state) ≤ 24) ⌝ }
+    requires { ⌜ Ready rounds (now params) (now state) ⌝ }
     ensures { λ r. ⌜ r ≡ leading (isEvaluation (length (now (state .entry))) rounds (now (params .entry)))
         (pieces (length (now (state .entry)) + length (now (state .entry))) steps (now (trace .entry))) ⌝ }
 {
@@ -106,8 +108,7 @@ fn leading(rounds: usize, params: &[u32], trace: &[u32], steps: u32, state: &mut
 // Does the permutation turn the step's first w units into its last w? They are turned in the room for the
 // state.
 fn evaluates(rounds: usize, params: &[u32], step: &[u32], state: &mut [u32]) -> bool
-    requires { ⌜ (soundParameters (length (now state)) rounds (now params) ≡ true)
-        × (0 < length (now state)) × (length (now state) ≤ 24) × (length (now state) ≤ length (now step)) ⌝ }
+    requires { ⌜ Ready rounds (now params) (now state) × (length (now state) ≤ length (now step)) ⌝ }
     ensures { λ r. ⌜ r ≡ isEvaluation (length (now (state .entry))) rounds (now (params .entry)) (now (step .entry)) ⌝ }
 {
     let w = state.len();

@@ -5,23 +5,25 @@
 // processor multiplies several of them at once as they lie there.
 
 ghost use mathlib.Core.Path.{_≡_};
-ghost use mathlib.Core.Bool.{true};
-ghost use Prim.Native.Nat.{ℕ, _+_, _*_, _/_, _%_, _≤_, _<_};
-ghost use lib.ListN.{length, getD};
+ghost use Prim.Native.Nat.{suc, _+_, _*_, _%_, _<_};
+ghost use lib.ListN.{length};
 ghost use Rattle.limits.specs.Numbers.{prime};
-ghost use Rattle.baby_bear.specs.Field.{areUnits, dot};
 ghost use Rattle.permute.specs.Permute.{timesMatrix};
-ghost use Rattle.permute.specs.Parameters.{rowsOf};
-ghost use Rattle.permute.specs.Columns.{strided, turnedRows, four};
+ghost use Rattle.permute.specs.Columns.{turnedRows, four, half, halfLeaves, wideEnd};
+ghost use Rattle.permute.specs.Walks.{MatrixAsked, Turned, ColumnAsked, ColumnPut, ProductAsked, FourAsked, SumsAsked, SumsAdded, NoSums, Summing, Summed};
+use crate::STATE_WORDS;
 use limits::P;
+
+// 2^32: what of a sum lies below it is the low part, and how often it lies in the sum the high part.
+const HALF: u64 = 4294967296;
+
+// What 2^32 leaves modulo p.
+const HALF_LEAVES: u64 = 268435454;
 
 // Column k of the matrix, its words side by side from `at` on.
 fn put_column(matrix: &[u32], w: usize, k: usize, at: usize, columns: &mut [u64])
-    requires { ⌜ (areUnits (now matrix) ≡ true) × (areUnits (now columns) ≡ true)
-        × (length (now matrix) ≡ w * w) × (k < w) × (at + w ≤ length (now columns)) × (w ≤ 24) ⌝ }
-    ensures { λ _. ⌜ (areUnits (now (columns .exit)) ≡ true)
-        × ((i : ℕ) → i < at → getD (now (columns .exit)) i 0 ≡ getD (now (columns .entry)) i 0)
-        × ((i : ℕ) → i < w → getD (now (columns .exit)) (at + i) 0 ≡ getD (now (matrix .entry)) (k + i * w) 0) ⌝ }
+    requires { ⌜ ColumnAsked (now matrix) w k at (now columns) ⌝ }
+    ensures { λ _. ⌜ ColumnPut (now (matrix .entry)) w k at (now (columns .entry)) (now (columns .exit)) ⌝ }
 {
     let mut i = 0;
     let mut from = k;
@@ -34,10 +36,8 @@ fn put_column(matrix: &[u32], w: usize, k: usize, at: usize, columns: &mut [u64]
 
 // The matrix with the words of each column side by side.
 pub(crate) fn turn_matrix(matrix: &[u32], w: usize, columns: &mut [u64])
-    requires { ⌜ (areUnits (now matrix) ≡ true) × (areUnits (now columns) ≡ true)
-        × (length (now matrix) ≡ w * w) × (w * w ≤ length (now columns)) × (w ≤ 24) ⌝ }
-    ensures { λ _. ⌜ (areUnits (now (columns .exit)) ≡ true)
-        × (turnedRows w w 0 (now (columns .exit)) ≡ rowsOf w w (now (matrix .entry))) ⌝ }
+    requires { ⌜ MatrixAsked (now matrix) w (now columns) ⌝ }
+    ensures { λ _. ⌜ Turned (now (matrix .entry)) w (now (columns .exit)) ⌝ }
 {
     let mut k = 0;
     let mut at = 0;
@@ -56,18 +56,17 @@ fn product(a: u64, b: u32) -> u64
     a as u32 as u64 * b as u64
 }
 
-// The two parts of a sum, reduced: 2^32 leaves 268435454 modulo p.
+// The two parts of a sum, reduced.
 fn reduced(low: u64, high: u64) -> u32
-    requires { ⌜ high * 268435454 + low < 18446744073709551616 ⌝ }
-    ensures { λ r. ⌜ r ≡ (high * 4294967296 + low) % prime ⌝ }
+    requires { ⌜ high * halfLeaves + low < wideEnd ⌝ }
+    ensures { λ r. ⌜ r ≡ (high * half + low) % prime ⌝ }
 {
-    ((high * 268435454 + low) % P as u64) as u32
+    ((high * HALF_LEAVES + low) % P as u64) as u32
 }
 
 // Word i of four columns, each times its unit, added up. They start at 0, step, 2·step and 3·step.
 fn four(columns: &[u64], step: usize, a: u32, b: u32, c: u32, d: u32, i: usize) -> u64
-    requires { ⌜ (areUnits (now columns) ≡ true) × (a < prime) × (b < prime) × (c < prime) × (d < prime)
-        × (step * 3 + i < length (now columns)) ⌝ }
+    requires { ⌜ FourAsked (now columns) step a b c d (suc i) ⌝ }
     ensures { λ r. ⌜ r ≡ four (now (columns .entry)) step a b c d i ⌝ }
 {
     let s = product(columns[i], a) + product(columns[step + i], b);
@@ -87,32 +86,24 @@ fn add_columns(
     low: &mut [u64],
     high: &mut [u64],
 )
-    requires { ⌜ (areUnits (now columns) ≡ true) × (a < prime) × (b < prime) × (c < prime) × (d < prime)
-        × (step * 3 + w ≤ length (now columns)) × (w ≤ length (now low)) × (w ≤ length (now high))
-        × ((i : ℕ) → i < w → getD (now low) i 0 ≤ 9223372036854775808)
-        × ((i : ℕ) → i < w → getD (now high) i 0 ≤ 9223372036854775808) ⌝ }
-    ensures { λ _. ⌜ ((i : ℕ) → i < w → getD (now (low .exit)) i 0 ≡ getD (now (low .entry)) i 0 + four (now (columns .entry)) step a b c d i % 4294967296)
-        × ((i : ℕ) → i < w → getD (now (high .exit)) i 0 ≡ getD (now (high .entry)) i 0 + four (now (columns .entry)) step a b c d i / 4294967296) ⌝ }
+    requires { ⌜ FourAsked (now columns) step a b c d w × SumsAsked w (now low) (now high) ⌝ }
+    ensures { λ _. ⌜ SumsAdded (four (now (columns .entry)) step a b c d) w (now (low .entry)) (now (high .entry))
+        (now (low .exit)) (now (high .exit)) ⌝ }
 {
     let mut i = 0;
     while i < w {
         let u = four(columns, step, a, b, c, d, i);
-        low[i] = low[i] + u % 4294967296;
-        high[i] = high[i] + u / 4294967296;
+        low[i] = low[i] + u % HALF;
+        high[i] = high[i] + u / HALF;
         i += 1;
     }
 }
 
-// Every column times its unit, added up: by fours, and the last ones each by itself.
-fn add_all(columns: &[u64], x: &[u32], low: &mut [u64], high: &mut [u64])
-    requires { ⌜ (areUnits (now columns) ≡ true) × (areUnits (now x) ≡ true)
-        × (length (now x) * length (now x) ≤ length (now columns)) × (length (now x) ≤ 24)
-        × (length (now low) ≡ 24) × (length (now high) ≡ 24)
-        × ((i : ℕ) → getD (now low) i 0 ≡ 0) × ((i : ℕ) → getD (now high) i 0 ≡ 0) ⌝ }
-    ensures { λ _. ⌜ ((i : ℕ) → i < length (now (x .entry))
-        → (getD (now (high .exit)) i 0 * 4294967296 + getD (now (low .exit)) i 0
-        ≡ dot (strided (length (now (x .entry))) (length (now (x .entry))) i (now (columns .entry))) (now (x .entry)))
-        × (getD (now (high .exit)) i 0 * 268435454 + getD (now (low .exit)) i 0 < 18446744073709551616)) ⌝ }
+// The columns by fours, each times its unit, added up; how many these are.
+fn add_fours(columns: &[u64], x: &[u32], low: &mut [u64], high: &mut [u64]) -> usize
+    requires { ⌜ ProductAsked (now columns) (now x) × NoSums (now low) (now high) ⌝ }
+    ensures { λ r. ⌜ Summing (now (columns .entry)) (now (x .entry)) (length (now (x .entry))) (now (low .exit)) (now (high .exit))
+        r (r * length (now (x .entry))) ⌝ }
 {
     let w = x.len();
     let mut j = 0;
@@ -133,6 +124,18 @@ fn add_all(columns: &[u64], x: &[u32], low: &mut [u64], high: &mut [u64])
         at = end;
         j += 4;
     }
+    j
+}
+
+// The columns from the one of that number on, each by itself.
+fn add_rest(columns: &[u64], x: &[u32], first: usize, low: &mut [u64], high: &mut [u64])
+    requires { ⌜ ProductAsked (now columns) (now x)
+        × Summing (now columns) (now x) (length (now x)) (now low) (now high) first (first * length (now x)) ⌝ }
+    ensures { λ _. ⌜ Summed (now (columns .entry)) (now (x .entry)) (length (now (x .entry))) (now (low .exit)) (now (high .exit)) ⌝ }
+{
+    let w = x.len();
+    let mut j = first;
+    let mut at = first * w;
     while j < w {
         let end = at + w;
         add_columns(
@@ -153,14 +156,13 @@ fn add_all(columns: &[u64], x: &[u32], low: &mut [u64], high: &mut [u64])
 
 // The matrix that is lent by columns times the state x, put into out.
 pub(crate) fn times_matrix(columns: &[u64], x: &[u32], out: &mut [u32])
-    requires { ⌜ (areUnits (now columns) ≡ true) × (areUnits (now x) ≡ true)
-        × (length (now x) * length (now x) ≤ length (now columns))
-        × (length (now out) ≡ length (now x)) × (length (now x) ≤ 24) ⌝ }
+    requires { ⌜ ProductAsked (now columns) (now x) × (length (now out) ≡ length (now x)) ⌝ }
     ensures { λ _. ⌜ now (out .exit) ≡ timesMatrix (turnedRows (length (now (x .entry))) (length (now (x .entry))) 0 (now (columns .entry))) (now (x .entry)) ⌝ }
 {
-    let mut low = [0u64; 24];
-    let mut high = [0u64; 24];
-    add_all(columns, x, &mut low, &mut high);
+    let mut low = [0u64; STATE_WORDS];
+    let mut high = [0u64; STATE_WORDS];
+    let first = add_fours(columns, x, &mut low, &mut high);
+    add_rest(columns, x, first, &mut low, &mut high);
     let mut i = 0;
     while i < x.len() {
         out[i] = reduced(low[i], high[i]);

@@ -5,17 +5,22 @@
 ghost use mathlib.Core.Path.{_≡_};
 ghost use mathlib.Core.Bool.{true};
 ghost use mathlib.Core.List.{map};
-ghost use Prim.Native.Nat.{_*_, _≤_, _<_};
-ghost use lib.ListN.{length};
-ghost use Rattle.limits.specs.Numbers.{prime};
+ghost use Prim.Native.Nat.{_+_, _*_, _<_};
+ghost use lib.ListN.{length, drop};
+ghost use Rattle.limits.specs.Numbers.{prime, maxWidth};
 ghost use Rattle.baby_bear.specs.Field.{areUnits, addUnit, seventh};
 ghost use Rattle.permute.specs.Permute.{addConstants, raise, roundOf, runRound, permute};
-ghost use Rattle.permute.specs.Parameters.{parametersOf, soundParameters};
+ghost use Rattle.permute.specs.Parameters.{parametersOf};
 ghost use Rattle.permute.specs.Columns.{turnedRows};
+ghost use Rattle.permute.specs.Walks.{Turned, ProductAsked, MixAsked, Ready};
+use crate::STATE_WORDS;
 use crate::matrix::times_matrix;
 use crate::matrix::turn_matrix;
 use baby_bear::BabyBearUnit;
 use limits::P;
+
+// The most words of a matrix.
+const MATRIX_WORDS: usize = 576;
 
 // The sum of two units: one subtraction is enough.
 fn add_units(a: u32, b: u32) -> u32
@@ -28,8 +33,7 @@ fn add_units(a: u32, b: u32) -> u32
 
 // Constant i added to element i, put into out.
 fn add_constants(constants: &[u32], x: &[u32], out: &mut [u32])
-    requires { ⌜ (areUnits (now constants) ≡ true) × (areUnits (now x) ≡ true)
-        × (length (now constants) ≡ length (now x)) × (length (now out) ≡ length (now x)) ⌝ }
+    requires { ⌜ MixAsked (now constants) (now x) (now out) ⌝ }
     ensures { λ _. ⌜ now (out .exit) ≡ addConstants (now (constants .entry)) (now (x .entry)) ⌝ }
 {
     let mut i = 0;
@@ -52,9 +56,7 @@ fn raise_all(x: &mut [u32])
 
 // What a round does before the matrix.
 fn mix(kind: u32, constants: &[u32], x: &[u32], out: &mut [u32])
-    requires { ⌜ (areUnits (now constants) ≡ true) × (areUnits (now x) ≡ true)
-        × (length (now constants) ≡ length (now x)) × (length (now out) ≡ length (now x))
-        × (0 < length (now x)) ⌝ }
+    requires { ⌜ MixAsked (now constants) (now x) (now out) × (0 < length (now x)) ⌝ }
     ensures { λ _. ⌜ now (out .exit) ≡ raise kind (addConstants (now (constants .entry)) (now (x .entry))) ⌝ }
 {
     add_constants(constants, x, &mut *out);
@@ -67,9 +69,7 @@ fn mix(kind: u32, constants: &[u32], x: &[u32], out: &mut [u32])
 
 // One round, in place, with the matrix by columns; `mixed` is for what stands between its halves.
 fn run_round(kind: u32, constants: &[u32], columns: &[u64], state: &mut [u32], mixed: &mut [u32])
-    requires { ⌜ (areUnits (now constants) ≡ true) × (areUnits (now columns) ≡ true) × (areUnits (now state) ≡ true)
-        × (length (now constants) ≡ length (now state)) × (length (now state) * length (now state) ≤ length (now columns))
-        × (length (now mixed) ≡ length (now state)) × (0 < length (now state)) × (length (now state) ≤ 24) ⌝ }
+    requires { ⌜ MixAsked (now constants) (now state) (now mixed) × ProductAsked (now columns) (now state) × (0 < length (now state)) ⌝ }
     ensures { λ _. ⌜ now (state .exit) ≡ runRound (turnedRows (length (now (state .entry))) (length (now (state .entry))) 0 (now (columns .entry)))
         (roundOf kind (now (constants .entry))) (now (state .entry)) ⌝ }
 {
@@ -77,17 +77,14 @@ fn run_round(kind: u32, constants: &[u32], columns: &[u64], state: &mut [u32], m
     times_matrix(columns, mixed, state);
 }
 
-// All rounds, in place, with the matrix turned once for them.
-fn run_some(rounds: usize, params: &[u32], state: &mut [u32])
-    requires { ⌜ (soundParameters (length (now state)) rounds (now params) ≡ true)
-        × (areUnits (now state) ≡ true) × (0 < length (now state)) × (length (now state) ≤ 24) ⌝ }
+// All rounds, in place, with the matrix by columns.
+fn run_turned(rounds: usize, params: &[u32], columns: &[u64], state: &mut [u32])
+    requires { ⌜ Ready rounds (now params) (now state) × (areUnits (now state) ≡ true) × (length (now columns) ≡ maxWidth * maxWidth)
+        × Turned (drop (rounds * (length (now state) + 1)) (now params)) (length (now state)) (now columns) ⌝ }
     ensures { λ _. ⌜ now (state .exit) ≡ permute (parametersOf (length (now (state .entry))) rounds (now (params .entry))) (now (state .entry)) ⌝ }
 {
     let w = state.len();
-    let start = rounds * (w + 1);
-    let mut columns = [0u64; 576];
-    turn_matrix(&params[start..], w, &mut columns);
-    let mut mixed = [0u32; 24];
+    let mut mixed = [0u32; STATE_WORDS];
     let mut i = 0;
     let mut at = 0;
     while i < rounds {
@@ -96,7 +93,7 @@ fn run_some(rounds: usize, params: &[u32], state: &mut [u32])
         run_round(
             params[at],
             &params[first..end],
-            &columns,
+            columns,
             &mut *state,
             &mut mixed[0..w],
         );
@@ -105,14 +102,17 @@ fn run_some(rounds: usize, params: &[u32], state: &mut [u32])
     }
 }
 
-// All rounds, in place; where there are none the matrix is not looked at.
+// All rounds, in place, with the matrix turned once for them; where there are none it is not looked at.
 pub(crate) fn run_rounds(rounds: usize, params: &[u32], state: &mut [u32])
-    requires { ⌜ (soundParameters (length (now state)) rounds (now params) ≡ true)
-        × (areUnits (now state) ≡ true) × (0 < length (now state)) × (length (now state) ≤ 24) ⌝ }
+    requires { ⌜ Ready rounds (now params) (now state) × (areUnits (now state) ≡ true) ⌝ }
     ensures { λ _. ⌜ now (state .exit) ≡ permute (parametersOf (length (now (state .entry))) rounds (now (params .entry))) (now (state .entry)) ⌝ }
 {
     if rounds == 0 {
         return;
     }
-    run_some(rounds, params, state);
+    let w = state.len();
+    let start = rounds * (w + 1);
+    let mut columns = [0u64; MATRIX_WORDS];
+    turn_matrix(&params[start..], w, &mut columns);
+    run_turned(rounds, params, &columns, state);
 }

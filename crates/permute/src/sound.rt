@@ -4,11 +4,14 @@ ghost use mathlib.Core.Path.{_≡_};
 ghost use Prim.Native.Nat.{_+_, _*_, _≤_};
 ghost use lib.Dec.{eqb};
 ghost use lib.ListN.{length};
-ghost use Rattle.permute.specs.Parameters.{roundsOf, soundKinds, soundParameters};
+ghost use Rattle.permute.specs.Parameters.{maxRounds, roundsOf, soundKinds, soundParameters};
+
+// The most rounds.
+const MAX_ROUNDS: u32 = 128;
 
 // Has the list R(w+1) + w·w words? The square is taken away first, so that no sum can be too large.
 fn exact_length(width: u32, rounds: u32, len: usize) -> bool
-    requires { ⌜ rounds ≤ 128 ⌝ }
+    requires { ⌜ rounds ≤ maxRounds ⌝ }
     ensures { λ r. ⌜ r ≡ eqb len (rounds * (width + 1) + width * width) ⌝ }
 {
     let w = width as usize;
@@ -41,7 +44,7 @@ fn sound_kinds(width: u32, rounds: u32, params: &[u32]) -> bool
 pub(crate) fn sound_parameters(width: u32, rounds: u32, params: &[u32]) -> bool
     ensures { λ r. ⌜ r ≡ soundParameters width rounds (now (params .entry)) ⌝ }
 {
-    if 128 < rounds {
+    if MAX_ROUNDS < rounds {
         return false;
     }
     if !exact_length(width, rounds, params.len()) {

@@ -1,6 +1,6 @@
 -- `permute::evaluates` meets its contract: the first w words are copied, turned and compared with the others.
 -- Assumes nothing.
-use mathlib.Core.Path.{refl, sym, _∙_}
+use mathlib.Core.Path.{sym, _∙_}
 use borrow.Author.Needs.{needs}
 use borrow.Author.Tests.{not-true, not-false}
 use denote.Ref.{now}
@@ -23,17 +23,17 @@ are-units-requires c κs = search needs
 returns : tie.Need-returns
 returns c =
     let r = c .before .before .before .before .before .before in
-    let p = r .pre in
-    not-units _ _ _ (now (r .args .step)) (p .0) (p .1) (p .2) (p .3) (sym (c .before .are-units .ensures) ∙ not-true _ (c .if1 .taken))
+    not-units (r .pre .0) (now (r .args .step)) (r .pre .1) (sym (c .before .are-units .ensures) ∙ not-true _ (c .if1 .taken))
 
 put-requires : tie.Need-put-requires
 put-requires c κs = search needs
 
 run-rounds-requires : tie.Need-run-rounds-requires
 run-rounds-requires c κs =
-    let r = c .before .before .before .before .before .before .before .before .before .before .before in
-    let p = r .pre in
-    rounds-asked _ _ _ (now (r .args .step)) (p .0) (p .1) (p .2) (p .3) (sym (c .before .before .before .before .before .before .are-units .ensures) ∙ not-false _ (c .before .before .before .before .before .if1 .left)) (now (r .args .state)) _ refl (c .before .before .before .put .ensures)
+    let d = c .before .before .before .before .before in
+    let r = d .before .before .before .before .before .before in
+    rounds-asked (r .pre .0) (now (r .args .step)) (r .pre .1) (sym (d .before .are-units .ensures) ∙ not-false _ (d .if1 .left))
+    (c .before .before .before .put .ensures)
 
 mul-same-words : tie.Need-mul-same-words
 mul-same-words c = search needs
@@ -55,10 +55,11 @@ same-length c = search needs
 
 returns-2 : tie.Need-returns-2
 returns-2 c =
-    let r = c .before .before .before .before .before .before .before .before .before .before .before .before .before .before .before .before .before in
-    let p = r .pre in
-    evaluates-is _ _ _ (now (r .args .step)) (p .0) (p .1) (p .2) (p .3) (sym (c .before .before .before .before .before .before .before .before .before .before .before .before .are-units .ensures) ∙ not-false _ (c .before .before .before .before .before .before .before .before .before .before .before .if1 .left)) (now (r .args .state)) _ refl (c .before .before .before .before .before .before .before .before .before .put .ensures)
-    _ (c .before .before .before .before .before .run-rounds .ensures) _ (c .same-words .ensures)
+    let d = c .before .before .before .before .before .before .before .before .before .before .before in
+    let r = d .before .before .before .before .before .before in
+    evaluates-is (r .pre .0) (now (r .args .step)) (r .pre .1) (sym (d .before .are-units .ensures) ∙ not-false _ (d .if1 .left))
+    (c .before .before .before .before .before .before .before .before .before .put .ensures)
+    (c .before .before .before .before .before .run-rounds .ensures) (c .same-words .ensures)
 
 pub evaluates-spec : {M : Type 1} → statement M
 evaluates-spec =

@@ -22,7 +22,7 @@ run-rounds-requires : tie.Need-run-rounds-requires
 run-rounds-requires c κs =
     let g = c .before .before .before .before .before .before .args in
     let a = accepted-is (g .width) (g .rounds) (g .params .now) (g .state .now) (sym (c .before .before .permute-no .ensures) ∙ c .before .if1 .left) in
-    (rw (a .size) (a .sound), a .units, omega (arith, a), omega (arith, a))
+    (record { sound = rw (a .size) (a .sound); some = omega (arith, a); most = omega (arith, a) }, a .units)
 
 same-length-2 : tie.Need-same-length-2
 same-length-2 c = search needs

@@ -3,7 +3,7 @@ use Prim.Native.Nat.{_+_, _*_}
 use native.Mathlib.Omega.{arith}
 use borrow.Author.Needs.{needs}
 use Rattle.baby_bear.proofs.Units.{units-at}
-use Rattle.permute.proofs.Columns.{product-fits, four-is, four-fits}
+use Rattle.permute.proofs.Columns.{products-fit, four-is, four-fits}
 use Rattle.permute.proofs.matrix.four.Statement.{statement}
 use Rattle.permute.proofs.matrix.four.Tie as tie
 
@@ -14,7 +14,7 @@ shared-slice-read-product : tie.Need-shared-slice-read-product
 shared-slice-read-product c = search needs
 
 product-requires : tie.Need-product-requires
-product-requires c κs = units-at _ (c .before .before .pre .0) (c .before .before .args .i)
+product-requires c κs = units-at _ (c .before .before .pre .units) (c .before .before .args .i)
 
 add-product : tie.Need-add-product
 add-product c = search needs
@@ -26,13 +26,13 @@ shared-slice-read-product-2 : tie.Need-shared-slice-read-product-2
 shared-slice-read-product-2 c = search needs
 
 product-requires-2 : tie.Need-product-requires-2
-product-requires-2 c κs = units-at _ (c .before .before .before .before .pre .0) (c .before .before .before .before .args .step + c .before .before .before .before .args .i)
+product-requires-2 c κs = units-at _ (c .before .before .before .before .pre .units) (c .before .before .before .before .args .step + c .before .before .before .before .args .i)
 
 add-s : tie.Need-add-s
 add-s c =
-    let g = c .before .before .before .before .before .args in
-    let p = c .before .before .before .before .before .pre in
-    omega (arith, product-fits (g .columns .now) (p .0) (g .a) (g .i) (p .1), product-fits (g .columns .now) (p .0) (g .b) (g .step + g .i) (p .2), c .before .before .product .ensures, c .product2 .ensures)
+    let r = c .before .before .before .before .before in
+    let f = products-fit (r .pre) (r .args .i) in
+    omega (arith, c .before .before .product .ensures, c .product2 .ensures)
 
 mul-product-3 : tie.Need-mul-product-3
 mul-product-3 c = search needs
@@ -47,7 +47,7 @@ shared-slice-read-product-3 : tie.Need-shared-slice-read-product-3
 shared-slice-read-product-3 c = search needs
 
 product-requires-3 : tie.Need-product-requires-3
-product-requires-3 c κs = units-at _ (c .before .before .before .before .before .before .pre .0) (c .before .before .before .before .before .before .args .step * 2 + c .before .before .before .before .before .before .args .i)
+product-requires-3 c κs = units-at _ (c .before .before .before .before .before .before .pre .units) (c .before .before .before .before .before .before .args .step * 2 + c .before .before .before .before .before .before .args .i)
 
 mul-product-5 : tie.Need-mul-product-5
 mul-product-5 c = search needs
@@ -62,19 +62,19 @@ shared-slice-read-product-4 : tie.Need-shared-slice-read-product-4
 shared-slice-read-product-4 c = search needs
 
 product-requires-4 : tie.Need-product-requires-4
-product-requires-4 c κs = units-at _ (c .before .before .before .before .before .before .before .before .pre .0) (c .before .before .before .before .before .before .before .before .args .step * 3 + c .before .before .before .before .before .before .before .before .args .i)
+product-requires-4 c κs = units-at _ (c .before .before .before .before .before .before .before .before .pre .units) (c .before .before .before .before .before .before .before .before .args .step * 3 + c .before .before .before .before .before .before .before .before .args .i)
 
 add-t : tie.Need-add-t
 add-t c =
-    let g = c .before .before .before .before .before .before .before .before .before .args in
-    let p = c .before .before .before .before .before .before .before .before .before .pre in
-    omega (arith, product-fits (g .columns .now) (p .0) (g .c) (g .step * 2 + g .i) (p .3), product-fits (g .columns .now) (p .0) (g .d) (g .step * 3 + g .i) (p .4), c .before .before .product3 .ensures, c .product4 .ensures)
+    let r = c .before .before .before .before .before .before .before .before .before in
+    let f = products-fit (r .pre) (r .args .i) in
+    omega (arith, c .before .before .product3 .ensures, c .product4 .ensures)
 
 add-result : tie.Need-add-result
 add-result c =
-    let g = c .before .before .before .before .before .before .before .before .before .args in
-    let p = c .before .before .before .before .before .before .before .before .before .pre in
-    let f = four-fits (g .columns .now) (g .step) (g .a) (g .b) (g .c) (g .d) (g .i) (p .0) (p .1) (p .2) (p .3) (p .4) in
+    let r = c .before .before .before .before .before .before .before .before .before in
+    let g = r .args in
+    let f = four-fits (r .pre) (g .i) in
     omega (arith, four-is (g .columns .now) (g .step) (g .a) (g .b) (g .c) (g .d) (g .i) (c .before .before .before .before .before .before .product .ensures) (c .before .before .before .before .product2 .ensures) (c .before .before .product3 .ensures) (c .product4 .ensures), f)
 
 returns : tie.Need-returns

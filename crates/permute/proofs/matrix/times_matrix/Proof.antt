@@ -1,31 +1,39 @@
 -- `permute::matrix::times_matrix` meets its contract. The invariant is `Timing`: the rows done and the rows
 -- left make the whole product. The measure is the rows left. Assumes nothing.
 use Prim.Native.Nat.{_-_}
-use mathlib.Core.Path.{refl}
 use borrow.Author.Needs.{needs}
 use lib.ListN.{length}
 use Rattle.permute.proofs.Times.{Timing, timing-start, timing-turn, timing-done}
-use Rattle.permute.proofs.Columns.{zeros-at}
+use Rattle.permute.proofs.Columns.{no-sums}
 use Rattle.permute.proofs.matrix.times_matrix.Statement.{statement}
 use Rattle.permute.proofs.matrix.times_matrix.Tie as tie
 
 abbrev Inv-loop : tie.InvT-loop
-Inv-loop columns x out₀ low high i₀ out i = Timing columns x (length x) out i
+Inv-loop columns x out₀ low high first i₀ out i = Timing columns x (length x) out i
 
 abbrev μ-loop : tie.MeasureT-loop
-μ-loop columns x out₀ low high i₀ out i = length x - i
+μ-loop columns x out₀ low high first i₀ out i = length x - i
 
-slice-aggregate-add-all : tie.Need-slice-aggregate-add-all Inv-loop μ-loop
-slice-aggregate-add-all c = search needs
+slice-aggregate-add-fours : tie.Need-slice-aggregate-add-fours Inv-loop μ-loop
+slice-aggregate-add-fours c = search needs
 
-slice-aggregate-add-all-2 : tie.Need-slice-aggregate-add-all-2 Inv-loop μ-loop
-slice-aggregate-add-all-2 c = search needs
+slice-aggregate-add-fours-2 : tie.Need-slice-aggregate-add-fours-2 Inv-loop μ-loop
+slice-aggregate-add-fours-2 c = search needs
 
-add-all-requires : tie.Need-add-all-requires Inv-loop μ-loop
-add-all-requires c κs = let p = c .before .before .before .before .before .pre in (p .0, p .1, p .2, p .4, refl, refl, zeros-at 24, zeros-at 24)
+add-fours-requires : tie.Need-add-fours-requires Inv-loop μ-loop
+add-fours-requires c κs = (c .before .before .before .before .before .pre .0, no-sums)
+
+slice-aggregate-add-rest : tie.Need-slice-aggregate-add-rest Inv-loop μ-loop
+slice-aggregate-add-rest c = search needs
+
+slice-aggregate-add-rest-2 : tie.Need-slice-aggregate-add-rest-2 Inv-loop μ-loop
+slice-aggregate-add-rest-2 c = search needs
+
+add-rest-requires : tie.Need-add-rest-requires Inv-loop μ-loop
+add-rest-requires c κs = (c .before .before .before .before .before .before .before .before .before .before .pre .0, c .before .before .before .before .add-fours .ensures)
 
 loop-holds : tie.Need-loop-holds Inv-loop μ-loop
-loop-holds c = timing-start _ _ _ _ (c .before .before .before .before .before .before .before .before .pre .3)
+loop-holds c = timing-start _ _ _ _ (c .before .before .before .before .before .before .before .before .before .before .before .before .before .pre .1)
 
 mul-reduced : tie.Need-mul-reduced Inv-loop μ-loop
 mul-reduced c = search needs
@@ -40,7 +48,7 @@ array-read-reduced-2 : tie.Need-array-read-reduced-2 Inv-loop μ-loop
 array-read-reduced-2 c = search needs
 
 reduced-requires : tie.Need-reduced-requires Inv-loop μ-loop
-reduced-requires c κs = c .before .before .before .before .add-all .ensures (c .before .loop .i) (c .loop-test .taken) .1
+reduced-requires c κs = c .before .before .before .before .add-rest .ensures .fits (c .before .loop .i) (c .loop-test .taken)
 
 mul-out : tie.Need-mul-out Inv-loop μ-loop
 mul-out c = search needs
@@ -58,7 +66,7 @@ loop-again : tie.Need-loop-again Inv-loop μ-loop
 loop-again c =
     let l = c .before .before .loop in
     let t = c .before .loop-test .taken in
-    timing-turn _ _ _ (l .out) (l .i) (l .inv) _ _ t (c .reduced .ensures) (c .before .before .before .before .before .add-all .ensures (l .i) t .0)
+    timing-turn _ _ _ (l .out) (l .i) (l .inv) _ _ t (c .reduced .ensures) (c .before .before .before .before .before .add-rest .ensures .is (l .i) t)
 
 same-length : tie.Need-same-length Inv-loop μ-loop
 same-length c = search needs
@@ -72,9 +80,12 @@ times-matrix-spec =
     (tie.spec
     Inv-loop
     μ-loop
-    slice-aggregate-add-all
-    slice-aggregate-add-all-2
-    add-all-requires
+    slice-aggregate-add-fours
+    slice-aggregate-add-fours-2
+    add-fours-requires
+    slice-aggregate-add-rest
+    slice-aggregate-add-rest-2
+    add-rest-requires
     loop-holds
     mul-reduced
     array-read-reduced

@@ -19,7 +19,7 @@ abbrev μ-loop : tie.MeasureT-loop
 μ-loop constants x out₀ i₀ out i = length x - i
 
 loop-holds : tie.Need-loop-holds Inv-loop μ-loop
-loop-holds c = (refl, c .before .before .before .pre .3, search needs)
+loop-holds c = (refl, c .before .before .before .pre .room, search needs)
 
 mul-add-units : tie.Need-mul-add-units Inv-loop μ-loop
 mul-add-units c = search needs
@@ -38,7 +38,7 @@ add-units-requires c κs =
     let g = c .before .before .before .before .before .before .before .args in
     let p = c .before .before .before .before .before .before .before .pre in
     let l = c .before .before .before .loop in
-    (units-at (g .x .now) (p .1) (l .i), units-at (g .constants .now) (p .0) (l .i))
+    (units-at (g .x .now) (p .units) (l .i), units-at (g .constants .now) (p .constant-units) (l .i))
 
 mul-out : tie.Need-mul-out Inv-loop μ-loop
 mul-out c = search needs
@@ -56,7 +56,7 @@ loop-again : tie.Need-loop-again Inv-loop μ-loop
 loop-again c =
     let l = c .before .before .before .before .loop in
     let p = c .before .before .before .before .before .before .before .before .pre in (
-      add-turn _ _ (l .out) (l .i) (l .inv .0) (l .inv .1) _ (c .before .before .before .loop-test .taken) (p .2) (c .add-units .ensures),
+      add-turn _ _ (l .out) (l .i) (l .inv .0) (l .inv .1) _ (c .before .before .before .loop-test .taken) (p .constants-long) (c .add-units .ensures),
       length-set (l .out) (l .i) _ ∙ l .inv .1,
       omega arith,
     )

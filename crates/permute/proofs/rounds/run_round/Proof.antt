@@ -11,7 +11,7 @@ mix-requires c κs = search needs
 times-matrix-requires : tie.Need-times-matrix-requires
 times-matrix-requires c κs =
     let p = c .before .before .before .before .before .before .before .before .before .before .before .pre in
-    times-asked _ _ _ _ _ (c .before .before .before .before .mix .ensures) (p .1) (p .2) (p .4) (p .7)
+    times-asked _ _ _ _ _ (c .before .before .before .before .mix .ensures) (p .0 .units) (p .1)
 
 same-length : tie.Need-same-length
 same-length c = search needs
