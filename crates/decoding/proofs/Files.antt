@@ -25,7 +25,7 @@ use Rattle.header.specs.declared.Field.{Field}
 use Rattle.header.specs.declared.Field.the-variants.{Read as ReadField}
 use Rattle.header.proofs.Got.{took, asked, field-got}
 use Rattle.items.proofs.Lists.{after-no, after-yes}
-use Rattle.parts.specs.Answers.{partsAsks, labelEnd, labelField, partsFrom, partsEnd, PartsReads}
+use Rattle.parts.specs.Answers.{readPartsAsks, labelPast, labelField, partsFrom, partsEnd, PartsReads}
 use Rattle.parts.specs.Told.{PartsStored, partsHere}
 use Rattle.parts.specs.declared.PartsRead.{PartsRead}
 use Rattle.parts.proofs.Label.{LabelGot, label-at}
@@ -63,7 +63,7 @@ pub ended-yes : {B : Type 0} (s : List ℕ) (end : ℕ) (b : B) → length s ≤
 ended-yes s end b h = rw (drop-of-length-le s h)
 
 -- ---- the file
-module _ (width : ℕ) (s p q e : List ℕ) (yes : firstNo (partsAsks width (rooms (length p) (length q) (length e) 0)) ≡ 0) where
+module _ (width : ℕ) (s p q e : List ℕ) (yes : firstNo (readPartsAsks width (rooms (length p) (length q) (length e) 0)) ≡ 0) where
   abbrev here : Got File
   here = fileHere width s p q e
 
@@ -119,7 +119,7 @@ module _ (width : ℕ) (s p q e : List ℕ) (yes : firstNo (partsAsks width (roo
                   let a = gl .count in
                   let b = gl .past in
                   let start : c1 .at - n ≡ labelStart = omega arith in
-                  let past : c1 .at ≡ labelEnd headerEnd (gl .label) = omega arith in
+                  let past : c1 .at ≡ labelPast headerEnd (gl .label) = omega arith in
                   let last = gp .past ∙ ap (λ (m : ℕ). partsEnd m (gp .parts)) past in
                   record {
                     answer =
@@ -151,7 +151,7 @@ file-at width m s f rest e =
     let last : r₃ ≡ rest = cc in
     let i₁ = header-end version width s u r₁ e₁ in
     let i₂ = label-at s headerEnd l r₂ (ap readLabel (sym i₁) ∙ e₂) .next in
-    let p = parts-at width m s (labelEnd headerEnd l) ps r₃ (ap (readParts width m) (sym i₂) ∙ e₃) in
+    let p = parts-at width m s (labelPast headerEnd l) ps r₃ (ap (readParts width m) (sym i₂) ∙ e₃) in
     record {
       next = sym last ∙ p .next ∙ ap (λ (x : File). drop (fileEnd x) s) same;
       cells = subst (λ (x : File). All (λ y. length y ≡ width + width) (x .parts .queries)) same (p .cells);
@@ -279,8 +279,8 @@ module _ (width : ℕ) (bytes : List ℕ) (before : Stores) (no : ℕ) (a : no �
       no-reads r no f (i ∙ sym (ap (instanceAnswer width) f)) after c
 
   -- the parts' questions among them
-  pub asked-parts : no ≡ 0 → firstNo (partsAsks width (rooms (length (before .publics)) (length (before .queries)) (length (before .equations)) 0)) ≡ 0
-  asked-parts z = both _ _ (sym (firstNo-append (partsAsks width (roomsOf before)) (storeAsks (length (before .scratch)))) ∙ sym a ∙ z) .0
+  pub asked-parts : no ≡ 0 → firstNo (readPartsAsks width (rooms (length (before .publics)) (length (before .queries)) (length (before .equations)) 0)) ≡ 0
+  asked-parts z = both _ _ (sym (firstNo-append (readPartsAsks width (roomsOf before)) (storeAsks (length (before .scratch)))) ∙ sym a ∙ z) .0
 
   whole-is : no ≡ 0 → got-file ≡ instanceHere width bytes before
   unfolding instanceFromBytes

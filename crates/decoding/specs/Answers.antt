@@ -14,7 +14,7 @@ use Rattle.header.specs.Form.{version}
 -- a store after a read
 pub use Rattle.items.specs.Answers.{padded}
 use Rattle.items.specs.Answers.{gotAfter, storeAfter, piecesAsks}
-use Rattle.parts.specs.Answers.{partsAsks, instanceRead, wordsOfPublics, wordsOfQueries, wordsOfEquations}
+use Rattle.parts.specs.Answers.{readPartsAsks, instanceRead, wordsOfPublics, wordsOfQueries, wordsOfEquations}
 use Rattle.decoding.specs.Read.{Rooms, rooms, File, readInstance, readWitness}
 use Rattle.decoding.specs.declared.Span.{Span}
 use Rattle.decoding.specs.declared.InstanceRead.{InstanceRead}
@@ -24,7 +24,7 @@ use Rattle.decoding.specs.declared.WitnessRead.{WitnessRead}
 -- ---- 1 and 2 first, then the bytes field by field
 -- 1, and 2 of each store
 abbrev pub readAsks : ℕ → Rooms → List Question
-readAsks width rooms = partsAsks width rooms ++ storeAsks (rooms .scratch)
+readAsks width rooms = readPartsAsks width rooms ++ storeAsks (rooms .scratch)
 
 -- what a read of SFRI gets, or the number of its first no
 unfoldable pub instanceFromBytes : (width : ℕ) (bytes : List ℕ) → Rooms → Got File

@@ -12,7 +12,7 @@ use Rattle.limits.specs.declared.Outcome.the-variants.{Accepted}
 use Rattle.header.specs.Form.{version}
 use Rattle.header.specs.declared.Field.{Field}
 use Rattle.items.specs.Answers.{padded, listField}
-use Rattle.parts.specs.Answers.{labelEnd, partsEnd}
+use Rattle.parts.specs.Answers.{labelPast, partsEnd}
 use Rattle.parts.specs.Told.{PartsStored}
 use Rattle.parts.specs.declared.PartsRead.{PartsRead}
 use Rattle.parts.specs.declared.PartsRead.the-variants.{Read as ReadParts, Refused as RefusedParts}
@@ -39,7 +39,7 @@ acceptedAt ins at len = record { outcome = Accepted; instance = ins; label = spa
 -- ---- the file: label and parts
 -- where it ends
 abbrev pub fileEnd : File → ℕ
-fileEnd f = partsEnd (labelEnd headerEnd (f .label)) (f .parts)
+fileEnd f = partsEnd (labelPast headerEnd (f .label)) (f .parts)
 
 -- what its reader answers
 abbrev pub fileAnswer : ℕ → Got File → FileRead

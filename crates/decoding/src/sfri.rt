@@ -4,7 +4,7 @@ ghost use mathlib.Core.Path.{_≡_};
 ghost use Prim.Native.Nat.{_-_, _≤_};
 ghost use lib.ListN.{length, replicate};
 ghost use Rattle.limits.specs.Questions.{firstNo};
-ghost use Rattle.parts.specs.Answers.{partsAsks};
+ghost use Rattle.parts.specs.Answers.{readPartsAsks};
 ghost use Rattle.decoding.specs.Read.{rooms};
 ghost use Rattle.decoding.specs.Answers.{readAsks, refusedInstance, instanceAnswer, stores, InstanceReads, FileReads};
 ghost use Rattle.decoding.specs.Given.{partsNumberOf, acceptedAt, FileTold, InstanceTold};
@@ -73,7 +73,7 @@ fn read_file(
     queries: &mut [u32],
     equations: &mut [u32],
 ) -> FileRead
-    requires { ⌜ firstNo (partsAsks width (rooms (length (now publics)) (length (now queries)) (length (now equations)) 0)) ≡ 0 ⌝ }
+    requires { ⌜ firstNo (readPartsAsks width (rooms (length (now publics)) (length (now queries)) (length (now equations)) 0)) ≡ 0 ⌝ }
     ensures { λ r. ⌜ FileTold width (now (bytes .entry))
         (now (publics .entry)) (now (queries .entry)) (now (equations .entry))
         (now (publics .exit)) (now (queries .exit)) (now (equations .exit)) r ⌝ }
@@ -106,7 +106,7 @@ fn read_instance(
     equations: &mut [u32],
     scratch: &mut [u32],
 ) -> InstanceRead
-    requires { ⌜ firstNo (partsAsks width (rooms (length (now publics)) (length (now queries)) (length (now equations)) 0)) ≡ 0 ⌝ }
+    requires { ⌜ firstNo (readPartsAsks width (rooms (length (now publics)) (length (now queries)) (length (now equations)) 0)) ≡ 0 ⌝ }
     ensures { λ r. ⌜ InstanceTold width (now (bytes .entry))
         (stores (now (publics .entry)) (now (queries .entry)) (now (equations .entry)) (now (scratch .entry)))
         (stores (now (publics .exit)) (now (queries .exit)) (now (equations .exit)) (now (scratch .exit))) r ⌝ }

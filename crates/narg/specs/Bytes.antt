@@ -2,10 +2,8 @@
 use Prim.Native.Nat.{ℕ, _+_, _*_, _/_, _%_, _<_}
 use mathlib.Core.List.{List, [], _∷_}
 use lib.ListN.{getD}
-
 -- 2^32: a word is below it
-abbrev pub wordEnd : ℕ
-wordEnd = 4294967296
+pub use Rattle.limits.specs.Numbers.{wordEnd}
 
 -- every number of the list is a byte: below 2^8
 abbrev pub IsBytes : List ℕ → Type 0

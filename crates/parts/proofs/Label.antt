@@ -23,7 +23,7 @@ use Rattle.header.specs.declared.Field.{Field}
 use Rattle.header.specs.declared.Field.the-variants.{Read, Refused}
 use Rattle.header.proofs.Got.{took, asked as header-asked}
 use Rattle.parts.specs.Read.{readLabel}
-use Rattle.parts.specs.Answers.{labelEnd, labelField}
+use Rattle.parts.specs.Answers.{labelPast, labelField}
 use Rattle.parts.specs.Told.{labelFirst, labelCount, LabelTold}
 
 -- ---- reading it
@@ -126,9 +126,9 @@ label-fits s at Short m ew ep h = let l = end-within s 0 0 m (omega arith) ep in
 -- ---- what an answer tells
 -- a label whose length stands at a place lies behind it, and what is read next stands behind the label
 pub record LabelAt (s : List ℕ) (at : ℕ) (label rest : List ℕ) : Type 0 where
-  pub inside : labelEnd at label ≤ length s
+  pub inside : labelPast at label ≤ length s
   pub is : take (length label) (drop (at + 4) s) ≡ label
-  pub next : rest ≡ drop (labelEnd at label) s
+  pub next : rest ≡ drop (labelPast at label) s
 
 pub label-at : (s : List ℕ) (at : ℕ) (label rest : List ℕ) → readLabel (drop at s) ≡ got label rest → LabelAt s at label rest
 unfolding readLabel
@@ -144,7 +144,7 @@ label-at s at label rest e =
     let there : h ≡ drop (at + 4) s = w .1 ∙ drop-drop 4 at s in
     let size = length-drop at s in
     let left = ap length there ∙ length-drop (at + 4) s in
-    let z : at + 4 + n ≡ labelEnd at label = ap (λ (m : ℕ). at + 4 + m) (sym k ∙ ap length same) in
+    let z : at + 4 + n ≡ labelPast at label = ap (λ (m : ℕ). at + 4 + m) (sym k ∙ ap length same) in
     record {
       inside = rw (← z) (omega (arith, w .0, p .0));
       is = rw (← same, k) (ap (take n) (sym there) ∙ sym (p .1));
@@ -164,7 +164,7 @@ module _ (s : List ℕ) (at : ℕ) (r : Field) (e : r ≡ labelField at (readLab
     pub label : List ℕ
     pub reads : readLabel (drop at s) ≡ got label (drop (next .at) s)
     pub count : n ≡ length label
-    pub past : next .at ≡ labelEnd at label
+    pub past : next .at ≡ labelPast at label
 
   pub label-told : (n words : ℕ) (next : Cursor) → r ≡ Read n words next → LabelGot n next
   label-told n words next i = go (readLabel (drop at s)) refl (sym e ∙ i)
@@ -172,7 +172,7 @@ module _ (s : List ℕ) (at : ℕ) (r : Field) (e : r ≡ labelField at (readLab
       go : (y : Got (List ℕ)) → readLabel (drop at s) ≡ y → labelField at y ≡ Read n words next → LabelGot n next
       go (got l rest) f h =
           let c : length l ≡ n = cc in
-          let p : cursor (labelEnd at l) ≡ next = cc in
+          let p : cursor (labelPast at l) ≡ next = cc in
           let q = ap (λ (x : Cursor). x .at) (sym p) in
           record {
             label = l;

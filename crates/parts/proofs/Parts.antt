@@ -31,7 +31,7 @@ use Rattle.items.specs.Answers.{storeAfter, listEnd, publicsGot, piecesGot, equ
 use Rattle.items.proofs.Ends.{publics-end, pieces-cells, pieces-end, equations-end}
 use Rattle.items.proofs.Lists.{ListGot, after-no, after-yes}
 use Rattle.parts.specs.Read.{Rooms, rooms, readParts}
-use Rattle.parts.specs.Answers.{partsAsks, partsGot, instanceRead, wordsOfPublics, wordsOfQueries, wordsOfEquations, partsEnd, partsAnswer, partsFrom, PartsReads}
+use Rattle.parts.specs.Answers.{readPartsAsks, partsGot, instanceRead, wordsOfPublics, wordsOfQueries, wordsOfEquations, partsEnd, partsAnswer, partsFrom, PartsReads}
 use Rattle.parts.specs.Told.{PartsStored, PartsLeft, partsHere, PartsTold}
 use Rattle.parts.specs.declared.PartsRead.{PartsRead}
 use Rattle.parts.specs.declared.PartsRead.the-variants.{Read, Refused}
@@ -47,7 +47,7 @@ pub record PartsYes (w p q e : ℕ) : Type 0 where
   pub queries : firstNo (storeAsks q) ≡ 0
   pub equations : firstNo (storeAsks e) ≡ 0
 
-pub parts-yes : (width p q e : ℕ) → firstNo (partsAsks width (rooms p q e 0)) ≡ 0 → PartsYes width p q e
+pub parts-yes : (width p q e : ℕ) → firstNo (readPartsAsks width (rooms p q e 0)) ≡ 0 → PartsYes width p q e
 parts-yes width p q e z =
     let a = both _ _ (sym (firstNo-append (widthAsks width) (storeAsks p ++ (storeAsks q ++ storeAsks e))) ∙ z) in
     let b = both _ _ (sym (firstNo-append (storeAsks p) (storeAsks q ++ storeAsks e)) ∙ a .1) in
@@ -142,7 +142,7 @@ parts-refused width s at p q e p' q' e' j k i x =
     record { answer = ap Refused i ∙ sym (ap (partsAnswer width at) x); left = rw x tt }
 
 -- ---- the open reader: 1 and 2 first
-module _ (width : ℕ) (s : List ℕ) (at : ℕ) (p q e : List ℕ) (no : ℕ) (a : no ≡ firstNo (partsAsks width (rooms (length p) (length q) (length e) 0))) where
+module _ (width : ℕ) (s : List ℕ) (at : ℕ) (p q e : List ℕ) (no : ℕ) (a : no ≡ firstNo (readPartsAsks width (rooms (length p) (length q) (length e) 0))) where
   abbrev from : Got Parts
   from = partsFrom width s at p q e
 
@@ -150,7 +150,7 @@ module _ (width : ℕ) (s : List ℕ) (at : ℕ) (p q e : List ℕ) (no : ℕ) (
       → PartsReads width s at p q e p' q' e' (Refused no)
   unfolding partsGot
   parts-asked-no h p' q' e' zp zq ze =
-      let g = after-no (firstNo (partsAsks width (rooms (length p) (length q) (length e) 0))) (partsHere width s at p q e) no a h in
+      let g = after-no (firstNo (readPartsAsks width (rooms (length p) (length q) (length e) 0))) (partsHere width s at p q e) no a h in
       record { answer = rw g; publics = rw g zp; queries = rw g zq; equations = rw g ze }
 
   pub from-here : no ≡ 0 → from ≡ partsHere width s at p q e

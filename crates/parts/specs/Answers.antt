@@ -21,23 +21,23 @@ use Rattle.parts.specs.declared.PartsRead.the-variants.{Read, Refused}
 
 -- ---- the label
 -- where a label ends whose length stands at a place: behind the length, 4 bytes, and the label
-abbrev pub labelEnd : ℕ → List ℕ → ℕ
-labelEnd at label = at + 4 + length label
+abbrev pub labelPast : ℕ → List ℕ → ℕ
+labelPast at label = at + 4 + length label
 
 -- a label that was read at a place: its length, and the cursor past it; or its number
 abbrev pub labelField : (at : ℕ) → Got (List ℕ) → Field
-labelField at (got label rest) = ReadField (length label) 0 (cursor (labelEnd at label))
+labelField at (got label rest) = ReadField (length label) 0 (cursor (labelPast at label))
 labelField at (stop k) = RefusedField k
 
 -- ---- the parts
 -- 1, and 2 of each store
-abbrev pub partsAsks : ℕ → Rooms → List Question
-partsAsks width rooms =
+abbrev pub readPartsAsks : ℕ → Rooms → List Question
+readPartsAsks width rooms =
     widthAsks width ++ (storeAsks (rooms .publics) ++ (storeAsks (rooms .queries) ++ storeAsks (rooms .equations)))
 
 -- what a reader gets at a place: 1 and 2 first, then the parts
 unfoldable pub partsGot : (width : ℕ) → Rooms → (bytes : List ℕ) (at : ℕ) → Got Parts
-partsGot width rooms bytes at = gotAfter (firstNo (partsAsks width rooms)) (readParts width rooms (drop at bytes))
+partsGot width rooms bytes at = gotAfter (firstNo (readPartsAsks width rooms)) (readParts width rooms (drop at bytes))
 
 -- the record of parts that were read
 abbrev pub instanceRead : ℕ → Parts → PermutationInstance

@@ -9,7 +9,7 @@ ghost use lib.ListN.{length, drop, replicate};
 ghost use Rattle.limits.specs.Questions.{_▸_, ask, firstNo};
 ghost use Rattle.instance.specs.Parts.{pairsAt};
 ghost use Rattle.parts.specs.Read.{rooms, readLabel, increasing};
-ghost use Rattle.parts.specs.Answers.{labelField, partsAsks, PartsReads};
+ghost use Rattle.parts.specs.Answers.{labelField, readPartsAsks, PartsReads};
 ghost use Rattle.parts.specs.Told.{labelFirst, labelCount, LabelTold, PartsTold};
 use header::Field;
 use header::field_number;
@@ -80,7 +80,7 @@ pub fn read_label(bytes: &[u8], c: Cursor) -> Field
 
 // What is asked before the bytes: 1, and 2 of each store.
 fn asked_parts(width: u32, publics: usize, queries: usize, equations: usize) -> u32
-    ensures { λ r. ⌜ r ≡ firstNo (partsAsks width (rooms publics queries equations 0)) ⌝ }
+    ensures { λ r. ⌜ r ≡ firstNo (readPartsAsks width (rooms publics queries equations 0)) ⌝ }
 {
     let a = limits::asked_width(0, width);
     let b = limits::asked_store(a, publics);
@@ -97,7 +97,7 @@ fn parts_into(
     queries: &mut [u32],
     equations: &mut [u32],
 ) -> PartsRead
-    requires { ⌜ firstNo (partsAsks width (rooms (length (now publics)) (length (now queries)) (length (now equations)) 0)) ≡ 0 ⌝ }
+    requires { ⌜ firstNo (readPartsAsks width (rooms (length (now publics)) (length (now queries)) (length (now equations)) 0)) ≡ 0 ⌝ }
     ensures { λ r. ⌜ PartsTold width (now (bytes .entry)) (c .at)
         (now (publics .entry)) (now (queries .entry)) (now (equations .entry))
         (now (publics .exit)) (now (queries .exit)) (now (equations .exit)) r ⌝ }

@@ -21,7 +21,8 @@ pub extern "C" fn sfr_is_witness_valid(
     params: &[u32],
     scratch: &mut [u32],
 ) -> u32
-    ensures { λ r. ⌜ (r ≡ outcomeNumber (isWitnessValid ins (now (label .entry)) (now (publics .entry)) (now (queries .entry)) (now (equations .entry)) steps (now (trace .entry)) rounds (now (params .entry)) (length (now (scratch .entry)))))
+    ensures { λ r. ⌜ (r ≡ outcomeNumber (isWitnessValid ins (now (label .entry)) (now (publics .entry)) (now (queries .entry))
+        (now (equations .entry)) steps (now (trace .entry)) rounds (now (params .entry)) (length (now (scratch .entry)))))
         × (now (scratch .exit) ≡ replicate (length (now (scratch .entry))) 0) ⌝ }
 {
     outcome_no(validity::is_witness_valid(

@@ -104,7 +104,8 @@ pub extern "C" fn sfr_witness_from_bytes(
     bytes: &[u8],
     trace: &mut [u32],
 ) -> SfrTraceAnswer
-    ensures { λ r. ⌜ (r ≡ traceRead width (witnessAnswer (witnessFromBytes width (now (bytes .entry)) (length (now (trace .entry)))))) × (now (trace .exit) ≡ traceAfter (length (now (trace .entry))) (witnessFromBytes width (now (bytes .entry)) (length (now (trace .entry))))) ⌝ }
+    ensures { λ r. ⌜ (r ≡ traceRead width (witnessAnswer (witnessFromBytes width (now (bytes .entry)) (length (now (trace .entry))))))
+        × (now (trace .exit) ≡ traceAfter (length (now (trace .entry))) (witnessFromBytes width (now (bytes .entry)) (length (now (trace .entry))))) ⌝ }
 {
     let read = decoding::witness_from_bytes(width, bytes, trace);
     let o = read.outcome;
