@@ -1,138 +1,54 @@
-// Operations 31 to 33 and 41: the gate, an instance's bytes written and read, and the check.
-//
-// A case hands in the record, each store that the call is lent, and the arguments. What the call is to answer follows:
-// its number and what it has besides, and every word or byte of what it may write, scratch among it.
+// Operations 31 to 36: the gate, an instance's bytes written and read, a wire's value in publics, the heading, and the
+// check.
 
-use crate::relation::same_outcome;
-use crate::sample::BYTES;
-use crate::sample::DIRT;
-use crate::sample::Found;
-use crate::sample::Seen;
-use crate::sample::Taken;
+use crate::answer::SIZE;
+use crate::answer::looked;
+use crate::answer::number;
+use crate::answer::record;
+use crate::answer::relation;
+use crate::answer::three;
+use crate::answer::with_record;
+use crate::sample::FIVE;
+use crate::sample::FOUR;
+use crate::sample::FOURTH;
+use crate::sample::ONE;
+use crate::sample::OTHER;
+use crate::sample::SECOND;
+use crate::sample::SECOND_AFTER;
+use crate::sample::TEXT;
+use crate::sample::THIRD;
+use crate::sample::THIRD_AFTER;
+use crate::sample::THREE;
+use crate::sample::TWO;
 use crate::sample::WORDS;
-use crate::sample::bytes_at;
+use crate::sample::at_most;
 use crate::sample::lent;
+use crate::sample::list;
 use crate::sample::low;
-use crate::sample::past_bytes;
 use crate::sample::same;
-use crate::sample::same_bytes;
-use crate::sample::same_words;
-use crate::sample::shown;
-use crate::sample::so_far;
-use crate::sample::take_list;
-use crate::sample::take_lists;
-use crate::sample::take_word;
-use crate::sample::wide;
-use crate::traces::same_written;
-use compile::Compiled;
+use crate::sample::text;
+use crate::sample::word;
+use crate::traces::BYTES;
+use crate::traces::DIRT;
+use crate::traces::written;
+use allocator::FieldVar;
 use decoding::InstanceRead;
-use instance::PermutationInstance;
-use narg::Cursor;
-use permutation::PermutationRelation;
+use decoding::Span;
 
-// What a case begins with: a record, where the bytes of its label begin and how many they are, the cursor past these.
-struct Headed {
-    instance: PermutationInstance,
-    start: Cursor,
-    len: u32,
-    next: Cursor,
-}
-
-// The count of publics, which a relation's record does not have.
-fn take_publics(op: u32, sample: &[u8], c: Cursor) -> Taken {
-    if op == 31 {
-        return Taken { word: 0, next: c };
-    }
-    take_word(sample, c)
-}
-
-// The record, the label's place and the cursor past it.
-fn take_head(op: u32, sample: &[u8], c: Cursor) -> Headed {
-    let width = take_word(sample, c);
-    let vars = take_word(sample, width.next);
-    let queries = take_word(sample, vars.next);
-    let equations = take_word(sample, queries.next);
-    let words = take_word(sample, equations.next);
-    let publics = take_publics(op, sample, words.next);
-    let len = take_word(sample, publics.next);
-    let start = len.next;
-    Headed {
-        instance: PermutationInstance {
-            width: width.word,
-            vars: vars.word,
-            queries: queries.word,
-            equations: equations.word,
-            words: words.word,
-            publics: publics.word,
-        },
-        start,
-        len: len.word,
-        next: past_bytes(sample, start, len.word),
-    }
-}
-
-// The six words of a record.
-fn same_instance(sample: &[u8], seen: Seen, instance: PermutationInstance) -> Seen {
-    let now = same(sample, seen, instance.width);
-    let now = same(sample, now, instance.vars);
-    let now = same(sample, now, instance.queries);
-    let now = same(sample, now, instance.equations);
-    let now = same(sample, now, instance.words);
-    same(sample, now, instance.publics)
-}
-
-// The gate on the relation of these counts.
-fn compile(
-    given: PermutationInstance,
+// 31: record, label, publics, slots, queries, equations, scratch; the number, the instance's record, publics, scratch.
+fn gate(
+    given: &[u32],
+    case: &[u32],
     label: &[u8],
     slots: &[u32],
     queries: &[u32],
     equations: &[u32],
     publics: &mut [u32],
-    scratch: &mut [u32],
-) -> Compiled {
-    let relation = PermutationRelation {
-        width: given.width,
-        vars: given.vars,
-        queries: given.queries,
-        equations: given.equations,
-        words: given.words,
-    };
-    compile::compile(relation, label, slots, queries, equations, publics, scratch)
-}
-
-// The number, the record, the publics, scratch.
-fn same_compiled(
-    sample: &[u8],
-    next: Cursor,
-    answer: Compiled,
-    publics: &[u32],
-    scratch: &[u32],
-) -> Seen {
-    let outcome = answer.outcome;
-    let now = same_outcome(sample, next, outcome);
-    let now = same_instance(sample, now, answer.instance);
-    same_words(sample, same_words(sample, now, publics), scratch)
-}
-
-// 31: record, label, slots, queries, equations, publics, scratch; the number, the instance's record, publics, scratch.
-fn gate(
-    sample: &[u8],
-    head: Headed,
-    c: Cursor,
-    slots: &[u32],
-    queries: &[u32],
-    equations: &[u32],
-) -> Seen {
-    let mut first = [0u32; WORDS];
-    let mut second = [0u32; WORDS];
-    let one = take_list(sample, c, &mut first);
-    let two = take_list(sample, one.next, &mut second);
-    let publics = lent(&mut first, one.len);
-    let scratch = lent(&mut second, two.len);
-    let label = bytes_at(sample, head.start, head.len);
-    let answer = compile(
-        head.instance,
+) -> [u32; SIZE] {
+    let mut buffer = [0u32; WORDS];
+    let scratch = lent(&mut buffer, list(case, SECOND));
+    let made = compile::compile(
+        relation(given),
         label,
         slots,
         queries,
@@ -140,188 +56,159 @@ fn gate(
         publics,
         scratch,
     );
-    same_compiled(sample, two.next, answer, publics, scratch)
-}
-
-// The check; the number, scratch.
-fn is_witness_valid(
-    sample: &[u8],
-    head: Headed,
-    c: Cursor,
-    publics: &[u32],
-    queries: &[u32],
-    equations: &[u32],
-    trace: &[u32],
-    params: &[u32],
-    scratch: &mut [u32],
-) -> Seen {
-    let steps = take_word(sample, c);
-    let rounds = take_word(sample, steps.next);
-    let outcome = validity::is_witness_valid(
-        head.instance,
-        bytes_at(sample, head.start, head.len),
-        publics,
-        queries,
-        equations,
-        steps.word,
-        trace,
-        rounds.word,
-        params,
-        scratch,
-    );
-    same_words(sample, same_outcome(sample, rounds.next, outcome), scratch)
-}
-
-// 41: record, label, publics, queries, equations, trace, parameters, scratch, steps, rounds; the number, scratch.
-fn check(
-    sample: &[u8],
-    head: Headed,
-    c: Cursor,
-    publics: &[u32],
-    queries: &[u32],
-    equations: &[u32],
-) -> Seen {
-    let mut first = [0u32; WORDS];
-    let mut second = [0u32; WORDS];
-    let mut third = [0u32; WORDS];
-    let lists = take_lists(sample, c, &mut first, &mut second, &mut third);
-    is_witness_valid(
-        sample,
-        head,
-        lists.next,
-        publics,
-        queries,
-        equations,
-        shown(&first, lists.first),
-        shown(&second, lists.second),
-        lent(&mut third, lists.third),
+    let outcome = made.outcome;
+    with_record(
+        number(outcome),
+        0,
+        made.instance,
+        words::all_below(scratch, 1),
     )
 }
 
-// 32: record, label, publics, queries, equations, the output's length; the number, how many bytes were written, the
-// output.
-fn write(
-    sample: &[u8],
-    head: Headed,
-    c: Cursor,
+// 32: record, label, publics, queries, equations, output; the number, how many bytes were written, the output.
+fn instance_to_bytes(
+    given: &[u32],
+    label: &[u8],
     publics: &[u32],
     queries: &[u32],
     equations: &[u32],
-) -> Seen {
+    expected: &[u8],
+) -> [u32; SIZE] {
     let mut output = [DIRT; BYTES];
-    let room = take_word(sample, c);
-    let n = wide(room.word);
-    if BYTES < n {
-        return so_far(room.next, Found::TooLong);
-    }
+    let n = at_most(expected.len(), BYTES);
     let out = &mut output[0..n];
-    let label = bytes_at(sample, head.start, head.len);
     let answer = encoding::instance_to_bytes(
-        head.instance,
+        record(given),
         label,
         publics,
         queries,
         equations,
         out,
     );
-    same_written(sample, room.next, answer, out)
+    written(answer, check::same(expected, out))
 }
 
-// A call that is lent the stores of a relation or an instance: 31, 32 and 41.
-fn call_held(op: u32, sample: &[u8], c: Cursor) -> Seen {
-    let mut store = [0u32; WORDS];
-    let mut second = [0u32; WORDS];
-    let mut third = [0u32; WORDS];
-    let head = take_head(op, sample, c);
-    let lists = take_lists(sample, head.next, &mut store, &mut second, &mut third);
-    let first = shown(&store, lists.first);
-    let queries = shown(&second, lists.second);
-    let equations = shown(&third, lists.third);
-    if op == 31 {
-        return gate(sample, head, lists.next, first, queries, equations);
+// The part of the bytes that lies there; none where they end before it.
+fn part(bytes: &[u8], span: Span) -> &[u8] {
+    let at = span.at;
+    let len = span.len;
+    if bytes.len() < at {
+        return &bytes[..0];
     }
-    if op == 32 {
-        return write(sample, head, lists.next, first, queries, equations);
+    if bytes.len() - at < len {
+        return &bytes[..0];
     }
-    check(sample, head, lists.next, first, queries, equations)
+    let end = at + len;
+    &bytes[at..end]
 }
 
-// The number, the record, the label's length and its bytes.
-fn same_read(sample: &[u8], next: Cursor, bytes: &[u8], answer: InstanceRead) -> Seen {
-    let span = answer.label;
-    let len = low(span.len);
-    let outcome = answer.outcome;
-    let now = same_outcome(sample, next, outcome);
-    let now = same_instance(sample, now, answer.instance);
-    let label = bytes_at(bytes, Cursor { at: span.at }, len);
-    same_bytes(sample, same(sample, now, len), label)
+// The number, the label's length, the record, and whether the label and the other stores are the same.
+fn read_answer(read: InstanceRead, bytes: &[u8], expected: &[u8], stores: bool) -> [u32; SIZE] {
+    let outcome = read.outcome;
+    let label = read.label;
+    let same = stores & check::same(expected, part(bytes, label));
+    with_record(number(outcome), low(label.len), read.instance, same)
 }
 
-// The words of four stores.
-fn same_stores(
-    sample: &[u8],
-    seen: Seen,
-    publics: &[u32],
-    queries: &[u32],
-    equations: &[u32],
-    scratch: &[u32],
-) -> Seen {
-    let now = same_words(sample, seen, publics);
-    let now = same_words(sample, now, queries);
-    let now = same_words(sample, now, equations);
-    same_words(sample, now, scratch)
-}
-
-// The read, and its answer compared.
+// The read, with every store at hand.
 fn read(
-    sample: &[u8],
-    c: Cursor,
     width: u32,
+    case: &[u32],
     bytes: &[u8],
+    expected: &[u8],
     publics: &mut [u32],
     queries: &mut [u32],
     equations: &mut [u32],
     scratch: &mut [u32],
-) -> Seen {
-    let answer = decoding::instance_from_bytes_at(
+) -> [u32; SIZE] {
+    let read = decoding::instance_from_bytes_at(width, bytes, publics, queries, equations, scratch);
+    let a = same(list(case, SECOND_AFTER), queries);
+    let b = same(list(case, THIRD_AFTER), equations);
+    read_answer(read, bytes, expected, a & b & words::all_below(scratch, 1))
+}
+
+// 33: width, bytes, publics, queries, equations, scratch; the number, the label, the record, the four stores.
+fn instance_from_bytes(
+    width: u32,
+    case: &[u32],
+    bytes: &[u8],
+    expected: &[u8],
+    publics: &mut [u32],
+) -> [u32; SIZE] {
+    let mut a = [0u32; WORDS];
+    let mut b = [0u32; WORDS];
+    let mut c = [0u32; WORDS];
+    let queries = lent(&mut a, list(case, SECOND));
+    let equations = lent(&mut b, list(case, THIRD));
+    let scratch = lent(&mut c, list(case, FOURTH));
+    read(
         width,
+        case,
         bytes,
+        expected,
         publics,
         queries,
         equations,
         scratch,
-    );
-    let seen = same_read(sample, c, bytes, answer);
-    same_stores(sample, seen, publics, queries, equations, scratch)
-}
-
-// 33: width, bytes, publics, queries, equations, scratch; the number, the record, the label, the four stores.
-fn call_read(sample: &[u8], c: Cursor) -> Seen {
-    let mut publics = [0u32; WORDS];
-    let mut queries = [0u32; WORDS];
-    let mut equations = [0u32; WORDS];
-    let mut scratch = [0u32; WORDS];
-    let width = take_word(sample, c);
-    let len = take_word(sample, width.next);
-    let after = past_bytes(sample, len.next, len.word);
-    let lists = take_lists(sample, after, &mut publics, &mut queries, &mut equations);
-    let last = take_list(sample, lists.next, &mut scratch);
-    read(
-        sample,
-        last.next,
-        width.word,
-        bytes_at(sample, len.next, len.word),
-        lent(&mut publics, lists.first),
-        lent(&mut queries, lists.second),
-        lent(&mut equations, lists.third),
-        lent(&mut scratch, last.len),
     )
 }
 
-// A call on an instance, by its operation, at the cursor past its number.
-pub(crate) fn call(op: u32, sample: &[u8], c: Cursor) -> Seen {
-    if op == 33 {
-        return call_read(sample, c);
+// 34: wire, record, publics; the number, the value or 0, 1 where there is one.
+fn public_value(given: &[u32], publics: &[u32], var: u32) -> [u32; SIZE] {
+    looked(instance::public_value(record(given), publics, FieldVar(var)))
+}
+
+// 35: label, name; 0, the heading's length, the heading.
+fn heading(case: &[u32], raw: &[u8]) -> [u32; SIZE] {
+    let part = instance::heading(text(case, raw, TEXT), text(case, raw, OTHER));
+    let same = check::same(text(case, raw, ONE), part);
+    three(0, low(part.len()), limits::asked(0, same, 1))
+}
+
+// 36: steps, rounds, record, label, scratch, publics, queries, equations, trace, parameters; the number, scratch.
+fn is_witness_valid(
+    given: &[u32],
+    case: &[u32],
+    label: &[u8],
+    publics: &[u32],
+    queries: &[u32],
+    equations: &[u32],
+    scratch: &mut [u32],
+) -> [u32; SIZE] {
+    let outcome = validity::is_witness_valid(
+        record(given),
+        label,
+        publics,
+        queries,
+        equations,
+        word(given, 0),
+        list(case, FOUR),
+        word(given, 1),
+        list(case, FIVE),
+        scratch,
+    );
+    three(number(outcome), 0, 0)
+}
+
+// A call on an instance, by its operation.
+pub(crate) fn call(
+    op: u32,
+    given: &[u32],
+    case: &[u32],
+    label: &[u8],
+    raw: &[u8],
+    first: &mut [u32],
+) -> [u32; SIZE] {
+    let other = text(case, raw, OTHER);
+    let one = list(case, ONE);
+    let two = list(case, TWO);
+    let three = list(case, THREE);
+    match op {
+        31 => gate(given, case, label, one, two, three, first),
+        32 => instance_to_bytes(given, label, one, two, three, other),
+        33 => instance_from_bytes(word(given, 2), case, label, other, first),
+        34 => public_value(given, one, word(given, 0)),
+        35 => heading(case, raw),
+        _ => is_witness_valid(given, case, label, one, two, three, first),
     }
-    call_held(op, sample, c)
 }

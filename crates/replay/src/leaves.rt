@@ -1,121 +1,77 @@
-// Operations 1 to 5: units added and multiplied, UTF-8, and words read from bytes.
-//
-// Each function takes what its case hands in from the sample, puts it to the proved crate, and compares the
-// answer with the words that follow.
+// Operations 1 to 6: units added and multiplied, UTF-8, and words read from bytes.
 
-use crate::sample::Found;
-use crate::sample::Seen;
-use crate::sample::WORDS;
-use crate::sample::begun;
-use crate::sample::bytes_at;
+use crate::answer::SIZE;
+use crate::answer::three;
 use crate::sample::low;
-use crate::sample::past_bytes;
-use crate::sample::same;
-use crate::sample::same_two;
-use crate::sample::same_words;
-use crate::sample::so_far;
-use crate::sample::take_word;
-use crate::sample::wide;
+use crate::sample::word;
 use baby_bear::BabyBearUnit;
 use narg::Cursor;
 use narg::Item;
 use narg::Word;
 
-// What a store holds before a call: every word, as in the Rust that wrote the sample.
-const DIRT: u32 = 0xabababab;
-
-// 1: a, b; their sum.
-fn add(sample: &[u8], c: Cursor) -> Seen {
-    let a = take_word(sample, c);
-    let b = take_word(sample, a.next);
-    let sum = baby_bear::add_unit(BabyBearUnit(a.word), BabyBearUnit(b.word));
-    same(sample, begun(b.next), sum.0)
+// 1: two words; their sum.
+fn add_unit(a: u32, b: u32) -> [u32; SIZE] {
+    let sum = baby_bear::add_unit(BabyBearUnit(a), BabyBearUnit(b));
+    three(sum.0, 0, 0)
 }
 
-// 2: a, b; their product.
-fn multiply(sample: &[u8], c: Cursor) -> Seen {
-    let a = take_word(sample, c);
-    let b = take_word(sample, a.next);
-    let product = baby_bear::mul_unit(BabyBearUnit(a.word), BabyBearUnit(b.word));
-    same(sample, begun(b.next), product.0)
+// 2: two words; their product.
+fn mul_unit(a: u32, b: u32) -> [u32; SIZE] {
+    let product = baby_bear::mul_unit(BabyBearUnit(a), BabyBearUnit(b));
+    three(product.0, 0, 0)
 }
 
-// 3: bytes; 1 where they are UTF-8, else 0.
-fn text(sample: &[u8], c: Cursor) -> Seen {
-    let len = take_word(sample, c);
-    let answer = utf8::is_utf8(bytes_at(sample, len.next, len.word));
-    let after = past_bytes(sample, len.next, len.word);
-    same(sample, begun(after), if answer { 1 } else { 0 })
+// 3: bytes; 0 where they are UTF-8, else 25.
+fn is_utf8(text: &[u8]) -> [u32; SIZE] {
+    three(limits::asked(0, utf8::is_utf8(text), 25), 0, 0)
 }
 
-// 4: bytes, a place in them; the number and the word that is read there, or 0.
-fn read_word(sample: &[u8], c: Cursor) -> Seen {
-    let len = take_word(sample, c);
-    let place = take_word(sample, past_bytes(sample, len.next, len.word));
-    let at = wide(place.word);
-    match narg::read_u32(bytes_at(sample, len.next, len.word), Cursor { at }) {
-        Word::Read(value, _) => same_two(sample, place.next, 0, value),
-        _ => same_two(sample, place.next, 20, 0),
+// 4: a place, bytes; the number and the word that is read there, or 0.
+fn read_u32(text: &[u8], at: u32) -> [u32; SIZE] {
+    let at = at as usize;
+    match narg::read_u32(text, Cursor { at }) {
+        Word::Read(value, _) => three(0, value, 0),
+        _ => three(20, 0, 0),
     }
 }
 
-// What an item case asks: units (0) or wires, from which place of its bytes, into which place of its store, how many.
-struct Asked {
-    kind: u32,
-    at: usize,
-    place: usize,
-    n: u32,
-}
-
-// The item that is asked for, read from the bytes into the store.
-fn item_of(bytes: &[u8], asked: Asked, out: &mut [u32]) -> Item {
-    let c = Cursor { at: asked.at };
-    if asked.kind == 0 {
-        return narg::read_units(bytes, c, out, asked.place, asked.n);
+// The number of an item and the place after it, which is the given one where it is refused.
+fn item(at: u32, item: Item) -> [u32; SIZE] {
+    match item {
+        Item::Read(c) => three(0, low(c.at), 0),
+        Item::Refused(k) => three(k, at, 0),
     }
-    narg::read_vars(bytes, c, out, asked.place, asked.n)
 }
 
-// The item's number and the place after it, which is the given one where it is refused; then the store.
-fn replay_item(sample: &[u8], next: Cursor, bytes: &[u8], asked: Asked, out: &mut [u32]) -> Seen {
-    words::fill(out, DIRT);
-    let answered = match item_of(bytes, asked, out) {
-        Item::Read(c) => same_two(sample, next, 0, low(c.at)),
-        Item::Refused(k) => same_two(sample, next, k, low(asked.at)),
-    };
-    same_words(sample, answered, out)
+// 5: a place in the bytes, one in the store, n, bytes, store; the number, the next place, the store.
+fn read_units(text: &[u8], x: u32, y: u32, n: u32, store: &mut [u32]) -> [u32; SIZE] {
+    let at = x as usize;
+    item(
+        x,
+        narg::read_units(text, Cursor { at }, store, y as usize, n),
+    )
 }
 
-// 5: kind, bytes, a place in them, the store's length, a place in it, n; the number, the next place, the store.
-fn read_item(sample: &[u8], c: Cursor) -> Seen {
-    let mut store = [0u32; WORDS];
-    let kind = take_word(sample, c);
-    let len = take_word(sample, kind.next);
-    let at = take_word(sample, past_bytes(sample, len.next, len.word));
-    let room = take_word(sample, at.next);
-    let place = take_word(sample, room.next);
-    let n = take_word(sample, place.next);
-    let size = wide(room.word);
-    if WORDS < size {
-        return so_far(n.next, Found::TooLong);
-    }
-    let asked = Asked {
-        kind: kind.word,
-        at: wide(at.word),
-        place: wide(place.word),
-        n: n.word,
-    };
-    let bytes = bytes_at(sample, len.next, len.word);
-    replay_item(sample, n.next, bytes, asked, &mut store[0..size])
+// 6: the same of wires.
+fn read_vars(text: &[u8], x: u32, y: u32, n: u32, store: &mut [u32]) -> [u32; SIZE] {
+    let at = x as usize;
+    item(
+        x,
+        narg::read_vars(text, Cursor { at }, store, y as usize, n),
+    )
 }
 
-// A case of a leaf, by its operation, at the cursor past its number.
-pub(crate) fn call(op: u32, sample: &[u8], c: Cursor) -> Seen {
+// A leaf, by its operation.
+pub(crate) fn call(op: u32, given: &[u32], text: &[u8], store: &mut [u32]) -> [u32; SIZE] {
+    let x = word(given, 0);
+    let y = word(given, 1);
+    let n = word(given, 2);
     match op {
-        1 => add(sample, c),
-        2 => multiply(sample, c),
-        3 => text(sample, c),
-        4 => read_word(sample, c),
-        _ => read_item(sample, c),
+        1 => add_unit(x, y),
+        2 => mul_unit(x, y),
+        3 => is_utf8(text),
+        4 => read_u32(text, x),
+        5 => read_units(text, x, y, n, store),
+        _ => read_vars(text, x, y, n, store),
     }
 }

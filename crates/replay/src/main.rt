@@ -1,8 +1,8 @@
 // Replays a stored sample of answers: what independent Rust says, held against what the proved crates say, word by
 // word and with no Rust at hand.
 //
-// The sample comes on standard input (the file stdin beside src/). It was written by `cargo run --release -p driver
-// -- sample --seed 1` in oracle/, whose README.md says how it is laid out. Its answers come from Rust's own arithmetic,
+// The sample comes on standard input (the file stdin beside src/). It was written by `cargo run --release --offline --
+// sample --seed 1` in oracle/, whose README.md says how it is laid out. Its answers come from Rust's own arithmetic,
 // UTF-8 and little-endian words and, for the calls on relations, traces and instances, from the second reading of
 // document 01 that stands there; never from the proved library.
 //
@@ -11,107 +11,130 @@
 // bytes; and 2,500 random cases, units and wires read into a store among them. Of fresh, allocate, set, set list,
 // record, mint, equation, value and is it allocated it has document 01's examples, every count and argument at its
 // limits, and 1,200 random cases at widths 1 to 24, absurd records among them, with every number that a short store
-// can bring about. Of evaluate and append a step, write and read SFRW it has 120 random cases each, and of gate, write
-// and read SFRI and check 200 each, most at widths 1 to 3, sound and led astray; the writes with every number that a
-// record, a store or an output of these sizes can bring about, and with every byte of the output.
+// can bring about. Of scaled terms put as an equation, evaluate and append a step, permute, write and read SFRW it has
+// 120 random cases each, and of gate, value in publics, heading, write and read SFRI and check 200 each, most at widths
+// 1 to 3, sound and led astray; the writes with every number that a record, a store or an output of these sizes can
+// bring about, and with every byte of the output.
 //
-// A line is printed for each operation, and last how many answers were replayed and how many are different. A fault of
-// the sample, as a case that is cut off, is printed and counts as a difference.
+// Every case is a list of lists, so that one way of taking it apart and of comparing serves all calls. A line is
+// printed for each operation, and last how many answers were replayed and how many are different. A fault of the sample,
+// as a case that is cut off, counts as a difference.
 
+mod answer;
 mod instances;
 mod leaves;
 mod relation;
 mod sample;
 mod tally;
+mod terms;
 mod traces;
 
+use answer::SIZE;
 use libc::STDIN_FILENO;
 use narg::Cursor;
 use narg::Word;
-use sample::Found;
-use sample::Seen;
+use sample::lent;
+use sample::list;
+use sample::low;
+use sample::same;
+use sample::text;
+use sample::word;
 use tally::Tally;
 
-// The longest sample.
+// The longest sample, in bytes.
 const BYTES: usize = 1048576;
 
-// A case, by its operation, at the cursor past its number.
-fn replay_case(op: u32, sample: &[u8], c: Cursor) -> Seen {
-    if !tally::named(op as u64) {
-        return sample::so_far(c, Found::Unknown);
-    }
-    if op < 10 {
-        return leaves::call(op, sample, c);
-    }
-    if op < 20 {
-        return relation::call(op, sample, c);
-    }
-    if op < 30 {
-        return traces::call(op, sample, c);
-    }
-    instances::call(op, sample, c)
-}
+// The same in words.
+const WORDS: usize = 262144;
 
-// After a case that was not compared to its end nothing says where the next one begins.
-fn lost(found: Found) -> bool {
-    match found {
-        Found::Same => false,
-        Found::Different { .. } => false,
-        _ => true,
+// What the call of an operation answers. The store that it may write is lent; a call that is lent more of them compares
+// these itself.
+fn call(op: u32, case: &[u32], raw: &[u8], first: &mut [u32]) -> [u32; SIZE] {
+    let given = list(case, sample::GIVEN);
+    let text = text(case, raw, sample::TEXT);
+    match op {
+        1..=9 => leaves::call(op, given, text, first),
+        10..=20 => relation::call(op, given, case, first),
+        21..=29 => traces::call(op, given, case, text, first),
+        _ => instances::call(op, given, case, text, raw, first),
     }
 }
 
-// The end mark is to be the last word.
-fn ended(tally: Tally, sample: &[u8], c: Cursor) -> Tally {
-    if sample.len() == c.at {
+// Does the case agree?
+fn agrees(op: u32, case: &[u32], raw: &[u8]) -> bool {
+    let mut buffer = [0u32; sample::WORDS];
+    let first = lent(&mut buffer, list(case, sample::FIRST));
+    let answer = call(op, case, raw, first);
+    same(list(case, sample::ANSWER), &answer) & same(list(case, sample::FIRST_AFTER), first)
+}
+
+// Replays the case at a word, with its bytes, and counts it.
+fn step(case: &[u32], bytes: &[u8], at: u32, tally: Tally) -> Tally {
+    let from = 4 * at as usize;
+    let raw = sample::bytes_between(bytes, from, from + 4 * low(case.len()) as usize);
+    let op = word(case, 0) % sample::LISTS;
+    tally::counted(tally, op, at, agrees(op, case, raw))
+}
+
+// The word after n words.
+fn after(at: u32, n: usize) -> u32 {
+    low(at as usize + low(n) as usize)
+}
+
+// The end mark is to be the one word after the last case; else the sample is at fault, which counts as a case.
+fn ended(len: usize, at: u32, tally: Tally) -> Tally {
+    if after(at, 1) as usize == len {
         return tally;
     }
-    tally::faulty(tally, b"the sample goes on after its end mark")
+    tally::counted(tally, 0, at, false)
 }
 
-// Every case of the sample in order. Each has a word at least, so there are no more cases than words.
-fn replay(sample: &[u8]) -> Tally {
+// Every case in order from the one at a word on. Each has a word at least, so there are no more cases than words.
+fn replay(words: &[u32], bytes: &[u8], first: u32) -> Tally {
     let mut tally = tally::nothing();
-    let mut next = Cursor { at: 0 };
-    let words = sample.len() / 4;
+    let mut at = first;
     let mut i = 0;
-    while i < words {
-        i += 1;
-        let Word::Read(op, c) = narg::read_u32(sample, next) else {
+    while i < words.len() {
+        let case = sample::case_at(words, at);
+        let n = case.len();
+        if n == 0 {
             break;
+        }
+        tally = step(case, bytes, at, tally);
+        at = after(at, n);
+        i += 1;
+    }
+    ended(words.len(), at, tally)
+}
+
+// The words that the bytes hold, at the front of a buffer; answers how many.
+fn take_words(bytes: &[u8], out: &mut [u32]) -> usize {
+    let mut next = Cursor { at: 0 };
+    let mut i = 0;
+    while i < out.len() {
+        let Word::Read(word, after) = narg::read_u32(bytes, next) else {
+            return i;
         };
-        if op == 0 {
-            return ended(tally, sample, c);
-        }
-        let seen = replay_case(op, sample, c);
-        let found = seen.found;
-        tally = tally::counted(tally, op, found);
-        if lost(found) {
-            return tally;
-        }
-        next = seen.next;
+        out[i] = word;
+        next = after;
+        i += 1;
     }
-    tally::faulty(tally, b"the sample has no end mark")
+    i
 }
 
-// Is there more on standard input than the buffer took?
-fn more() -> bool {
-    let mut byte = [0u8; 1];
-    0 < io::read_full(STDIN_FILENO, &mut byte)
+// Replays the sample, which begins with the names of its operations, and prints what came of it.
+fn run(words: &[u32], bytes: &[u8]) {
+    let names = sample::case_at(words, 0);
+    tally::print(replay(words, bytes, low(names.len())), names, bytes);
 }
 
-// Reads the sample into the buffer, replays it and prints what came of it.
-fn run(buffer: &mut [u8; BYTES]) {
-    let n = io::read_full(STDIN_FILENO, buffer);
-    let all: &[u8] = buffer;
-    let tally = replay(&all[..n]);
-    if more() {
-        tally::print(tally::faulty(tally, b"the sample is longer than 1 MiB"));
-    } else {
-        tally::print(tally);
-    }
+// Takes the sample from standard input.
+fn start(bytes: &mut [u8; BYTES], words: &mut [u32; WORDS]) {
+    let n = io::read_full(STDIN_FILENO, bytes);
+    let m = take_words(sample::bytes_between(bytes, 0, n), words);
+    run(sample::between(words, 0, m), bytes);
 }
 
 fn main() {
-    run(&mut [0; BYTES]);
+    start(&mut [0; BYTES], &mut [0; WORDS]);
 }

@@ -1,267 +1,139 @@
-// The sample as a stream of words: what a case hands in is taken from it, and what comes out is compared with it.
+// The sample as words, and a case as lists.
 //
-// A cursor goes in and comes back by value. Where the sample ends too early the cursor stays at its end, so that
-// whatever is read from there is missing as well: what the proved crates answer is compared last, and that
-// comparison then finds the case cut off. A list that is too long leaves it past the sample's end, and the comparison
-// finds that. Nothing in the sample is trusted.
+// A case begins with its head, which is its operation and LISTS times how many lists it has. Then come how many words the
+// case has, the places in it at which its lists begin, and the lists. What a list is goes by its number. Nothing in the
+// sample is trusted: a word that it lacks is 0, and a list that a case does not have is empty.
 
-use narg::Cursor;
-use narg::Word;
+ghost use Prim.Native.Nat.{_≤_};
 
-// The longest store or list of a case.
+// What a head counts lists by.
+pub(crate) const LISTS: u32 = 256;
+
+// The numbers that are handed in: two arguments, then a record.
+pub(crate) const GIVEN: u32 = 0;
+
+// The words of the answer.
+pub(crate) const ANSWER: u32 = 1;
+
+// Bytes: a label, what is read, or what a trace's output must be.
+pub(crate) const TEXT: u32 = 2;
+
+// The store that a call may write, and what it must be afterwards.
+pub(crate) const FIRST: u32 = 3;
+
+pub(crate) const FIRST_AFTER: u32 = 4;
+
+// Lists that are only read.
+pub(crate) const ONE: u32 = 5;
+
+pub(crate) const TWO: u32 = 6;
+
+// Bytes: a name, or what an instance's output or a label that is read must be.
+pub(crate) const OTHER: u32 = 7;
+
+// More lists that are only read.
+pub(crate) const THREE: u32 = 8;
+
+pub(crate) const FOUR: u32 = 9;
+
+pub(crate) const FIVE: u32 = 10;
+
+// More stores that a call may write. The last of them is scratch, which must be all 0 afterwards.
+pub(crate) const SECOND: u32 = 11;
+
+pub(crate) const SECOND_AFTER: u32 = 12;
+
+pub(crate) const THIRD: u32 = 13;
+
+pub(crate) const THIRD_AFTER: u32 = 14;
+
+pub(crate) const FOURTH: u32 = 15;
+
+// A case has no list of this number or above.
+const MOST: u32 = 64;
+
+// The longest store.
 pub(crate) const WORDS: usize = 4096;
 
-// The longest output of a write.
-pub(crate) const BYTES: usize = 2048;
+// How many words of 32 bits there are.
+const U32S: usize = 4294967296;
 
-// What an output holds before a write: every byte, as in the Rust that wrote the sample.
-pub(crate) const DIRT: u8 = 0xee;
-
-// A place past the end of every sample.
-const PAST: usize = 18446744073709551615;
-
-// What comparing a case has found.
-pub(crate) enum Found {
-    Same,
-    // The first word of the answer that differs: its number from 0, what is answered here and in the sample. Of bytes
-    // each counts as a word.
-    Different { word: u64, here: u32, expected: u32 },
-    // The sample ends before the case does.
-    CutOff,
-    // The case asks for a longer store than there is here.
-    TooLong,
-    // No operation has this number.
-    Unknown,
-}
-
-// A case so far: where its next word stands, how many words of its answer were compared, and what was found.
-pub(crate) struct Seen {
-    pub next: Cursor,
-    pub words: u64,
-    pub found: Found,
-}
-
-// A case of which nothing can be compared.
-pub(crate) fn so_far(next: Cursor, found: Found) -> Seen {
-    Seen {
-        next,
-        words: 0,
-        found,
-    }
-}
-
-// A case of which nothing is compared yet.
-pub(crate) fn begun(next: Cursor) -> Seen {
-    so_far(next, Found::Same)
-}
-
-// A word of the sample, and the cursor past it.
-pub(crate) struct Taken {
-    pub word: u32,
-    pub next: Cursor,
-}
-
-// One word, or 0 and the same cursor where the sample lacks it.
-pub(crate) fn take_word(sample: &[u8], c: Cursor) -> Taken {
-    let Word::Read(word, next) = narg::read_u32(sample, c) else {
-        return Taken { word: 0, next: c };
-    };
-    Taken { word, next }
-}
-
-// As many words as `out` has, with the cursor past them. Those that the sample lacks stay as they are.
-pub(crate) fn take_words(sample: &[u8], c: Cursor, out: &mut [u32]) -> Cursor {
-    let mut next = c;
-    let mut i = 0;
-    while i < out.len() {
-        let Word::Read(word, after) = narg::read_u32(sample, next) else {
-            return next;
-        };
-        out[i] = word;
-        next = after;
-        i += 1;
-    }
-    next
-}
-
-// A word as a length.
-pub(crate) fn wide(x: u32) -> usize {
-    x as usize
-}
-
-// A list of the sample at the front of a buffer: how many words it has, and the cursor past them.
-pub(crate) struct List {
-    pub len: usize,
-    pub next: Cursor,
-}
-
-// A list, its length first. Where it is longer than the buffer none of its words is taken, and the cursor goes past
-// the end of every sample.
-pub(crate) fn take_list(sample: &[u8], c: Cursor, buffer: &mut [u32]) -> List {
-    let head = take_word(sample, c);
-    let len = wide(head.word);
-    if buffer.len() < len {
-        return List {
-            len: 0,
-            next: Cursor { at: PAST },
-        };
-    }
-    let next = take_words(sample, head.next, &mut buffer[0..len]);
-    List { len, next }
-}
-
-// Three lists at the fronts of three buffers: how many words each has, and the cursor past them.
-pub(crate) struct Lists {
-    pub first: usize,
-    pub second: usize,
-    pub third: usize,
-    pub next: Cursor,
-}
-
-// Three lists in a row.
-pub(crate) fn take_lists(
-    sample: &[u8],
-    c: Cursor,
-    first: &mut [u32],
-    second: &mut [u32],
-    third: &mut [u32],
-) -> Lists {
-    let one = take_list(sample, c, first);
-    let two = take_list(sample, one.next, second);
-    let three = take_list(sample, two.next, third);
-    let next = three.next;
-    Lists {
-        first: one.len,
-        second: two.len,
-        third: three.len,
-        next,
-    }
-}
-
-// The first n words of a buffer, as those of a list that was taken into it; none where it has fewer.
-pub(crate) fn lent(buffer: &mut [u32], n: usize) -> &mut [u32] {
-    if buffer.len() < n {
-        return &mut buffer[0..0];
-    }
-    &mut buffer[0..n]
-}
-
-// The same, to be read alone.
-pub(crate) fn shown(buffer: &[u32], n: usize) -> &[u32] {
-    if buffer.len() < n {
-        return &buffer[0..0];
-    }
-    &buffer[0..n]
-}
-
-// The `len` bytes at the cursor, or as many of them as there are.
-pub(crate) fn bytes_at(sample: &[u8], c: Cursor, len: u32) -> &[u8] {
-    let at = c.at;
-    let n = len as usize;
-    if sample.len() < at {
-        return &sample[..0];
-    }
-    if sample.len() - at < n {
-        return &sample[at..];
-    }
-    let end = at + n;
-    &sample[at..end]
-}
-
-// The cursor past `len` bytes and the zeros that fill up their last word; or at the sample's end, or past it as it was.
-pub(crate) fn past_bytes(sample: &[u8], c: Cursor, len: u32) -> Cursor {
-    let at = c.at;
-    let filled = (len as usize + 3) / 4 * 4;
-    if sample.len() < at {
-        return c;
-    }
-    if sample.len() - at < filled {
-        return Cursor { at: sample.len() };
-    }
-    Cursor { at: at + filled }
+// The word at a place, or 0 past the end.
+pub(crate) fn word(words: &[u32], at: usize) -> u32 {
+    if at < words.len() { words[at] } else { 0 }
 }
 
 // The low 32 bits of a length or a place.
 pub(crate) fn low(n: usize) -> u32 {
-    (n % 4294967296) as u32
+    (n % U32S) as u32
 }
 
-// The first difference is kept.
-fn first(found: Found, word: u64, here: u32, expected: u32) -> Found {
-    let Found::Same = found else {
-        return found;
-    };
-    if here == expected {
-        return Found::Same;
+// A number, or the most that it may be.
+pub(crate) fn at_most(n: usize, most: usize) -> usize
+    ensures { λ r. ⌜ r ≤ most ⌝ }
+{
+    if n < most { n } else { most }
+}
+
+// The words from one place to another, or as many of them as there are.
+pub(crate) fn between(words: &[u32], from: usize, end: usize) -> &[u32] {
+    let end = at_most(end, words.len());
+    let from = at_most(from, end);
+    &words[from..end]
+}
+
+// The bytes from one place to another, or as many of them as there are.
+pub(crate) fn bytes_between(bytes: &[u8], from: usize, end: usize) -> &[u8] {
+    let end = at_most(end, bytes.len());
+    let from = at_most(from, end);
+    &bytes[from..end]
+}
+
+// The case at a place, or as much of it as there is: nothing at the end.
+pub(crate) fn case_at(words: &[u32], at: u32) -> &[u32] {
+    let from = at as usize;
+    between(words, from, from + word(words, from + 1) as usize)
+}
+
+// Where a list of the case begins: at the case's end where it does not have it.
+fn start(case: &[u32], k: u32) -> u32 {
+    if word(case, 0) / LISTS <= k {
+        return low(case.len());
     }
-    Found::Different {
-        word,
-        here,
-        expected,
+    word(case, k as usize + 2)
+}
+
+// The words of a list.
+pub(crate) fn list(case: &[u32], k: u32) -> &[u32] {
+    let end = start(case, k % MOST + 1);
+    between(case, start(case, k) as usize, end as usize)
+}
+
+// The bytes of a list, which has their number and then four in each word.
+pub(crate) fn text<'a>(case: &[u32], raw: &'a [u8], k: u32) -> &'a [u8] {
+    let at = start(case, k) as usize;
+    let from = 4 * at + 4;
+    bytes_between(raw, from, from + word(case, at) as usize)
+}
+
+// The words of a list at the front of a buffer, or as many of them as it takes.
+pub(crate) fn lent<'a>(buffer: &'a mut [u32], list: &[u32]) -> &'a mut [u32] {
+    let n = at_most(list.len(), buffer.len());
+    words::put(buffer, 0, list);
+    &mut buffer[0..n]
+}
+
+// Are the words those of the list? Words that the list lacks at its end are 0.
+pub(crate) fn same(list: &[u32], here: &[u32]) -> bool {
+    if here.len() < list.len() {
+        return false;
     }
-}
-
-// Why a word is missing at the cursor, which only a list that is too long leaves past the sample's end.
-fn missing(sample: &[u8], c: Cursor) -> Found {
-    if sample.len() < c.at {
-        return Found::TooLong;
-    }
-    Found::CutOff
-}
-
-// One word more of the answer, compared with the sample's.
-pub(crate) fn same(sample: &[u8], seen: Seen, here: u32) -> Seen {
-    let Word::Read(expected, after) = narg::read_u32(sample, seen.next) else {
-        return so_far(seen.next, missing(sample, seen.next));
-    };
-    let found = seen.found;
-    Seen {
-        next: after,
-        words: std::num::wrapping_add_u64(seen.words, 1),
-        found: first(found, seen.words, here, expected),
-    }
-}
-
-// The first two words of an answer.
-pub(crate) fn same_two(sample: &[u8], next: Cursor, one: u32, two: u32) -> Seen {
-    same(sample, same(sample, begun(next), one), two)
-}
-
-// Words of the answer, as those of a store.
-pub(crate) fn same_words(sample: &[u8], seen: Seen, here: &[u32]) -> Seen {
-    let mut now = seen;
     let mut i = 0;
     while i < here.len() {
-        now = same(sample, now, here[i]);
-        i += 1;
-    }
-    now
-}
-
-// The same of a byte.
-fn first_byte(found: Found, word: u64, here: u8, expected: u8) -> Found {
-    first(found, word, here as u32, expected as u32)
-}
-
-// Bytes of the answer, as those of an output. The sample has them packed into words.
-pub(crate) fn same_bytes(sample: &[u8], seen: Seen, here: &[u8]) -> Seen {
-    let next = seen.next;
-    let len = low(here.len());
-    let expected = bytes_at(sample, next, len);
-    let mut words = seen.words;
-    let mut found = seen.found;
-    let mut i = 0;
-    while i < here.len() {
-        if expected.len() <= i {
-            return so_far(next, missing(sample, next));
+        if here[i] != word(list, i) {
+            return false;
         }
-        found = first_byte(found, words, here[i], expected[i]);
-        words = std::num::wrapping_add_u64(words, 1);
         i += 1;
     }
-    Seen {
-        next: past_bytes(sample, next, len),
-        words,
-        found,
-    }
+    true
 }

@@ -1,133 +1,98 @@
-// Operations 21 to 24: a trace's steps, and its bytes written and read.
-//
-// A case hands in the record (width and steps), each store that the call is lent, and the arguments. What the call is
-// to answer follows: its number and what it has besides, and every word or byte of what it may write.
+// Operations 21 to 25: the permutation, a trace's steps, and its bytes written and read.
 
-use crate::relation::same_outcome;
-use crate::sample::BYTES;
-use crate::sample::DIRT;
-use crate::sample::Found;
-use crate::sample::Seen;
-use crate::sample::WORDS;
-use crate::sample::bytes_at;
-use crate::sample::lent;
+use crate::answer::SIZE;
+use crate::answer::number;
+use crate::answer::three;
+use crate::sample::ONE;
+use crate::sample::TWO;
+use crate::sample::at_most;
+use crate::sample::list;
 use crate::sample::low;
-use crate::sample::past_bytes;
-use crate::sample::same;
-use crate::sample::same_bytes;
-use crate::sample::same_words;
-use crate::sample::shown;
-use crate::sample::so_far;
-use crate::sample::take_list;
-use crate::sample::take_lists;
-use crate::sample::take_word;
-use crate::sample::wide;
+use crate::sample::word;
 use encoding::Written;
-use narg::Cursor;
 use witness::PermutationWitness;
 use witness::Traced;
 
-// The number, the record, the trace.
-fn same_traced(sample: &[u8], next: Cursor, answer: Traced, trace: &[u32]) -> Seen {
-    let outcome = answer.outcome;
-    let witness = answer.witness;
-    let now = same_outcome(sample, next, outcome);
-    let now = same(sample, now, witness.width);
-    let now = same(sample, now, witness.steps);
-    same_words(sample, now, trace)
+// What a write holds before it: every byte, as in the Rust that wrote the sample.
+pub(crate) const DIRT: u8 = 0xee;
+
+// The longest output of a write.
+pub(crate) const BYTES: usize = 2048;
+
+// The number, the steps, the width.
+fn traced(t: Traced) -> [u32; SIZE] {
+    let outcome = t.outcome;
+    let w = t.witness;
+    three(number(outcome), w.steps, w.width)
 }
 
-// 21: record, trace, inputs, parameters, rounds; the number, the record, the trace.
-fn allocate_permutation(
-    sample: &[u8],
-    c: Cursor,
-    given: PermutationWitness,
+// 21: steps, rounds, width, trace, inputs, parameters; the number, the record, the trace.
+fn evaluate_step(
+    witness: PermutationWitness,
     trace: &mut [u32],
     input: &[u32],
+    rounds: u32,
     params: &[u32],
-) -> Seen {
-    let rounds = take_word(sample, c);
-    let answer = witness::evaluate_step(given, trace, input, rounds.word, params);
-    same_traced(sample, rounds.next, answer, trace)
+) -> [u32; SIZE] {
+    traced(witness::evaluate_step(witness, trace, input, rounds, params))
 }
 
-// 22: record, trace, inputs, outputs; the number, the record, the trace.
-fn add_permutation(
-    sample: &[u8],
-    c: Cursor,
-    given: PermutationWitness,
+// 22: steps, width, trace, inputs, outputs; the number, the record, the trace.
+fn append_step(
+    witness: PermutationWitness,
     trace: &mut [u32],
     input: &[u32],
     output: &[u32],
-) -> Seen {
-    let answer = witness::append_step(given, trace, input, output);
-    same_traced(sample, c, answer, trace)
+) -> [u32; SIZE] {
+    traced(witness::append_step(witness, trace, input, output))
 }
 
-// A step: 21 or 22, whose lists are taken alike.
-fn call_step(op: u32, sample: &[u8], c: Cursor) -> Seen {
-    let mut store = [0u32; WORDS];
-    let mut second = [0u32; WORDS];
-    let mut third = [0u32; WORDS];
-    let width = take_word(sample, c);
-    let steps = take_word(sample, width.next);
-    let witness = PermutationWitness {
-        width: width.word,
-        steps: steps.word,
-    };
-    let lists = take_lists(sample, steps.next, &mut store, &mut second, &mut third);
-    let trace = lent(&mut store, lists.first);
-    let input = shown(&second, lists.second);
-    let last = shown(&third, lists.third);
-    if op == 21 {
-        return allocate_permutation(sample, lists.next, witness, trace, input, last);
-    }
-    add_permutation(sample, lists.next, witness, trace, input, last)
+// The number, how many bytes were written, and whether the output is the same.
+pub(crate) fn written(w: Written, same: bool) -> [u32; SIZE] {
+    let outcome = w.outcome;
+    three(number(outcome), low(w.len), limits::asked(0, same, 1))
 }
 
-// The number, how many bytes were written, the output.
-pub(crate) fn same_written(sample: &[u8], next: Cursor, answer: Written, out: &[u8]) -> Seen {
-    let outcome = answer.outcome;
-    let now = same_outcome(sample, next, outcome);
-    same_bytes(sample, same(sample, now, low(answer.len)), out)
-}
-
-// 23: record, trace, the output's length; the number, how many bytes were written, the output.
-fn write(sample: &[u8], c: Cursor) -> Seen {
-    let mut store = [0u32; WORDS];
+// 23: steps, width, trace, output; the number, how many bytes were written, the output.
+fn witness_to_bytes(width: u32, steps: u32, trace: &[u32], expected: &[u8]) -> [u32; SIZE] {
     let mut output = [DIRT; BYTES];
-    let width = take_word(sample, c);
-    let steps = take_word(sample, width.next);
-    let list = take_list(sample, steps.next, &mut store);
-    let room = take_word(sample, list.next);
-    let len = wide(room.word);
-    if BYTES < len {
-        return so_far(room.next, Found::TooLong);
-    }
-    let out = &mut output[0..len];
-    let answer = encoding::witness_to_bytes(width.word, steps.word, shown(&store, list.len), out);
-    same_written(sample, room.next, answer, out)
+    let n = at_most(expected.len(), BYTES);
+    let out = &mut output[0..n];
+    let answer = encoding::witness_to_bytes(width, steps, trace, out);
+    written(answer, check::same(expected, out))
 }
 
 // 24: width, bytes, trace; the number, the steps, the trace.
-fn read(sample: &[u8], c: Cursor) -> Seen {
-    let mut store = [0u32; WORDS];
-    let width = take_word(sample, c);
-    let len = take_word(sample, width.next);
-    let list = take_list(sample, past_bytes(sample, len.next, len.word), &mut store);
-    let trace = lent(&mut store, list.len);
-    let bytes = bytes_at(sample, len.next, len.word);
-    let answer = decoding::witness_from_bytes(width.word, bytes, trace);
-    let outcome = answer.outcome;
-    let now = same_outcome(sample, list.next, outcome);
-    same_words(sample, same(sample, now, answer.steps), trace)
+fn witness_from_bytes(width: u32, text: &[u8], trace: &mut [u32]) -> [u32; SIZE] {
+    let read = decoding::witness_from_bytes(width, text, trace);
+    let outcome = read.outcome;
+    three(number(outcome), read.steps, 0)
 }
 
-// A call on a trace, by its operation, at the cursor past its number.
-pub(crate) fn call(op: u32, sample: &[u8], c: Cursor) -> Seen {
+// 25: rounds, width, state, parameters; the number, the state.
+fn permute(width: u32, rounds: u32, params: &[u32], state: &mut [u32]) -> [u32; SIZE] {
+    three(permute::permute(width, rounds, params, state), 0, 0)
+}
+
+// A call on a trace, by its operation.
+pub(crate) fn call(
+    op: u32,
+    given: &[u32],
+    case: &[u32],
+    text: &[u8],
+    store: &mut [u32],
+) -> [u32; SIZE] {
+    let steps = word(given, 0);
+    let rounds = word(given, 1);
+    let width = word(given, 2);
+    let witness = PermutationWitness { width, steps };
+    let one = list(case, ONE);
+    let two = list(case, TWO);
     match op {
-        23 => write(sample, c),
-        24 => read(sample, c),
-        _ => call_step(op, sample, c),
+        21 => evaluate_step(witness, store, one, rounds, two),
+        22 => append_step(witness, store, one, two),
+        23 => witness_to_bytes(width, steps, one, text),
+        24 => witness_from_bytes(width, text, store),
+        _ => permute(width, rounds, one, store),
     }
 }

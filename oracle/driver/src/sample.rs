@@ -1,10 +1,12 @@
 //! `sample`: cases for a proved program to replay, written to standard output.
 //!
-//! The file is a stream of u32 words, little-endian. A case is its operation, what is
-//! handed in, and what is expected. That comes from the standard library (`leaf.rs`) or,
-//! for the calls on a relation, a trace and an instance (`sample/`), from the second
-//! reading, and never from the proved library. README.md says how each operation's cases are laid out.
+//! The file is a stream of u32 words, little-endian. A case is its operation and lists:
+//! what is handed in, and what is expected. That comes from the standard library
+//! (`leaf.rs`) or, for the calls on a relation, a trace and an instance (`sample/`), from
+//! the second reading, and never from the proved library. README.md says which lists each
+//! operation has.
 
+mod case;
 mod instance;
 mod relation;
 mod trace;
@@ -21,6 +23,8 @@ use crate::{
     rng::{Rng, EDGES},
 };
 
+use case::{Case, FIRST, FIRST_AFTER, TEXT};
+
 /// Random cases of leaves, of calls on a relation, and of each call on a trace and on an
 /// instance, where no count is given: with the fixed ones they stay below 1 MiB.
 const LEAVES: u64 = 2_500;
@@ -28,10 +32,53 @@ const RELATIONS: u64 = 1_200;
 const TRACES: u64 = 120;
 const INSTANCES: u64 = 200;
 
+/// What the cases of an operation are.
+const OPERATIONS: [(u32, &str); 27] = [
+    (1, "sums"),
+    (2, "products"),
+    (3, "texts"),
+    (4, "words"),
+    (5, "items of units"),
+    (6, "items of wires"),
+    (11, "fresh relations"),
+    (12, "allocations"),
+    (13, "sets"),
+    (14, "set lists"),
+    (15, "records"),
+    (16, "mints"),
+    (17, "equations"),
+    (18, "values"),
+    (19, "tests for allocation"),
+    (20, "equations of scaled terms"),
+    (21, "evaluated steps"),
+    (22, "appended steps"),
+    (23, "writes of SFRW"),
+    (24, "reads of SFRW"),
+    (25, "permuted states"),
+    (31, "gates"),
+    (32, "writes of SFRI"),
+    (33, "reads of SFRI"),
+    (34, "values in publics"),
+    (35, "headings"),
+    (36, "checks"),
+];
+
+/// An operation's number is below this.
+const OPERATION_END: usize = 37;
+
+/// The lines that follow those of the operations.
+const TOTALS: [&str; 3] = [
+    " answers replayed\n",
+    " different\n",
+    " the word of the sample at which the last of these begins\n",
+];
+
 pub fn run(options: &Options) -> bool {
     let mut rng = Rng::new(options.seed);
     let mut writes = Rng::new(!options.seed);
+    let mut more = Rng::new(options.seed ^ (1 << 63));
     let mut sample = Sample::default();
+    sample.names();
     sample.fixed();
     for _ in 0..options.count.unwrap_or(LEAVES) {
         sample.random(&mut rng);
@@ -42,9 +89,12 @@ pub fn run(options: &Options) -> bool {
     }
     for _ in 0..options.count.unwrap_or(TRACES) {
         sample.random_trace(&mut rng, &mut writes);
+        sample.random_permute(&mut more);
+        sample.random_scaled(&mut more);
     }
     for _ in 0..options.count.unwrap_or(INSTANCES) {
-        sample.random_instance(&mut rng, &mut writes);
+        sample.random_instance(&mut rng, &mut writes, &mut more);
+        sample.random_heading(&mut more);
     }
     sample.words.push(0);
     let bytes: Vec<u8> = sample
@@ -67,22 +117,32 @@ pub fn run(options: &Options) -> bool {
 #[derive(Default)]
 struct Sample {
     words: Vec<u32>,
-    operation: u32,
     cases: BTreeMap<u32, u64>,
     numbers: BTreeMap<(u32, u32), u64>,
 }
 
 impl Sample {
-    fn case(&mut self, operation: u32) {
-        self.operation = operation;
-        *self.cases.entry(operation).or_default() += 1;
-        self.words.push(operation);
+    /// The first lists of the file: what is printed behind the number of each operation's
+    /// cases, and behind the totals.
+    fn names(&mut self) {
+        let mut lines = vec![String::new(); OPERATION_END];
+        for (operation, name) in OPERATIONS {
+            lines[operation as usize] = format!(" {name} agree\n");
+        }
+        lines.extend(TOTALS.map(String::from));
+        let lists: Vec<Vec<u32>> = lines.iter().map(|l| case::packed(l.as_bytes())).collect();
+        self.words.extend(case::laid_out(0, &lists));
     }
 
-    /// The number that the case begun last expects.
-    fn number(&mut self, number: u32) {
-        *self.numbers.entry((self.operation, number)).or_default() += 1;
-        self.words.push(number);
+    /// A case more; what it answers begins with the number that it expects.
+    fn push(&mut self, case: Case) {
+        let operation = case.operation;
+        *self.cases.entry(operation).or_default() += 1;
+        if operation > 2 {
+            let number = case.number();
+            *self.numbers.entry((operation, number)).or_default() += 1;
+        }
+        self.words.extend(case.words());
     }
 
     /// A line for each operation: its cases, and how often which number is expected.
@@ -95,62 +155,40 @@ impl Sample {
         }
     }
 
-    /// The length and the packed bytes.
-    fn bytes(&mut self, bytes: &[u8]) {
-        self.words.push(bytes.len() as u32);
-        self.packed(bytes);
-    }
-
-    /// The packed bytes alone.
-    fn packed(&mut self, bytes: &[u8]) {
-        for chunk in bytes.chunks(4) {
-            let mut packed = [0; 4];
-            packed[..chunk.len()].copy_from_slice(chunk);
-            self.words.push(u32::from_le_bytes(packed));
-        }
-    }
-
     fn add(&mut self, a: u32, b: u32) {
-        self.case(1);
-        self.words.extend([a, b, leaf::add(a, b)]);
+        self.push(Case::new(1).given(&[a, b]).answer(&[leaf::add(a, b)]));
     }
 
     fn mul(&mut self, a: u32, b: u32) {
-        self.case(2);
-        self.words.extend([a, b, leaf::mul(a, b)]);
+        self.push(Case::new(2).given(&[a, b]).answer(&[leaf::mul(a, b)]));
     }
 
     fn utf8(&mut self, bytes: &[u8]) {
-        self.case(3);
-        self.bytes(bytes);
-        self.words.push(u32::from(leaf::is_utf8(bytes)));
+        let number = if leaf::is_utf8(bytes) { 0 } else { 25 };
+        self.push(Case::new(3).bytes(TEXT, bytes).answer(&[number]));
     }
 
     fn word(&mut self, bytes: &[u8], at: u32) {
-        self.case(4);
-        self.bytes(bytes);
         let (number, value) = match leaf::word_at(bytes, u128::from(at)) {
             None => (20, 0),
             Some(value) => (0, value),
         };
-        self.words.push(at);
-        self.number(number);
-        self.words.push(value);
+        let case = Case::new(4).given(&[at]).bytes(TEXT, bytes);
+        self.push(case.answer(&[number, value]));
     }
 
     fn item(&mut self, item: &Item) {
-        self.case(5);
-        self.words.push(match item.kind {
-            Kind::Units => 0,
-            Kind::Vars => 1,
-        });
-        self.bytes(&item.bytes);
-        let (at, out_len, place) = (item.at as u32, item.out_len as u32, item.place as u32);
-        self.words.extend([at, out_len, place, item.n]);
+        let operation = match item.kind {
+            Kind::Units => 5,
+            Kind::Vars => 6,
+        };
         let (number, next, out) = item.read(DIRT);
-        self.number(number);
-        self.words.push(next as u32);
-        self.words.extend(out);
+        let case = Case::new(operation)
+            .given(&[item.at as u32, item.place as u32, item.n])
+            .bytes(TEXT, &item.bytes)
+            .list(FIRST, &vec![DIRT; item.out_len])
+            .list(FIRST_AFTER, &out);
+        self.push(case.answer(&[number, next as u32]));
     }
 
     /// The cases that every sample has: edges, rows, document 01's and RFC 3629's examples.

@@ -1,10 +1,16 @@
-//! Operations 31 to 33 and 41 of a sample: the gate, an instance's bytes written and read, and
-//! the check, with all that is lent to the call and with what the second reading says of it.
+//! Operations 31 to 36 of a sample: the gate, an instance's bytes written and read, a wire's
+//! value in publics, the heading and the check, with all that is lent to the call and with what
+//! the second reading says of it.
 
 use reading::Instance;
 use source::Params;
 
 use super::{
+    case::{
+        Case, FIRST, FIRST_AFTER, FIVE, FOUR, FOURTH, ONE, OTHER, SECOND, SECOND_AFTER, TEXT,
+        THIRD, THIRD_AFTER, THREE, TWO,
+    },
+    relation,
     trace::{damaged, output, short_sheet, small_width, DIRTY_BYTE},
     Sample,
 };
@@ -16,22 +22,32 @@ use crate::{
     rng::Rng,
 };
 
-impl Sample {
-    fn instance_record(&mut self, ins: Instance) {
-        self.words
-            .extend([ins.width, ins.vars_count, ins.queries, ins.equations]);
-        self.words.extend([ins.words, ins.publics]);
-    }
+/// The words of an instance's record behind two arguments.
+fn given(arguments: [u32; 2], ins: Instance) -> [u32; 8] {
+    let [x, y] = arguments;
+    let Instance {
+        width,
+        vars_count,
+        queries,
+        equations,
+        words,
+        publics,
+    } = ins;
+    [x, y, width, vars_count, queries, equations, words, publics]
+}
 
+impl Sample {
     fn gate(&mut self, state: &State, label: &[u8], publics: usize, scratch: usize) {
-        self.case(31);
-        self.relation(state.rel);
-        self.bytes(label);
         let (mut publics, mut scratch) = (vec![DIRT; publics], vec![DIRT; scratch]);
         let (slots, queries, equations) = (&state.slots, &state.queries, &state.equations);
-        for store in [slots, queries, equations, &publics, &scratch] {
-            self.list(store);
-        }
+        let case = Case::new(31)
+            .given(&relation::given([0, 0], state.rel))
+            .bytes(TEXT, label)
+            .list(FIRST, &publics)
+            .list(ONE, slots)
+            .list(TWO, queries)
+            .list(THREE, equations)
+            .list(SECOND, &scratch);
         let answer = reading::compile(
             state.rel,
             label,
@@ -41,25 +57,18 @@ impl Sample {
             &mut publics,
             &mut scratch,
         );
-        self.number(answer.number);
-        self.instance_record(answer.instance);
-        self.words.extend(publics);
-        self.words.extend(scratch);
-    }
-
-    /// The record, the label and the three stores of an instance.
-    fn held(&mut self, held: &Held) {
-        self.instance_record(held.ins);
-        self.bytes(&held.label);
-        for store in [&held.publics, &held.queries, &held.equations] {
-            self.list(store);
-        }
+        let case = case.answer(&given([answer.number, 0], answer.instance));
+        self.push(case.list(FIRST_AFTER, &publics));
+        assert!(scratch.iter().all(|&word| word == 0), "scratch is all 0");
     }
 
     fn write_instance(&mut self, held: &Held, room: usize) {
-        self.case(32);
-        self.held(held);
-        self.words.push(room as u32);
+        let case = Case::new(32)
+            .given(&given([0, 0], held.ins))
+            .bytes(TEXT, &held.label)
+            .list(ONE, &held.publics)
+            .list(TWO, &held.queries)
+            .list(THREE, &held.equations);
         let mut out = vec![DIRTY_BYTE; room];
         let answer = reading::instance_to_bytes(
             held.ins,
@@ -69,36 +78,66 @@ impl Sample {
             &held.equations,
             &mut out,
         );
-        self.written(answer, &out);
+        let case = case.bytes(OTHER, &out);
+        self.push(case.answer(&[answer.number, answer.len as u32]));
     }
 
     fn read_instance(&mut self, width: u32, bytes: &[u8], rooms: [usize; 4]) {
-        self.case(33);
-        self.words.push(width);
-        self.bytes(bytes);
         let mut stores = rooms.map(|room| vec![DIRT; room]);
-        for store in &stores {
-            self.list(store);
-        }
         let [publics, queries, equations, scratch] = &mut stores;
+        let case = Case::new(33)
+            .given(&[0, 0, width])
+            .bytes(TEXT, bytes)
+            .list(FIRST, publics)
+            .list(SECOND, queries)
+            .list(THIRD, equations)
+            .list(FOURTH, scratch);
         let answer =
             reading::instance_from_bytes(width, bytes, publics, queries, equations, scratch);
-        self.number(answer.number);
-        self.instance_record(answer.instance);
-        self.bytes(answer.label);
-        for store in stores {
-            self.words.extend(store);
-        }
+        let len = answer.label.len() as u32;
+        let case = case
+            .answer(&given([answer.number, len], answer.instance))
+            .bytes(OTHER, answer.label)
+            .list(FIRST_AFTER, publics)
+            .list(SECOND_AFTER, queries)
+            .list(THIRD_AFTER, equations);
+        self.push(case);
+        assert!(scratch.iter().all(|&word| word == 0), "scratch is all 0");
+    }
+
+    fn public_value(&mut self, held: &Held, var: u32) {
+        let answer = reading::public_value(held.ins, &held.publics, var);
+        let (some, value) = (answer.value.is_some(), answer.value.unwrap_or(0));
+        let case = Case::new(34)
+            .given(&given([var, 0], held.ins))
+            .list(ONE, &held.publics);
+        self.push(case.answer(&[answer.number, value, u32::from(some)]));
+    }
+
+    /// A label and a name of few bytes, most often one of them none.
+    pub fn random_heading(&mut self, rng: &mut Rng) {
+        let mut text = || -> Vec<u8> { (0..rng.below(6)).map(|_| rng.byte()).collect() };
+        let (label, name) = (text(), text());
+        let label = if rng.once_in(2) { label } else { vec![] };
+        let heading = reading::heading(&label, &name);
+        let case = Case::new(35)
+            .bytes(TEXT, &label)
+            .bytes(OTHER, &name)
+            .bytes(ONE, heading);
+        self.push(case.answer(&[0, heading.len() as u32]));
     }
 
     fn check(&mut self, held: &Held, steps: u32, trace: &[u32], params: &Params, scratch: usize) {
-        self.case(41);
-        self.held(held);
         let mut scratch = vec![DIRT; scratch];
-        for store in [trace, &params.words, &scratch] {
-            self.list(store);
-        }
-        self.words.extend([steps, params.rounds]);
+        let case = Case::new(36)
+            .given(&given([steps, params.rounds], held.ins))
+            .bytes(TEXT, &held.label)
+            .list(FIRST, &scratch)
+            .list(ONE, &held.publics)
+            .list(TWO, &held.queries)
+            .list(THREE, &held.equations)
+            .list(FOUR, trace)
+            .list(FIVE, &params.words);
         let number = reading::is_witness_valid(
             held.ins,
             &held.label,
@@ -110,13 +149,13 @@ impl Sample {
             held::lent(params),
             &mut scratch,
         );
-        self.number(number);
-        self.words.extend(scratch);
+        self.push(case.answer(&[number]).list(FIRST_AFTER, &scratch));
     }
 
     /// A relation that calls make, or one led astray: the gate, and then what it makes or parts
-    /// that no gate has seen, written, read and checked. What happens to a write is drawn apart.
-    pub fn random_instance(&mut self, rng: &mut Rng, writes: &mut Rng) {
+    /// that no gate has seen, looked at, written, read and checked. What happens to a write and a
+    /// look is drawn apart.
+    pub fn random_instance(&mut self, rng: &mut Rng, writes: &mut Rng, looks: &mut Rng) {
         let width = small_width(rng);
         let mut generator = Generator::of_width(Rng::new(rng.next()), width);
         generator.params = generate::params(rng, width);
@@ -130,6 +169,7 @@ impl Sample {
         if number == 0 && rng.once_in(2) {
             gated.publics.truncate(2 * gated.ins.publics as usize);
             let trace = generator.trace(&gated);
+            self.random_public_value(looks, &gated);
             self.random_write_instance(writes, &gated);
             self.random_read_instance(rng, &gated);
             return self.random_check(rng, &gated, trace, &generator.params);
@@ -137,6 +177,7 @@ impl Sample {
         let parts = generate::ungated(rng, width);
         let (trace, params) = generate::ungated_trace(rng, width, &parts, &generator.params);
         let held = Held::from_parts(width, &parts);
+        self.random_public_value(looks, &held);
         self.random_write_instance(writes, &held);
         self.random_read_instance(rng, &held);
         self.random_check(rng, &held, trace, &params);
@@ -156,6 +197,24 @@ impl Sample {
             scratch = astray::near_len(rng, scratch);
         }
         self.gate(&state, &label, publics, scratch);
+    }
+
+    /// A wire that publics list, twice now and then, or another one.
+    fn random_public_value(&mut self, rng: &mut Rng, held: &Held) {
+        let mut held = held.clone();
+        if rng.once_in(4) {
+            astray::held(rng, &mut held);
+        }
+        if rng.once_in(3) && !held.publics.is_empty() {
+            held.publics.extend([held.publics[0], rng.unit()]);
+            held.ins.publics = held.ins.publics.wrapping_add(1);
+        }
+        let var = match held.publics.len() {
+            0 => rng.edge(),
+            len if rng.once_in(2) => held.publics[rng.below(len) & !1],
+            _ => astray::near(rng, held.ins.vars_count),
+        };
+        self.public_value(&held, var);
     }
 
     /// A write of the instance, as it is or led astray.

@@ -1,4 +1,4 @@
-//! Operations 11 to 19 of a sample: one call on a relation each, with all that is lent to it
+//! Operations 11 to 20 of a sample: one call on a relation each, with all that is lent to it
 //! and with what the second reading says of it.
 //!
 //! A random case starts as a call that most likely is accepted, over stores that end where
@@ -8,9 +8,12 @@
 
 use reading::{Relation, MAX_COUNT, P, UNASSIGNED};
 
-use super::Sample;
+use super::{
+    case::{Case, FIRST, FIRST_AFTER, ONE, SECOND, SECOND_AFTER, TWO},
+    Sample,
+};
 use crate::{
-    calls::{Call, State, DIRT},
+    calls::{weighted, Call, State, DIRT},
     rng::{Rng, EDGES},
 };
 
@@ -19,85 +22,103 @@ const NO_WIDTHS: [u32; 4] = [0, 25, 1 << 31, u32::MAX];
 const NO_VARS: [u32; 4] = [MAX_COUNT, MAX_COUNT + 1, DIRT, u32::MAX];
 const NO_UNITS: [u32; 4] = [P, P + 1, DIRT, UNASSIGNED];
 
+/// The words of a record behind two arguments.
+pub fn given(arguments: [u32; 2], rel: Relation) -> [u32; 7] {
+    let [x, y] = arguments;
+    let Relation {
+        width,
+        vars_count,
+        queries,
+        equations,
+        words,
+    } = rel;
+    [x, y, width, vars_count, queries, equations, words]
+}
+
 impl Sample {
-    pub fn relation(&mut self, rel: Relation) {
-        self.words
-            .extend([rel.width, rel.vars_count, rel.queries, rel.equations]);
-        self.words.push(rel.words);
-    }
-
-    /// The length and the words.
-    pub fn list(&mut self, words: &[u32]) {
-        self.words.push(words.len() as u32);
-        self.words.extend(words);
-    }
-
     fn new_relation(&mut self, width: u32, slots: Vec<u32>) {
-        self.case(11);
-        self.words.push(width);
-        self.list(&slots);
+        let case = Case::new(11).given(&[0, 0, width]).list(FIRST, &slots);
         let mut state = State::sized(0, 0, 0);
         state.slots = slots;
         let number = state.new_relation(width);
-        self.number(number);
-        self.relation(state.rel);
-        self.words.extend(state.slots);
+        let case = case.answer(&given([number, 0], state.rel));
+        self.push(case.list(FIRST_AFTER, &state.slots));
     }
 
     /// A call, put to the second reading.
     fn call(&mut self, mut state: State, call: &Call) {
-        self.handed_in(&state, call);
+        if let Call::Equation(terms, image) = call {
+            return self.equation(17, state, terms, 1, *image);
+        }
+        let case = handed_in(&state, call);
         let answer = state.run(call);
-        self.number(answer.number);
-        match call {
-            Call::Allocate(_) | Call::Mint(_) => self.words.push(answer.first),
-            Call::SetList(..) => self.words.push(answer.accepted),
+        let number = answer.number;
+        let case = match call {
+            Call::Set(..) => case.answer(&[number]),
+            Call::SetList(..) => case.answer(&[number, answer.accepted]),
             Call::Value(_) => {
                 let (some, value) = (answer.value.is_some(), answer.value.unwrap_or(0));
-                self.words.extend([u32::from(some), value]);
+                case.answer(&[number, value, u32::from(some)])
             }
-            Call::IsAllocated(_) => self.words.push(u32::from(answer.yes)),
-            _ => {}
-        }
-        self.left(&state, call);
+            Call::IsAllocated(_) => case.answer(&[number, u32::from(answer.yes)]),
+            _ => case.answer(&given([number, answer.first], state.rel)),
+        };
+        let case = match stores(&state, call)[..] {
+            [_] if matches!(call, Call::Value(_)) => case,
+            [first] => case.list(FIRST_AFTER, first),
+            [first, second] => case.list(FIRST_AFTER, first).list(SECOND_AFTER, second),
+            _ => case,
+        };
+        self.push(case);
     }
 
-    /// The operation, the record, the stores that are lent and the arguments.
-    fn handed_in(&mut self, state: &State, call: &Call) {
-        self.case(operation(call));
-        self.relation(state.rel);
-        for store in stores(state, call) {
-            self.list(store);
-        }
-        match call {
-            Call::Allocate(word) | Call::Value(word) | Call::IsAllocated(word) => {
-                self.words.push(*word);
-            }
-            Call::Set(var, value) => self.words.extend([var, value]),
-            Call::SetList(one, other) | Call::Record(one, other) => {
-                self.list(one);
-                self.list(other);
-            }
-            Call::Mint(input) => self.list(input),
-            Call::Equation(terms, image) => {
-                let (vars, weights): (Vec<u32>, Vec<u32>) = terms.iter().copied().unzip();
-                self.list(&vars);
-                self.list(&weights);
-                self.words.push(*image);
-            }
-            Call::AllocateWith(_) => unreachable!("it is two calls"),
-        }
+    /// Terms, scaled first, as an equation. A case has eight of them, of which those in front
+    /// that the equation doesn't have are 0.
+    fn equation(
+        &mut self,
+        operation: u32,
+        state: State,
+        terms: &[(u32, u32)],
+        factor: u32,
+        image: u32,
+    ) {
+        let mut state = state;
+        let more = 8 - terms.len();
+        let padded: Vec<(u32, u32)> = vec![(0, 0); more]
+            .into_iter()
+            .chain(terms.to_vec())
+            .collect();
+        let words: Vec<u32> = padded
+            .iter()
+            .flat_map(|&(var, weight)| [var, weight])
+            .collect();
+        let mut numbers = given([more as u32, image], state.rel).to_vec();
+        numbers.push(factor);
+        let case = Case::new(operation)
+            .given(&numbers)
+            .list(FIRST, &state.equations)
+            .list(ONE, &words);
+        let mut list = weighted(&padded);
+        let scaled = reading::scale(&mut list, factor);
+        let answer = reading::add_equation(state.rel, &mut state.equations, &list[more..], image);
+        let case = case.answer(&given([answer.number, scaled], answer.relation));
+        self.push(case.list(FIRST_AFTER, &state.equations));
     }
 
-    /// What a call may have changed: the record where it gives one back, and the stores.
-    fn left(&mut self, state: &State, call: &Call) {
-        match call {
-            Call::Value(_) | Call::IsAllocated(_) => return,
-            Call::Set(..) | Call::SetList(..) => {}
-            _ => self.relation(state.rel),
+    /// An equation of terms that are scaled by any factor, mostly over sound terms.
+    pub fn random_scaled(&mut self, rng: &mut Rng) {
+        let mut state = State::sized(0, 0, 0);
+        state.rel.width = rng.width();
+        let mut call = equation(rng, &mut state);
+        if rng.once_in(3) {
+            fault(rng, &mut state, &mut call);
         }
-        for store in stores(state, call) {
-            self.words.extend(store);
+        let factor = match rng.below(4) {
+            0 => rng.edge(),
+            _ => rng.unit(),
+        };
+        if let Call::Equation(terms, image) = call {
+            self.equation(20, state, &terms, factor, image);
         }
     }
 
@@ -191,6 +212,31 @@ impl Sample {
             fault(rng, &mut state, &mut call);
         }
         self.call(state, &call);
+    }
+}
+
+/// The operation, the record, the stores that are lent and the arguments.
+fn handed_in(state: &State, call: &Call) -> Case {
+    let case = Case::new(operation(call));
+    let numbers = |x, y| given([x, y], state.rel);
+    let case = match call {
+        Call::Allocate(word) | Call::Value(word) | Call::IsAllocated(word) => {
+            case.given(&numbers(*word, 0))
+        }
+        Call::Set(var, value) => case.given(&numbers(*var, *value)),
+        Call::SetList(one, other) | Call::Record(one, other) => {
+            let case = case.given(&numbers(0, 0));
+            case.list(ONE, one).list(TWO, other)
+        }
+        Call::Mint(input) => case.given(&numbers(0, 0)).list(ONE, input),
+        Call::Equation(..) => unreachable!("it has a function of its own"),
+        Call::AllocateWith(_) => unreachable!("it is two calls"),
+    };
+    match stores(state, call)[..] {
+        [slots] if matches!(call, Call::Value(_)) => case.list(ONE, slots),
+        [first] => case.list(FIRST, first),
+        [first, second] => case.list(FIRST, first).list(SECOND, second),
+        _ => case,
     }
 }
 

@@ -1,10 +1,13 @@
-//! Operations 21 to 24 of a sample: a step, or a write or a read of a trace's bytes, with all
-//! that is lent to the call and with what the second reading says of it.
+//! Operations 21 to 25 of a sample: a step, a write or a read of a trace's bytes, or a state
+//! permuted, with all that is lent to the call and with what the second reading says of it.
 
-use reading::{Trace, Written};
+use reading::Trace;
 use source::Params;
 
-use super::Sample;
+use super::{
+    case::{Case, FIRST, FIRST_AFTER, ONE, TEXT, TWO},
+    Sample,
+};
 use crate::{astray, calls::DIRT, generate, held, rng::Rng};
 
 /// The longest sheet of a case.
@@ -66,62 +69,65 @@ pub fn output(rng: &mut Rng, exact: usize) -> usize {
 }
 
 impl Sample {
-    fn trace_record(&mut self, rec: Trace) {
-        self.words.extend([rec.width, rec.steps]);
-    }
-
     fn evaluate_step(&mut self, rec: Trace, mut trace: Vec<u32>, input: &[u32], params: &Params) {
-        self.case(21);
-        self.trace_record(rec);
-        self.list(&trace);
-        self.list(input);
-        self.list(&params.words);
-        self.words.push(params.rounds);
+        let case = Case::new(21)
+            .given(&[rec.steps, params.rounds, rec.width])
+            .list(FIRST, &trace)
+            .list(ONE, input)
+            .list(TWO, &params.words);
         let answer = reading::evaluate_step(rec, &mut trace, input, held::lent(params));
-        self.number(answer.number);
-        self.trace_record(answer.trace);
-        self.words.extend(trace);
+        let case = case.answer(&[answer.number, answer.trace.steps, answer.trace.width]);
+        self.push(case.list(FIRST_AFTER, &trace));
     }
 
     fn append_step(&mut self, rec: Trace, mut trace: Vec<u32>, input: &[u32], output: &[u32]) {
-        self.case(22);
-        self.trace_record(rec);
-        self.list(&trace);
-        self.list(input);
-        self.list(output);
+        let case = Case::new(22)
+            .given(&[rec.steps, 0, rec.width])
+            .list(FIRST, &trace)
+            .list(ONE, input)
+            .list(TWO, output);
         let answer = reading::append_step(rec, &mut trace, input, output);
-        self.number(answer.number);
-        self.trace_record(answer.trace);
-        self.words.extend(trace);
+        let case = case.answer(&[answer.number, answer.trace.steps, answer.trace.width]);
+        self.push(case.list(FIRST_AFTER, &trace));
     }
 
     fn write_witness(&mut self, rec: Trace, trace: &[u32], room: usize) {
-        self.case(23);
-        self.trace_record(rec);
-        self.list(trace);
-        self.words.push(room as u32);
+        let case = Case::new(23)
+            .given(&[rec.steps, 0, rec.width])
+            .list(ONE, trace);
         let mut out = vec![DIRTY_BYTE; room];
         let answer = reading::witness_to_bytes(rec, trace, &mut out);
-        self.written(answer, &out);
-    }
-
-    /// What a write answers, and every byte of its output.
-    pub fn written(&mut self, answer: Written, out: &[u8]) {
-        self.number(answer.number);
-        self.words.push(answer.len as u32);
-        self.packed(out);
+        let case = case.bytes(TEXT, &out);
+        self.push(case.answer(&[answer.number, answer.len as u32]));
     }
 
     fn read_witness(&mut self, width: u32, bytes: &[u8], room: usize) {
-        self.case(24);
-        self.words.push(width);
-        self.bytes(bytes);
         let mut trace = vec![DIRT; room];
-        self.list(&trace);
+        let case = Case::new(24)
+            .given(&[0, 0, width])
+            .bytes(TEXT, bytes)
+            .list(FIRST, &trace);
         let answer = reading::witness_from_bytes(width, bytes, &mut trace);
-        self.number(answer.number);
-        self.words.push(answer.trace.steps);
-        self.words.extend(trace);
+        let case = case.answer(&[answer.number, answer.trace.steps]);
+        self.push(case.list(FIRST_AFTER, &trace));
+    }
+
+    /// A state, sound or nearly so, turned by parameters that are so too.
+    pub fn random_permute(&mut self, rng: &mut Rng) {
+        let of = small_width(rng);
+        let params = short_sheet(rng, of);
+        let state = units(rng, of);
+        let width = match rng.below(12) {
+            0 => astray::width(rng),
+            _ => of,
+        };
+        let case = Case::new(25)
+            .given(&[0, params.rounds, width])
+            .list(FIRST, &state)
+            .list(ONE, &params.words);
+        let mut turned = state.clone();
+        let number = reading::permute(width, held::lent(&params), &state, &mut turned);
+        self.push(case.answer(&[number]).list(FIRST_AFTER, &turned));
     }
 
     /// A trace of some steps; each of the calls on it, as it is or led astray. What happens to a

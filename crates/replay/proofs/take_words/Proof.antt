@@ -1,17 +1,16 @@
--- `replay::sample::take_words` is safe and ends: the store keeps its length, and what is left of it grows less.
--- Assumes nothing.
+-- `replay::take_words` is safe and ends: the buffer keeps its length, and what is left of it grows less. Assumes nothing.
 use Prim.Native.Nat.{_-_}
 use mathlib.Core.Path.{_≡_}
 use lib.ListN.{length}
 use borrow.Author.Needs.{needs}
-use Rattle.replay.proofs.sample.take_words.Statement.{statement}
-use Rattle.replay.proofs.sample.take_words.Tie as tie
+use Rattle.replay.proofs.take_words.Statement.{statement}
+use Rattle.replay.proofs.take_words.Tie as tie
 
 abbrev Inv-loop : tie.InvT-loop
-Inv-loop sample out₀ next₀ i₀ out next i = length out ≡ length out₀
+Inv-loop bytes out₀ next₀ i₀ out next i = length out ≡ length out₀
 
 abbrev μ-loop : tie.MeasureT-loop
-μ-loop sample out₀ next₀ i₀ out next i = length out₀ - i
+μ-loop bytes out₀ next₀ i₀ out next i = length out₀ - i
 
 loop-holds : tie.Need-loop-holds Inv-loop μ-loop
 loop-holds c = search needs
