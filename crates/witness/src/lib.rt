@@ -88,7 +88,7 @@ fn append_step_no(wit: PermutationWitness, len: usize, input: &[u32], output: &[
     words::asked_one_more(no, width, steps, len)
 }
 
-// Record a step without evaluating the permutation (the source's `append_step`). Questions 1, 2, 9, 4, 10.
+// Record a step without evaluating the permutation (the source's `add_permutation`). Questions 1, 2, 9, 4, 10.
 pub fn append_step(
     wit: PermutationWitness,
     trace: &mut [u32],
@@ -116,7 +116,7 @@ fn input_no(wit: PermutationWitness, len: usize, input: &[u32], params: &[u32]) 
     words::asked_half(no, width, 4, P, input)
 }
 
-// Evaluate the permutation on the inputs and record the step (the source's `evaluate_step`). Questions
+// Evaluate the permutation on the inputs and record the step (the source's `allocate_permutation`). Questions
 // 1, 2, 9, 4, 17, 10. The outputs are the last w words of the new step. The evaluation puts 17 itself; where
 // the trace has no room for a step it is put alone.
 pub fn evaluate_step(
