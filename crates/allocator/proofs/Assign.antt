@@ -31,7 +31,7 @@ module _ (count : ℕ) (slots : List ℕ) (p : Pair) (k : ℕ) (e : k ≡ firstN
   number-is = rw e (simp (▸-assoc, ▸-zero))
 
   pub assign-refused : (k ≡ 0 → ⊥) → AssignsVar count slots p (Refused k) slots
-  unfolding assignVar assignVarSlots
+  unfolding assignVar
   assign-refused h =
       let n : pairNo count slots p ≡ k = number-is ∙ stays _ _ h in
       record { answer = rw n (sym (onYes-no k _ _ h)); slots = rw n (sym (onYes-no k _ _ h)) }
@@ -41,7 +41,7 @@ module _ (count : ℕ) (slots : List ℕ) (p : Pair) (k : ℕ) (e : k ≡ firstN
     taken t = number-is ∙ goes-on _ _ z ∙ ask-yes 8 (slotTakes slots p) t
 
     pub assign-fresh : getD slots (p .var) unassigned ≡ unassigned → AssignsVar count slots p Fresh (set slots (p .var) (p .value))
-    unfolding assignVar assignVarSlots
+    unfolding assignVar
     assign-fresh u =
         let b : eqb (getD slots (p .var) unassigned) unassigned ≡ true = eq-eqb _ _ u in
         let n : pairNo count slots p ≡ 0 = taken (simp b) in
@@ -57,7 +57,7 @@ module _ (count : ℕ) (slots : List ℕ) (p : Pair) (k : ℕ) (e : k ≡ firstN
       held = ne-eqb _ _ u
 
       pub assign-repeated : getD slots (p .var) unassigned ≡ p .value → AssignsVar count slots p Repeated slots
-      unfolding assignVar assignVarSlots
+      unfolding assignVar
       assign-repeated v =
           let n : pairNo count slots p ≡ 0 = taken (simp (held, eq-eqb _ (p .value) v)) in
           record {
@@ -66,7 +66,7 @@ module _ (count : ℕ) (slots : List ℕ) (p : Pair) (k : ℕ) (e : k ≡ firstN
           }
 
       pub assign-conflict : (getD slots (p .var) unassigned ≡ p .value → ⊥) → AssignsVar count slots p (Refused 8) slots
-      unfolding assignVar assignVarSlots
+      unfolding assignVar
       assign-conflict v =
           let b : slotTakes slots p ≡ false = simp (held, ne-eqb _ (p .value) v) in
           let n : pairNo count slots p ≡ 8 = number-is ∙ goes-on _ _ z ∙ ask-no 8 (slotTakes slots p) b in

@@ -1,6 +1,6 @@
--- Pairs set in turn: the end, a pair that is refused, and a pair that is accepted.
+-- Items set in turn: the end, one that is refused, and one that is accepted; what a run keeps, and its number.
 --
--- The loop has set i pairs; what is left, done to the slots as they are and counted from i, comes to the
+-- The loop has set i items; what is left, done to the slots as they are and counted from i, comes to the
 -- whole. Assumes nothing.
 use Prim.Native.Nat.{ℕ, zero, suc, _+_, _≤_, _<_}
 use mathlib.Core.Path.{_≡_, refl, sym, ap, _∙_}
@@ -10,10 +10,10 @@ use native.Mathlib.Omega.{arith}
 use native.Mathlib.Nat.{not-suc-le-zero, le-of-suc-le-suc}
 use native.Mathlib.Numerals.{add-one}
 use lib.ListN.{length, drop, getD, set, length-set}
-use Rattle.limits.specs.Questions.{onYes}
-use Rattle.limits.proofs.Questions.{onYes-no}
-use Rattle.allocator.specs.Slots.{Pair, pair, pairs, pairNo, SetRun, ran, setRun}
-use Rattle.allocator.specs.Assign.{assignVarSlots, SetsPairs}
+use Rattle.limits.specs.Questions.{Question, _▸_, firstNo, onYes}
+use Rattle.limits.proofs.Questions.{onYes-no, firstNo-append}
+use Rattle.allocator.specs.Slots.{Pair, pair, pairs, SetRun, ran, afterItem, setItems, itemsAsks}
+use Rattle.allocator.specs.Assign.{howFar, Runs}
 
 -- ---- the common pairs of two lists, from place i on
 pairs-suc : (vars values : List ℕ) (i : ℕ) → i < length vars → i < length values
@@ -43,65 +43,87 @@ abbrev pub counted : ℕ → SetRun → SetRun
 counted i r = ran (r .number) (i + r .accepted) (r .slots)
 
 -- a run as the answer and the slots
-pub told : {a : SetRun} (count : ℕ) (slots : List ℕ) (ps : List Pair) → a ≡ setRun count slots ps
-    → SetsPairs count slots ps (record { number = a .number; accepted = a .accepted }) (a .slots)
-told count slots ps e = record {
-  answer = λ i. record { number = e i .number; accepted = e i .accepted };
-  slots = ap (λ (r : SetRun). r .slots) e;
-}
+pub told : {a run : SetRun} → a ≡ run → Runs run (howFar a) (a .slots)
+told e = record { answer = ap howFar e; slots = ap (λ (r : SetRun). r .slots) e }
 
 pub from-none : (r : SetRun) → counted 0 r ≡ r
 from-none r = let e : 0 + r .accepted ≡ r .accepted = omega arith in ap (λ (n : ℕ). ran (r .number) n (r .slots)) e
 
-module _ (count : ℕ) (slots : List ℕ) (i : ℕ) (whole : SetRun) where
-  pub run-ended : (ps : List Pair) → ps ≡ [] → counted i (setRun count slots ps) ≡ whole → ran 0 i slots ≡ whole
-  unfolding setRun
-  run-ended ps z e =
-      let n : i + 0 ≡ i = omega arith in
-      ap (λ (a : ℕ). ran 0 a slots) (sym n) ∙ (rw z at e)
-
-  module _ (p : Pair) (ps rest : List Pair) (z : ps ≡ p ∷ rest) (e : counted i (setRun count slots ps) ≡ whole) where
-    pub run-refused : (k : ℕ) → k ≡ pairNo count slots p → (k ≡ 0 → ⊥) → ran k i (assignVarSlots count slots p) ≡ whole
-    unfolding setRun assignVarSlots
-    run-refused k a h =
+module _ {A : Type 0} (noOf : List ℕ → A → ℕ) (pairOf : A → Pair) where
+  module _ (slots : List ℕ) (i : ℕ) (whole : SetRun) where
+    pub run-ended : (items : List A) → items ≡ [] → counted i (setItems noOf pairOf slots items) ≡ whole → ran 0 i slots ≡ whole
+    unfolding setItems
+    run-ended items z e =
         let n : i + 0 ≡ i = omega arith in
-        let q : pairNo count slots p ≡ k = sym a in
-        let f = rw z at e in
-        let g = simp q at f in
-        rw (q, onYes-no k (set slots (p .var) (p .value)) slots h)
-        (ap (λ (m : ℕ). ran k m slots) (sym n) ∙ (sym (ap (counted i) (onYes-no k _ (ran k 0 slots) h)) ∙ g))
+        ap (λ (a : ℕ). ran 0 a slots) (sym n) ∙ (rw z at e)
 
-    pub run-accepted : pairNo count slots p ≡ 0 → counted (i + 1) (setRun count (assignVarSlots count slots p) rest) ≡ whole
-    unfolding setRun assignVarSlots
-    run-accepted q =
-        let r = setRun count (set slots (p .var) (p .value)) rest in
-        let n : i + 1 + r .accepted ≡ i + suc (r .accepted) = omega arith in
-        let f = simp q at (rw z at e) in
-        rw q (ap (λ (m : ℕ). ran (r .number) m (r .slots)) n ∙ f)
+    module _ (a : A) (items rest : List A) (z : items ≡ a ∷ rest) (e : counted i (setItems noOf pairOf slots items) ≡ whole) where
+      pub run-refused : (k : ℕ) → k ≡ noOf slots a → (k ≡ 0 → ⊥) → ran k i (afterItem noOf pairOf slots a) ≡ whole
+      unfolding setItems
+      run-refused k j h =
+          let n : i + 0 ≡ i = omega arith in
+          let q : noOf slots a ≡ k = sym j in
+          let f = rw z at e in
+          let g = simp q at f in
+          rw (q, onYes-no k (set slots (pairOf a .var) (pairOf a .value)) slots h)
+          (ap (λ (m : ℕ). ran k m slots) (sym n) ∙ (sym (ap (counted i) (onYes-no k _ (ran k 0 slots) h)) ∙ g))
 
--- a set keeps the store's length
-pub assign-length : (count : ℕ) (slots : List ℕ) (p : Pair) → length (assignVarSlots count slots p) ≡ length slots
-unfolding assignVarSlots
-assign-length count slots p = go (pairNo count slots p)
-  where
-    go : (k : ℕ) → length (onYes k (set slots (p .var) (p .value)) slots) ≡ length slots
-    go zero = length-set slots (p .var) (p .value)
-    go (suc k) = refl
+      pub run-accepted : noOf slots a ≡ 0 → counted (i + 1) (setItems noOf pairOf (afterItem noOf pairOf slots a) rest) ≡ whole
+      unfolding setItems
+      run-accepted q =
+          let r = setItems noOf pairOf (set slots (pairOf a .var) (pairOf a .value)) rest in
+          let n : i + 1 + r .accepted ≡ i + suc (r .accepted) = omega arith in
+          let f = simp q at (rw z at e) in
+          rw q (ap (λ (m : ℕ). ran (r .number) m (r .slots)) n ∙ f)
 
--- no more pairs are accepted than there are
+  -- an item keeps the store's length
+  pub item-length : (slots : List ℕ) (a : A) → length (afterItem noOf pairOf slots a) ≡ length slots
+  item-length slots a = go (noOf slots a)
+    where
+      go : (k : ℕ) → length (onYes k (set slots (pairOf a .var) (pairOf a .value)) slots) ≡ length slots
+      go zero = length-set slots (pairOf a .var) (pairOf a .value)
+      go (suc k) = refl
+
+  -- and so does a run
+  pub run-length : (items : List A) (slots : List ℕ) → length (setItems noOf pairOf slots items .slots) ≡ length slots
+  unfolding setItems
+  run-length [] slots = refl
+  run-length (a ∷ items) slots = go (noOf slots a) _ (run-length items (set slots (pairOf a .var) (pairOf a .value)))
+    where
+      go : (k : ℕ) (r : SetRun) → length (r .slots) ≡ length (set slots (pairOf a .var) (pairOf a .value))
+          → length (onYes {A = SetRun} k (ran (r .number) (suc (r .accepted)) (r .slots)) (ran k 0 slots) .slots) ≡ length slots
+      go zero r e = e ∙ length-set slots (pairOf a .var) (pairOf a .value)
+      go (suc k) r e = refl
+
+  -- no more items are accepted than there are
+  pub accepted-within : (slots : List ℕ) (items : List A) → setItems noOf pairOf slots items .accepted ≤ length items
+  unfolding setItems
+  accepted-within slots [] = omega arith
+  accepted-within slots (a ∷ items) = go (noOf slots a) _ (accepted-within (set slots (pairOf a .var) (pairOf a .value)) items)
+    where
+      go : (k : ℕ) (r : SetRun) → r .accepted ≤ length items
+          → onYes {A = SetRun} k (ran (r .number) (suc (r .accepted)) (r .slots)) (ran k 0 slots) .accepted ≤ length (a ∷ items)
+      go zero r h = omega arith
+      go (suc k) r h = omega arith
+
+  -- its number is the first no of the items' questions
+  pub run-number : (asks : List ℕ → A → List Question) → ((slots : List ℕ) (a : A) → noOf slots a ≡ firstNo (asks slots a))
+      → (slots : List ℕ) (items : List A) → setItems noOf pairOf slots items .number ≡ firstNo (itemsAsks asks pairOf slots items)
+  unfolding setItems _▸_
+  run-number asks n slots [] = refl
+  run-number asks n slots (a ∷ items) =
+      go (noOf slots a) _ (run-number asks n (set slots (pairOf a .var) (pairOf a .value)) items)
+      ∙ ap (λ (k : ℕ). k ▸ firstNo (itemsAsks asks pairOf (set slots (pairOf a .var) (pairOf a .value)) items)) (n slots a)
+      ∙ sym (firstNo-append (asks slots a) (itemsAsks asks pairOf (set slots (pairOf a .var) (pairOf a .value)) items))
+    where
+      go : (k : ℕ) (r : SetRun) → r .number ≡ firstNo (itemsAsks asks pairOf (set slots (pairOf a .var) (pairOf a .value)) items)
+          → onYes {A = SetRun} k (ran (r .number) (suc (r .accepted)) (r .slots)) (ran k 0 slots) .number
+          ≡ k ▸ firstNo (itemsAsks asks pairOf (set slots (pairOf a .var) (pairOf a .value)) items)
+      go zero r e = e
+      go (suc k) r e = refl
+
+-- there are no more pairs than wires
 pub pairs-within : (vars values : List ℕ) → length (pairs vars values) ≤ length vars
 pairs-within [] values = omega arith
 pairs-within (x ∷ vars) [] = omega arith
 pairs-within (x ∷ vars) (v ∷ values) = let r = pairs-within vars values in omega arith
-
-pub accepted-within : (count : ℕ) (slots : List ℕ) (ps : List Pair) → setRun count slots ps .accepted ≤ length ps
-unfolding setRun
-accepted-within count slots [] = omega arith
-accepted-within count slots (p ∷ ps) =
-    go (pairNo count slots p) (accepted-within count (set slots (p .var) (p .value)) ps)
-  where
-    go : (k : ℕ) → setRun count (set slots (p .var) (p .value)) ps .accepted ≤ length ps
-        → onYes k (ran (setRun count (set slots (p .var) (p .value)) ps .number) (suc (setRun count (set slots (p .var) (p .value)) ps .accepted)) (setRun count (set slots (p .var) (p .value)) ps .slots)) (ran (pairNo count slots p) 0 slots) .accepted
-        ≤ length (p ∷ ps)
-    go zero h = omega arith
-    go (suc k) h = omega arith

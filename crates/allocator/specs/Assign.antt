@@ -6,7 +6,7 @@ use lib.Dec.{eqb, leb}
 use lib.ListN.{length, getD, set}
 use Rattle.limits.specs.Numbers.{unassigned}
 use Rattle.limits.specs.Questions.{pick, onYes}
-use Rattle.allocator.specs.Slots.{Pair, pairNo, grownSlots, setRun}
+use Rattle.allocator.specs.Slots.{Pair, pairNo, grownSlots, SetRun, afterItem}
 use Rattle.allocator.specs.declared.Assigned.{Assigned}
 use Rattle.allocator.specs.declared.Assigned.the-variants.{Fresh, Repeated, Refused}
 use Rattle.allocator.specs.declared.SetPairs.{SetPairs}
@@ -19,8 +19,8 @@ assignVar count slots p =
     (Refused (pairNo count slots p))
 
 -- the slots afterwards: the wire's slot holds the value, or all as they were
-unfoldable pub assignVarSlots : ℕ → List ℕ → Pair → List ℕ
-assignVarSlots count slots p = onYes (pairNo count slots p) (set slots (p .var) (p .value)) slots
+abbrev pub assignVarSlots : ℕ → List ℕ → Pair → List ℕ
+assignVarSlots count = afterItem (pairNo count) (λ p. p)
 
 -- what one wire set does: its answer, and the slots before and after
 pub record AssignsVar (count : ℕ) (slots₀ : List ℕ) (p : Pair) (r : Assigned) (slots₁ : List ℕ) : Type 0 where
@@ -33,15 +33,14 @@ assignedNo Fresh = 0
 assignedNo Repeated = 0
 assignedNo (Refused k) = k
 
--- pairs set in turn: the answer
-abbrev pub setPairs : ℕ → List ℕ → List Pair → SetPairs
-setPairs count slots ps =
-    record { number = setRun count slots ps .number; accepted = setRun count slots ps .accepted }
+-- a run's answer: its number and its tally
+abbrev pub howFar : SetRun → SetPairs
+howFar run = record { number = run .number; accepted = run .accepted }
 
--- what they do: the answer, and the slots before and after
-pub record SetsPairs (count : ℕ) (slots₀ : List ℕ) (ps : List Pair) (r : SetPairs) (slots₁ : List ℕ) : Type 0 where
-  pub answer : r ≡ setPairs count slots₀ ps
-  pub slots : slots₁ ≡ setRun count slots₀ ps .slots
+-- what code does that sets items in turn: the run's answer, and the run's slots afterwards
+pub record Runs (run : SetRun) (r : SetPairs) (slots₁ : List ℕ) : Type 0 where
+  pub answer : r ≡ howFar run
+  pub slots : slots₁ ≡ run .slots
 
 -- n more wires where the store holds them, else the slots as they are
 abbrev pub growSlots : ℕ → ℕ → List ℕ → List ℕ

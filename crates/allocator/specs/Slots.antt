@@ -59,7 +59,8 @@ pairNo count slots p = firstNo (pairAsks count slots p)
 abbrev pub grownSlots : ℕ → ℕ → List ℕ → List ℕ
 grownSlots count n slots = take count slots ++ (replicate n unassigned ++ drop (count + n) slots)
 
--- pairs set in turn, up to the first that is refused: its number, how many were accepted, the slots
+-- ---- items set in turn: `noOf` is an item's number on the slots as they are, `pairOf` the pair that it sets
+-- how far they came, up to the first that is refused: its number, how many were accepted, the slots
 pub record SetRun : Type 0 where
   pub number : ℕ
   pub accepted : ℕ
@@ -69,11 +70,25 @@ pub record SetRun : Type 0 where
 abbrev pub ran : ℕ → ℕ → List ℕ → SetRun
 ran number accepted slots = record { number = number; accepted = accepted; slots = slots }
 
--- each pair is asked on the slots as the earlier ones leave them; the first that is refused ends the run
-unfoldable pub setRun : ℕ → List ℕ → List Pair → SetRun
-setRun count slots [] = ran 0 0 slots
-setRun count slots (p ∷ ps) =
-    let r = setRun count (set slots (p .var) (p .value)) ps in
-    onYes (pairNo count slots p)
+-- the slots after one item: the slot of its wire holds its value, or all are as they were
+abbrev pub afterItem : {A : Type 0} → (List ℕ → A → ℕ) → (A → Pair) → List ℕ → A → List ℕ
+afterItem noOf pairOf slots a = onYes (noOf slots a) (set slots (pairOf a .var) (pairOf a .value)) slots
+
+-- each item is asked on the slots as the earlier ones leave them; the first that is refused ends the run
+unfoldable pub setItems : {A : Type 0} → (List ℕ → A → ℕ) → (A → Pair) → List ℕ → List A → SetRun
+setItems noOf pairOf slots [] = ran 0 0 slots
+setItems noOf pairOf slots (a ∷ items) =
+    let r = setItems noOf pairOf (set slots (pairOf a .var) (pairOf a .value)) items in
+    onYes (noOf slots a)
     (ran (r .number) (suc (r .accepted)) (r .slots))
-    (ran (pairNo count slots p) 0 slots)
+    (ran (noOf slots a) 0 slots)
+
+-- their questions, one item after the other
+abbrev pub itemsAsks : {A : Type 0} → (List ℕ → A → List Question) → (A → Pair) → List ℕ → List A → List Question
+itemsAsks asks pairOf slots [] = []
+itemsAsks asks pairOf slots (a ∷ items) =
+    asks slots a ++ itemsAsks asks pairOf (set slots (pairOf a .var) (pairOf a .value)) items
+
+-- pairs set in turn
+abbrev pub setRun : ℕ → List ℕ → List Pair → SetRun
+setRun count = setItems (pairNo count) (λ p. p)

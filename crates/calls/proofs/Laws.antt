@@ -1,4 +1,4 @@
--- What a contract of `permutation` says of a call is what the theorem's list has there: one law a call.
+-- What the contract of a call's open function says is what the theorem's list has there: one law a call.
 -- Assumes nothing.
 use Prim.Native.Nat.{ℕ}
 use mathlib.Core.Path.{_≡_, sym, ap}
@@ -13,7 +13,9 @@ use Rattle.permutation.specs.declared.PermutationRelation.{PermutationRelation}
 use Rattle.permutation.specs.declared.Recorded.{Recorded}
 use Rattle.permutation.specs.declared.Allocated.{Allocated}
 use Rattle.permutation.specs.declared.SetVars.{SetVars}
-use Rattle.history.specs.Calls.{Allocate, Set, SetList, Record, Mint, Equate, state, ofOutcome, ofFirst, ofSetVars, answer, after}
+use Rattle.tickets.specs.Tickets.{setTickets, setTicketsSlots}
+use Rattle.tickets.specs.declared.SetTickets.{SetTickets}
+use Rattle.history.specs.Calls.{Allocate, Set, SetList, Record, Mint, Equate, Tickets, state, ofOutcome, ofFirst, ofSetVars, ofSetTickets, answer, after}
 use Rattle.calls.specs.Performs.{StartsSlots, OnSlots, OnQueries, OnSlotsQueries, OnEquations}
 
 pub started : (w : ℕ) (slots : List ℕ) (r : Recorded) (slots′ : List ℕ) → r ≡ newRelation w slots → slots′ ≡ newSlots w slots
@@ -47,6 +49,15 @@ module _ (rel : PermutationRelation) where
   unfolding answer after
   listed slots vars values r slots′ e h queries equations = record {
     answers = ap ofSetVars (sym e);
+    leaves = λ j. state rel (sym h j) queries equations;
+  }
+
+  pub ticketed : (slots text : List ℕ) (r : SetTickets) (slots′ : List ℕ)
+      → r ≡ setTickets rel slots text → slots′ ≡ setTicketsSlots rel slots text
+      → OnSlots rel slots (Tickets text) (ofSetTickets r) rel slots′
+  unfolding answer after
+  ticketed slots text r slots′ e h queries equations = record {
+    answers = ap ofSetTickets (sym e);
     leaves = λ j. state rel (sym h j) queries equations;
   }
 

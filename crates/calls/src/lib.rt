@@ -1,5 +1,5 @@
-// Each call of demand 3's list by code that runs: a thin open function that hands it on to `permutation` or `recording`, with what
-// the theorem says of the call as its contract.
+// Each call of demand 3's list by code that runs: a thin open function that hands it on to `permutation`, `recording` or
+// `tickets`, with what the theorem says of the call as its contract.
 //
 // For every state, what the function answers and leaves is what the list has there (`answer` and `after` of
 // history/specs/Calls), whatever the stores hold that the call is not lent. So of calls made in turn, each on what the
@@ -8,7 +8,7 @@
 // definitions that the contracts of `compile`, `encoding`, `decoding` and `validity` cite.
 
 ghost use Rattle.allocator.specs.Slots.{pair};
-ghost use Rattle.history.specs.Calls.{Allocate, Set, SetList, Record, Mint, Equate, ofOutcome, ofFirst, ofSetVars};
+ghost use Rattle.history.specs.Calls.{Allocate, Set, SetList, Record, Mint, Equate, Tickets, ofOutcome, ofFirst, ofSetVars, ofSetTickets};
 ghost use Rattle.calls.specs.Performs.{StartsSlots, OnSlots, OnQueries, OnSlotsQueries, OnEquations};
 use allocator::FieldVar;
 use baby_bear::BabyBearUnit;
@@ -18,6 +18,7 @@ use permutation::Allocated;
 use permutation::PermutationRelation;
 use permutation::Recorded;
 use permutation::SetVars;
+use tickets::SetTickets;
 
 // What the list starts from.
 pub fn new_relation(width: u32, slots: &mut [u32]) -> Recorded
@@ -92,4 +93,11 @@ pub fn add_equation(
     ensures { λ r. ⌜ OnEquations rel (now (equations .entry)) (Equate (now (terms .entry)) (image .0)) (ofOutcome (r .outcome)) (r .relation) (now (equations .exit)) ⌝ }
 {
     recording::add_equation(rel, equations, terms, image)
+}
+
+// Tickets.
+pub fn set_tickets(rel: PermutationRelation, slots: &mut [u32], text: &[u8]) -> SetTickets
+    ensures { λ r. ⌜ OnSlots rel (now (slots .entry)) (Tickets (now (text .entry))) (ofSetTickets r) rel (now (slots .exit)) ⌝ }
+{
+    tickets::set_tickets(rel, slots, text)
 }

@@ -3,7 +3,7 @@
 -- the definitions that the open functions' contracts cite. Assumes nothing.
 use Prim.Native.Nat.{ℕ}
 use mathlib.Core.Path.{_≡_, refl, ap}
-use mathlib.Core.List.{List, [], _∷_, map}
+use mathlib.Core.List.{List, [], _∷_, _++_, map}
 use native.Mathlib.Omega.{arith}
 use lib.ListN.{length, replicate}
 use Rattle.limits.specs.Numbers.{unassigned}
@@ -13,12 +13,16 @@ use Rattle.limits.specs.declared.Outcome.the-variants.{Accepted, Refused}
 use Rattle.words.specs.Store.{allBelow}
 use Rattle.utf8.specs.Utf8.{follow, isUtf8}
 use Rattle.baby_bear.specs.Field.{addUnit, mulUnit, seventh, dotUnits}
-use Rattle.allocator.specs.Slots.{pair, pairNo, setRun}
+use Rattle.allocator.specs.Slots.{pair, pairNo, setItems}
 use Rattle.expr.specs.Equation.{Term, equation, equationAt, sizeAt}
 use Rattle.expr.specs.declared.Weighted.{Weighted}
 use Rattle.permutation.specs.Numbers.{newRelationNo, allocateVarsNo, setVarNo, setVarsNo}
 use Rattle.recording.specs.Numbers.{addPermutationNo, allocatePermutationNo, addEquationNo}
 use Rattle.permutation.specs.Answers.{relation, newRelation, setVarsRun}
+use Rattle.ticket.specs.Form.{ticketLine, readLine}
+use Rattle.ticket.specs.Steps.{gramsToSteps}
+use Rattle.tickets.specs.Lines.{linesOf, lineNo}
+use Rattle.tickets.specs.Tickets.{setTicketsRun}
 use Rattle.permute.specs.Permute.{addConstants, raise, timesMatrix, runRound, runRounds, permute}
 use Rattle.permute.specs.Parameters.{roundsOf, rowsOf, parametersOf, soundKinds, unitConstants, unitRows, soundParameters, permuteNo, sameWords, isEvaluation}
 use Rattle.instance.specs.Parts.{partsOf}
@@ -40,7 +44,7 @@ use Rattle.decoding.specs.Answers.{instanceFromBytes, witnessFromBytes}
 use Rattle.roundtrip.proofs.Examples.{outcomes as reads, examples as on-bytes}
 use Rattle.permutation.proofs.Examples.{Examples, examples}
 use Rattle.history.specs.Sat.{Sat, Evaluates}
-use Rattle.history.specs.Calls.{Call, Allocate, Set, SetList, Record, Mint, Equate, Entry, answer, after, noted, ledger, log}
+use Rattle.history.specs.Calls.{Call, Allocate, Set, SetList, Record, Mint, Equate, Tickets, Entry, answer, after, noted, ledger, log}
 use Rattle.history.specs.Whole.{FileLent, TraceLent, compiled, begin, last, lastLedger}
 use Rattle.history.proofs.Outcomes.{accepted-no}
 use Rattle.history.proofs.Theorem.{whole}
@@ -70,10 +74,16 @@ publics = 6 ∷ 6 ∷ 6 ∷ 6 ∷ []
 abbrev scratch : List ℕ
 scratch = 6 ∷ 6 ∷ 6 ∷ []
 
+-- the tickets of wire 2 with 249 g and of wire 7 with 250 g, and the first bytes of one more
+abbrev text : List ℕ
+text =
+    ticketLine (record { wire = 2; grams = 249 }) ++ (ticketLine (record { wire = 7; grams = 250 }) ++ (32 ∷ 32 ∷ []))
+
 abbrev calls : List Call
 calls =
     Allocate 2
     ∷ Set (pair 0 5)
+    ∷ Tickets text
     ∷ SetList (2 ∷ 7 ∷ []) (5 ∷ 5 ∷ [])
     ∷ SetList (2 ∷ []) []
     ∷ Record (1 ∷ []) (2 ∷ [])
@@ -87,16 +97,16 @@ fresh-accepted : newRelation 1 slots .outcome ≡ Accepted
 unfolding ask _▸_ newRelationNo
 fresh-accepted = refl
 
--- 0 to 5 is refused with 8, the list stops at wire 7 with 7, unequal lengths give 9, the mint lacks room (10)
+-- 0 to 5 is refused with 8, the tickets and the list stop at wire 7 with 7, unequal lengths give 9, the mint lacks room (10)
 outcomes : map (λ (e : Entry). e .answered .outcome) (log (begin 1 slots queries equations calls) calls)
-    ≡ Accepted ∷ Refused 8 ∷ Refused 7 ∷ Refused 9 ∷ Accepted ∷ Accepted ∷ Refused 10 ∷ Refused 5 ∷ Refused 6 ∷ []
-unfolding ask _▸_ newRelationNo allocateVarsNo setVarNo setVarsNo addPermutationNo allocatePermutationNo addEquationNo pairNo setRun setVarsRun allBelow answer after
+    ≡ Accepted ∷ Refused 8 ∷ Refused 7 ∷ Refused 7 ∷ Refused 9 ∷ Accepted ∷ Accepted ∷ Refused 10 ∷ Refused 5 ∷ Refused 6 ∷ []
+unfolding ask _▸_ newRelationNo allocateVarsNo setVarNo setVarsNo addPermutationNo allocatePermutationNo addEquationNo pairNo setItems setVarsRun ticketLine gramsToSteps readLine linesOf lineNo setTicketsRun allBelow answer after
 outcomes = refl
 
--- the ledger: three wires, wire 2 set to 5, the query 1 to 2, the equation 3 · wire 1 = 6
+-- the ledger: three wires, wire 2 set to 5 by the first ticket and by the list, the query 1 to 2, the equation 3 · wire 1 = 6
 ledger-is : lastLedger 1 slots queries equations calls
-    ≡ ledger 3 (pair 2 5 ∷ pair 0 0 ∷ []) ((1 ∷ 2 ∷ []) ∷ []) (equation (term 1 3 ∷ []) 6 ∷ [])
-unfolding ask _▸_ newRelationNo allocateVarsNo setVarNo setVarsNo addPermutationNo allocatePermutationNo addEquationNo pairNo setRun setVarsRun allBelow answer after noted
+    ≡ ledger 3 (pair 2 5 ∷ pair 2 5 ∷ pair 0 0 ∷ []) ((1 ∷ 2 ∷ []) ∷ []) (equation (term 1 3 ∷ []) 6 ∷ [])
+unfolding ask _▸_ newRelationNo allocateVarsNo setVarNo setVarsNo addPermutationNo allocatePermutationNo addEquationNo pairNo setItems setVarsRun ticketLine gramsToSteps readLine linesOf lineNo setTicketsRun allBelow answer after noted
 ledger-is = refl
 
 -- two publics, one query, one equation of four words
@@ -104,7 +114,7 @@ abbrev instanceA : PermutationInstance
 instanceA = instanceOf (relation 1 3 1 1 4) 2
 
 gate-A : compiled (last 1 slots queries equations calls) [] publics scratch ≡ record { outcome = Accepted; instance = instanceA }
-unfolding ask _▸_ newRelationNo allocateVarsNo setVarNo setVarsNo addPermutationNo allocatePermutationNo addEquationNo pairNo setRun setVarsRun allBelow answer after compiledParts publicsOf equationAt sizeAt equationsSound slotsSound follow isUtf8 compileNo compile validatedNo gateNo
+unfolding ask _▸_ newRelationNo allocateVarsNo setVarNo setVarsNo addPermutationNo allocatePermutationNo addEquationNo pairNo setItems setVarsRun ticketLine gramsToSteps readLine linesOf lineNo setTicketsRun allBelow answer after compiledParts publicsOf equationAt sizeAt equationsSound slotsSound follow isUtf8 compileNo compile validatedNo gateNo
 gate-A = refl
 
 gate-accepted : compiled (last 1 slots queries equations calls) [] publics scratch .outcome ≡ Accepted
@@ -122,7 +132,7 @@ SatA trace = Sat (Evaluates 1 (parametersOf 1 1 params)) (lastLedger 1 slots que
 
 -- the ledger of those calls is satisfied by the trace (2, 5)
 pub satisfied : SatA ((2 ∷ 5 ∷ []) ∷ [])
-unfolding ask _▸_ newRelationNo allocateVarsNo setVarNo setVarsNo addPermutationNo allocatePermutationNo addEquationNo pairNo setRun setVarsRun allBelow answer after compiledParts publicsOf equationAt sizeAt equationsSound slotsSound follow isUtf8 compileNo compile validatedNo gateNo compilePublics publicsSound partsOf checkNo isWitnessValidNo isEvaluation permuteNo soundParameters roundsOf rowsOf soundKinds unitConstants unitRows sameWords runRounds runRound addConstants raise timesMatrix addUnit mulUnit seventh dotUnits instanceToBytesNo instanceBytes headerBytes u32Bytes instanceFromBytes readInstance readFile readHeader readMagic readLabel readParts readPublics readQueries readEquations word part below witnessToBytesNo witnessBytes witnessFromBytes readWitness readSteps
+unfolding ask _▸_ newRelationNo allocateVarsNo setVarNo setVarsNo addPermutationNo allocatePermutationNo addEquationNo pairNo setItems setVarsRun ticketLine gramsToSteps readLine linesOf lineNo setTicketsRun allBelow answer after compiledParts publicsOf equationAt sizeAt equationsSound slotsSound follow isUtf8 compileNo compile validatedNo gateNo compilePublics publicsSound partsOf checkNo isWitnessValidNo isEvaluation permuteNo soundParameters roundsOf rowsOf soundKinds unitConstants unitRows sameWords runRounds runRound addConstants raise timesMatrix addUnit mulUnit seventh dotUnits instanceToBytesNo instanceBytes headerBytes u32Bytes instanceFromBytes readInstance readFile readHeader readMagic readLabel readParts readPublics readQueries readEquations word part below witnessToBytesNo witnessBytes witnessFromBytes readWitness readSteps
 satisfied =
     whole 1 slots queries equations fresh-accepted calls .gated [] publics scratch gate-accepted .files lentFile
     .checks refl refl (lentTrace (2 ∷ 5 ∷ 9 ∷ [])) refl refl 1 params refl 3 (omega arith) (omega arith)
@@ -130,7 +140,7 @@ satisfied =
 
 -- with no bytes between too
 pub satisfied-held : SatA ((2 ∷ 5 ∷ []) ∷ [])
-unfolding ask _▸_ newRelationNo allocateVarsNo setVarNo setVarsNo addPermutationNo allocatePermutationNo addEquationNo pairNo setRun setVarsRun allBelow answer after compiledParts publicsOf equationAt sizeAt equationsSound slotsSound follow isUtf8 compileNo compile validatedNo gateNo compilePublics publicsSound partsOf checkNo isWitnessValidNo isEvaluation permuteNo soundParameters roundsOf rowsOf soundKinds unitConstants unitRows sameWords runRounds runRound addConstants raise timesMatrix addUnit mulUnit seventh dotUnits
+unfolding ask _▸_ newRelationNo allocateVarsNo setVarNo setVarsNo addPermutationNo allocatePermutationNo addEquationNo pairNo setItems setVarsRun ticketLine gramsToSteps readLine linesOf lineNo setTicketsRun allBelow answer after compiledParts publicsOf equationAt sizeAt equationsSound slotsSound follow isUtf8 compileNo compile validatedNo gateNo compilePublics publicsSound partsOf checkNo isWitnessValidNo isEvaluation permuteNo soundParameters roundsOf rowsOf soundKinds unitConstants unitRows sameWords runRounds runRound addConstants raise timesMatrix addUnit mulUnit seventh dotUnits
 satisfied-held =
     whole 1 slots queries equations fresh-accepted calls .gated [] publics scratch gate-accepted
     .checks 1 (2 ∷ 5 ∷ 9 ∷ []) (record { size = omega arith; room = omega arith; units = refl }) 1 params refl 3 (omega arith) (omega arith)
@@ -138,7 +148,7 @@ satisfied-held =
 
 -- and not by (3, 640), whose check is 33: no assignment gives wire 2 both 5 and 640
 pub unsatisfied : SatA ((3 ∷ 640 ∷ []) ∷ []) → ⊥
-unfolding ask _▸_ newRelationNo allocateVarsNo setVarNo setVarsNo addPermutationNo allocatePermutationNo addEquationNo pairNo setRun setVarsRun allBelow answer after compiledParts publicsOf equationAt sizeAt equationsSound slotsSound follow isUtf8 compileNo compile validatedNo gateNo compilePublics publicsSound partsOf checkNo isWitnessValidNo isEvaluation permuteNo soundParameters roundsOf rowsOf soundKinds unitConstants unitRows sameWords runRounds runRound addConstants raise timesMatrix addUnit mulUnit seventh dotUnits instanceToBytesNo instanceBytes headerBytes u32Bytes instanceFromBytes readInstance readFile readHeader readMagic readLabel readParts readPublics readQueries readEquations word part below witnessToBytesNo witnessBytes witnessFromBytes readWitness readSteps
+unfolding ask _▸_ newRelationNo allocateVarsNo setVarNo setVarsNo addPermutationNo allocatePermutationNo addEquationNo pairNo setItems setVarsRun ticketLine gramsToSteps readLine linesOf lineNo setTicketsRun allBelow answer after compiledParts publicsOf equationAt sizeAt equationsSound slotsSound follow isUtf8 compileNo compile validatedNo gateNo compilePublics publicsSound partsOf checkNo isWitnessValidNo isEvaluation permuteNo soundParameters roundsOf rowsOf soundKinds unitConstants unitRows sameWords runRounds runRound addConstants raise timesMatrix addUnit mulUnit seventh dotUnits instanceToBytesNo instanceBytes headerBytes u32Bytes instanceFromBytes readInstance readFile readHeader readMagic readLabel readParts readPublics readQueries readEquations word part below witnessToBytesNo witnessBytes witnessFromBytes readWitness readSteps
 unsatisfied s =
     let z : _≡_ {A = ℕ} 33 0 = accepted-no 33
     (whole 1 slots queries equations fresh-accepted calls .gated [] publics scratch gate-accepted .files lentFile
@@ -151,11 +161,11 @@ abbrev taking : List Call
 taking = Allocate 2 ∷ Mint (0 ∷ []) ∷ []
 
 pub allocated : answer (begin 1 slots queries equations taking) (Allocate 2) .first ≡ 1
-unfolding ask _▸_ newRelationNo allocateVarsNo setVarNo setVarsNo addPermutationNo allocatePermutationNo addEquationNo pairNo setRun setVarsRun allBelow answer after
+unfolding ask _▸_ newRelationNo allocateVarsNo setVarNo setVarsNo addPermutationNo allocatePermutationNo addEquationNo pairNo setItems setVarsRun ticketLine gramsToSteps readLine linesOf lineNo setTicketsRun allBelow answer after
 allocated = whole 1 slots queries equations fresh-accepted taking .told .0 .first refl refl
 
 pub minted : answer (after (begin 1 slots queries equations taking) (Allocate 2)) (Mint (0 ∷ [])) .first ≡ 3
-unfolding ask _▸_ newRelationNo allocateVarsNo setVarNo setVarsNo addPermutationNo allocatePermutationNo addEquationNo pairNo setRun setVarsRun allBelow answer after noted
+unfolding ask _▸_ newRelationNo allocateVarsNo setVarNo setVarsNo addPermutationNo allocatePermutationNo addEquationNo pairNo setItems setVarsRun ticketLine gramsToSteps readLine linesOf lineNo setTicketsRun allBelow answer after noted
 minted = whole 1 slots queries equations fresh-accepted taking .told .1 .0 .first refl refl
 
 -- ---- document 01's starred examples, all of them, as one fact of the definitions

@@ -5,16 +5,18 @@ use mathlib.Core.List.{List, [], _∷_, _++_}
 use native.Mathlib.Omega.{arith}
 use lib.Dec.{eqb}
 use lib.ListN.{length, set, length-set, length-append}
-use Rattle.limits.specs.Questions.{ask, _▸_, onYes}
+use Rattle.limits.specs.Questions.{ask, _▸_, firstNo, onYes}
 use Rattle.words.specs.Store.{putWords}
 use Rattle.words.specs.Pieces.{wordsOf}
 use Rattle.words.proofs.Pieces.{wordsOf-suc}
 use Rattle.words.proofs.Written.{put-length}
-use Rattle.allocator.specs.Slots.{Pair, pairs, pairNo, grownSlots, SetRun, ran, setRun}
+use Rattle.allocator.specs.Slots.{pairs, pairNo, grownSlots, SetRun, ran, setRun}
+use Rattle.allocator.proofs.Run.{run-length}
 use Rattle.expr.specs.Equation.{equation, equationWords}
 use Rattle.expr.specs.Weighted.{termsOf}
 use Rattle.expr.proofs.Held.{length-equation}
 use Rattle.permutation.specs.declared.PermutationRelation.{PermutationRelation}
+use Rattle.permutation.specs.Relation.{relationAsks}
 use Rattle.permutation.specs.Numbers.{allocateVarsNo, setVarNo, setVarsNo}
 use Rattle.recording.specs.Numbers.{addPermutationNo, allocatePermutationNo, addEquationNo}
 use Rattle.permutation.specs.Answers.{setVarsRun}
@@ -23,7 +25,9 @@ use Rattle.permutation.proofs.Accepted.{allocateVars-yes}
 use Rattle.recording.proofs.Accepted.{addPermutation-yes, allocatePermutation-yes, addEquation-yes}
 use Rattle.recording.proofs.Minted.{upFrom-length}
 use Rattle.permutation.proofs.Slots.{grown-length}
-use Rattle.history.specs.Calls.{Call, Allocate, Set, SetList, Record, Mint, Equate, State, after, final}
+use Rattle.tickets.specs.Lines.{linesOf, linePair, lineNo, setLines}
+use Rattle.tickets.specs.Tickets.{setTicketsRun}
+use Rattle.history.specs.Calls.{Call, Allocate, Set, SetList, Record, Mint, Equate, Tickets, State, after, final}
 use Rattle.history.specs.Demand.{lengthsOf}
 
 -- by a number: of one length either way
@@ -31,16 +35,7 @@ kept : (k : ℕ) (new old : List ℕ) → (k ≡ 0 → length new ≡ length old
 kept zero new old f = f refl
 kept (suc k) new old f = refl
 
-run-length : (n : ℕ) (ps : List Pair) (slots : List ℕ) → length (setRun n slots ps .slots) ≡ length slots
-unfolding setRun
-run-length n [] slots = refl
-run-length n (p ∷ ps) slots = go (pairNo n slots p) _ (run-length n ps (set slots (p .var) (p .value)))
-  where
-    go : (k : ℕ) (r : SetRun) → length (r .slots) ≡ length (set slots (p .var) (p .value))
-        → length (onYes {A = SetRun} k (ran (r .number) (suc (r .accepted)) (r .slots)) (ran k 0 slots) .slots) ≡ length slots
-    go zero r e = e ∙ length-set slots (p .var) (p .value)
-    go (suc k) r e = refl
-
+-- of a run that an earlier number may have stopped
 list-length : (k a : ℕ) (r : SetRun) (slots : List ℕ) → length (r .slots) ≡ length slots
     → length (onYes {A = SetRun} k (ran a (r .accepted) (r .slots)) (ran k 0 slots) .slots) ≡ length slots
 list-length zero a r slots e = e
@@ -61,7 +56,7 @@ module _ (s : State) where
   lengths t a b c = λ j. record { slots = a j; queries = b j; equations = c j }
 
   pub lengths-kept : (c : Call) → lengthsOf (after s c) ≡ lengthsOf s
-  unfolding after setVarsRun
+  unfolding after setVarsRun setTicketsRun
   lengths-kept (Allocate n) =
       lengths (after s (Allocate n))
       (kept (allocateVarsNo rel (length (s .slots)) n) (grownSlots (rel .vars) n (s .slots)) (s .slots)
@@ -73,7 +68,7 @@ module _ (s : State) where
       let r = setRun (rel .vars) (s .slots) (pairs vars values) in
       lengths (after s (SetList vars values))
       (list-length (setVarsNo rel (length (s .slots)) vars values) (r .number ▸ ask 9 (eqb (length vars) (length values))) r (s .slots)
-      (run-length (rel .vars) (pairs vars values) (s .slots))) refl refl
+      (run-length (pairNo (rel .vars)) (λ p. p) (pairs vars values) (s .slots))) refl refl
   lengths-kept (Record input output) =
       lengths (after s (Record input output)) refl
       (kept (addPermutationNo rel (length (s .queries)) input output) (queriesWith rel (input ++ output) (s .queries)) (s .queries)
@@ -95,6 +90,11 @@ module _ (s : State) where
       (λ z.
       let y = addEquation-yes rel (length (s .equations)) (termsOf terms) image z in
       put-length (rel .words) (equationWords e) (s .equations) (rw (length-equation e) (y .room))))
+  lengths-kept (Tickets text) =
+      let r = setLines (rel .vars) (s .slots) text in
+      lengths (after s (Tickets text))
+      (list-length (firstNo (relationAsks rel (length (s .slots)))) (r .number) r (s .slots)
+      (run-length (lineNo (rel .vars)) linePair (linesOf text) (s .slots))) refl refl
 
 -- nor does a list of calls
 pub lengths-all : (cs : List Call) (s : State) → lengthsOf (final s cs) ≡ lengthsOf s

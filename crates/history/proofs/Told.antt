@@ -5,10 +5,11 @@ use mathlib.Core.Path.{_≡_, refl, sym, ap, ap₂, _∙_}
 use mathlib.Core.Bool.{true}
 use mathlib.Core.List.{List, [], _∷_, _++_}
 use lib.Dec.{eqb}
-use lib.ListN.{length, set}
+use lib.ListN.{length}
 use Rattle.limits.specs.Questions.{ask, _▸_, question, firstNo, onYes}
 use Rattle.limits.proofs.Questions.{▸-zero, firstNo-append}
-use Rattle.allocator.specs.Slots.{Pair, pairs, pairAsks, pairNo, ran, SetRun, setRun}
+use Rattle.allocator.specs.Slots.{pairs, pairAsks, pairNo, ran, SetRun, setRun, itemsAsks}
+use Rattle.allocator.proofs.Run.{run-number}
 use Rattle.expr.specs.Weighted.{termsOf}
 use Rattle.limits.specs.declared.Outcome.the-variants as outcome
 use Rattle.permutation.specs.declared.PermutationRelation.{PermutationRelation}
@@ -21,9 +22,12 @@ use Rattle.limits.specs.Outcome.{outcomeOf}
 use Rattle.permutation.specs.Answers.{firstOf, firstNumber, firstVar, allocateVars, setVarsRun}
 use Rattle.recording.specs.Answers.{allocatePermutation}
 use Rattle.recording.proofs.Keeps.{allocateVars-first, allocatePermutation-first}
-use Rattle.recording.proofs.Left.{allocateVars-left, setVar-left, setVars-left, addPermutation-left, allocatePermutation-left, addEquation-left}
+use Rattle.recording.proofs.Left.{after-relation, allocateVars-left, setVar-left, setVars-left, addPermutation-left, allocatePermutation-left, addEquation-left}
+use Rattle.tickets.specs.Lines.{linesAsks}
+use Rattle.tickets.specs.Left.{setTicketsLeft}
+use Rattle.tickets.proofs.Laws.{lines-number, lines-left, setTickets-number}
 use Rattle.history.specs.Ledger.{Ledger}
-use Rattle.history.specs.Calls.{Call, Allocate, Set, SetList, Record, Mint, Equate, State, pairsAsks, asks, answer, after, firstOutcome, noted}
+use Rattle.history.specs.Calls.{Call, Allocate, Set, SetList, Record, Mint, Equate, Tickets, State, asks, answer, after, firstOutcome, noted}
 use Rattle.history.specs.Left.{left}
 use Rattle.history.specs.Demand.{Accepted, lengthsOf, takesVars, Told, AllTold}
 use Rattle.history.proofs.Lengths.{lengths-kept}
@@ -39,19 +43,6 @@ first-no (first.Var x) a = refl
 first-no (first.Refused k) a = cc
 
 -- ---- a set list's number
-run-number : (n : ℕ) (slots : List ℕ) (ps : List Pair) → setRun n slots ps .number ≡ firstNo (pairsAsks n slots ps)
-unfolding setRun pairNo _▸_
-run-number n slots [] = refl
-run-number n slots (p ∷ ps) =
-    go (pairNo n slots p) _ (run-number n (set slots (p .var) (p .value)) ps)
-    ∙ sym (firstNo-append (pairAsks n slots p) (pairsAsks n (set slots (p .var) (p .value)) ps))
-  where
-    go : (k : ℕ) (r : SetRun) → r .number ≡ firstNo (pairsAsks n (set slots (p .var) (p .value)) ps)
-        → onYes {A = SetRun} k (ran (r .number) (suc (r .accepted)) (r .slots)) (ran k 0 slots) .number
-        ≡ k ▸ firstNo (pairsAsks n (set slots (p .var) (p .value)) ps)
-    go zero r e = e
-    go (suc k) r e = refl
-
 list-number : (k m : ℕ) (r : SetRun) (slots : List ℕ)
     → onYes {A = SetRun} k (ran (r .number ▸ m) (r .accepted) (r .slots)) (ran k 0 slots) .number ≡ k ▸ (r .number ▸ m)
 unfolding _▸_
@@ -60,23 +51,24 @@ list-number (suc k) m r slots = refl
 
 -- each call answers by the first no of its questions
 by-questions : (s : State) (c : Call) → answer s c .outcome ≡ outcomeOf (firstNo (asks s c))
-unfolding answer asks allocateVarsNo setVarNo setVarsNo setVarsRun addPermutationNo allocatePermutationNo addEquationNo
+unfolding answer asks allocateVarsNo setVarNo pairNo setVarsNo setVarsRun addPermutationNo allocatePermutationNo addEquationNo
 by-questions s (Allocate n) = first-outcome (allocateVarsNo (s .relation) (length (s .slots)) n) (s .relation .vars)
 by-questions s (Set p) = refl
 by-questions s (SetList vars values) =
     let n = s .relation .vars in
     let before = setVarsAsks (s .relation) (length (s .slots)) vars values in
-    let these = pairsAsks n (s .slots) (pairs vars values) in
+    let these = itemsAsks (pairAsks n) (λ p. p) (s .slots) (pairs vars values) in
     let nine = question 9 (eqb (length vars) (length values)) ∷ [] in
     ap outcomeOf
     (list-number (firstNo before) (ask 9 (eqb (length vars) (length values))) (setRun n (s .slots) (pairs vars values)) (s .slots)
     ∙ ap (λ (k : ℕ). firstNo before ▸ k)
-    (ap₂ _▸_ (run-number n (s .slots) (pairs vars values)) (sym (▸-zero _)) ∙ sym (firstNo-append these nine))
+    (ap₂ _▸_ (run-number (pairNo n) (λ p. p) (pairAsks n) (λ t p. refl) (s .slots) (pairs vars values)) (sym (▸-zero _)) ∙ sym (firstNo-append these nine))
     ∙ sym (firstNo-append before (these ++ nine)))
 by-questions s (Record input output) = refl
 by-questions s (Mint input) =
     first-outcome (allocatePermutationNo (s .relation) (length (s .slots)) (length (s .queries)) input) (s .relation .vars)
 by-questions s (Equate terms image) = refl
+by-questions s (Tickets text) = ap outcomeOf (setTickets-number (s .relation) (s .slots) text)
 
 -- ---- what ledger and lengths leave open
 module _ (w : ℕ) (s : State) (l : Ledger) (i : Agrees w s l) where
@@ -94,6 +86,13 @@ module _ (w : ℕ) (s : State) (l : Ledger) (i : Agrees w s l) where
       first-outcome (allocatePermutationNo rel (length (s .slots)) (length (s .queries)) input) (rel .vars)
       ∙ ap outcomeOf (allocatePermutation-left w _ _ _ _ _ _ _ _ i input)
   by-ledger (Equate terms image) = ap outcomeOf (addEquation-left w _ _ _ _ _ _ _ _ i (termsOf terms) image)
+  by-ledger (Tickets text) =
+      ap outcomeOf
+      (setTickets-number rel (s .slots) text
+      ∙ after-relation w _ _ _ _ _ _ _ _ i (linesAsks (rel .vars) (s .slots) text)
+      ∙ sym (lines-number (rel .vars) (s .slots) text)
+      ∙ lines-left (rel .vars) (s .slots) (l .sets) text (i .inSlots)
+      ∙ ap (λ (k : ℕ). setTicketsLeft k (l .sets) text) (i .count))
 
   first-is : (c : Call) → takesVars c ≡ true → Accepted (answer s c .outcome) → answer s c .first ≡ l .count
   unfolding answer
@@ -103,6 +102,7 @@ module _ (w : ℕ) (s : State) (l : Ledger) (i : Agrees w s l) where
   first-is (Record input output) t a = cc
   first-is (Mint input) t a = ap firstVar (allocatePermutation-first w _ _ _ _ _ _ _ _ i input (first-no (allocatePermutation rel (s .slots) (s .queries) input .first) a))
   first-is (Equate terms image) t a = cc
+  first-is (Tickets text) t a = cc
 
   told : (c : Call) → Told w s l c
   told c = record {

@@ -1,14 +1,14 @@
 -- Calls on a relation in any order: what each answers and leaves, by the definitions that the open functions'
 -- contracts cite; and the ledger, which is fed each call and its answer. Assumes nothing.
 use Prim.Native.Nat.{ℕ, _+_}
-use mathlib.Core.List.{List, [], _∷_, _++_}
+use mathlib.Core.List.{List, [], _∷_, _++_, map}
 use lib.Dec.{eqb}
-use lib.ListN.{length, take, set}
+use lib.ListN.{length, take}
 use Rattle.limits.specs.Questions.{Question, question, pick}
 use Rattle.limits.specs.Outcome.{isAccepted}
 use Rattle.limits.specs.declared.Outcome.{Outcome}
 use Rattle.limits.specs.declared.Outcome.the-variants as outcome
-use Rattle.allocator.specs.Slots.{Pair, pair, pairs, pairAsks}
+use Rattle.allocator.specs.Slots.{Pair, pair, pairs, pairAsks, itemsAsks}
 use Rattle.allocator.specs.Values.{joins}
 use Rattle.expr.specs.Equation.{Equation, equation}
 use Rattle.expr.specs.Weighted.{termsOf}
@@ -21,9 +21,12 @@ use Rattle.permutation.specs.declared.PermutationRelation.{PermutationRelation}
 use Rattle.permutation.specs.declared.First.{First}
 use Rattle.permutation.specs.declared.First.the-variants as first
 use Rattle.permutation.specs.declared.SetVars.{SetVars}
+use Rattle.tickets.specs.Lines.{linesOf, linePair}
+use Rattle.tickets.specs.Tickets.{setTicketsAsks, setTickets, setTicketsSlots}
+use Rattle.tickets.specs.declared.SetTickets.{SetTickets}
 use Rattle.history.specs.Ledger.{Ledger}
 
--- the calls of document 01's list: allocate, set, set list, record, mint, equation
+-- the calls of document 01's list: allocate, set, set list, record, mint, equation; and 02's tickets (R-1)
 pub data Call : Type 0 where
   Allocate : ℕ → Call
   Set : Pair → Call
@@ -31,6 +34,7 @@ pub data Call : Type 0 where
   Record : (input output : List ℕ) → Call
   Mint : (input : List ℕ) → Call
   Equate : (terms : List Weighted) (image : ℕ) → Call
+  Tickets : (text : List ℕ) → Call
 
 -- the relation's record, and the words of its stores
 pub record State : Type 0 where
@@ -45,23 +49,19 @@ state relation slots queries equations =
     record { relation = relation; slots = slots; queries = queries; equations = equations }
 
 -- ---- questions in order; a call answers the first that says no
--- of pairs in turn: each on the slots as the earlier pairs leave them
-abbrev pub pairsAsks : ℕ → List ℕ → List Pair → List Question
-pairsAsks count slots [] = []
-pairsAsks count slots (p ∷ ps) = pairAsks count slots p ++ pairsAsks count (set slots (p .var) (p .value)) ps
-
 -- of each call, on the state that it gets
 unfoldable pub asks : State → Call → List Question
 asks s (Allocate n) = allocateVarsAsks (s .relation) (length (s .slots)) n
 asks s (Set p) = setVarAsks (s .relation) (s .slots) p
 asks s (SetList vars values) =
     setVarsAsks (s .relation) (length (s .slots)) vars values
-    ++ (pairsAsks (s .relation .vars) (s .slots) (pairs vars values) ++ (question 9 (eqb (length vars) (length values)) ∷ []))
+    ++ (itemsAsks (pairAsks (s .relation .vars)) (λ p. p) (s .slots) (pairs vars values) ++ (question 9 (eqb (length vars) (length values)) ∷ []))
 asks s (Record input output) = addPermutationAsks (s .relation) (length (s .queries)) input output
 asks s (Mint input) = allocatePermutationAsks (s .relation) (length (s .slots)) (length (s .queries)) input
 asks s (Equate terms image) = addEquationAsks (s .relation) (length (s .equations)) (termsOf terms) image
+asks s (Tickets text) = setTicketsAsks (s .relation) (s .slots) text
 
--- ---- answers: accepted or refused with document 01's number, the first new wire, and how many pairs were accepted
+-- ---- answers: accepted or refused with the documents' number, the first new wire, and how many pairs or lines were accepted
 -- where a call has no such value it is 0
 pub record Answer : Type 0 where
   pub outcome : Outcome
@@ -89,6 +89,10 @@ ofFirst f = record { outcome = firstOutcome f; first = firstVar f; accepted = 0 
 abbrev pub ofSetVars : SetVars → Answer
 ofSetVars r = record { outcome = r .outcome; first = 0; accepted = r .accepted }
 
+-- a ticket call's answer: the outcome and how many lines were accepted
+abbrev pub ofSetTickets : SetTickets → Answer
+ofSetTickets r = record { outcome = r .outcome; first = 0; accepted = r .accepted }
+
 -- what each call answers on the state that it gets
 unfoldable pub answer : State → Call → Answer
 answer s (Allocate n) = ofFirst (allocateVars (s .relation) (s .slots) n .first)
@@ -97,6 +101,7 @@ answer s (SetList vars values) = ofSetVars (setVars (s .relation) (s .slots) var
 answer s (Record input output) = ofOutcome (addPermutation (s .relation) (s .queries) input output .outcome)
 answer s (Mint input) = ofFirst (allocatePermutation (s .relation) (s .slots) (s .queries) input .first)
 answer s (Equate terms image) = ofOutcome (addEquation (s .relation) (s .equations) (termsOf terms) image .outcome)
+answer s (Tickets text) = ofSetTickets (setTickets (s .relation) (s .slots) text)
 
 -- ---- what a call leaves
 -- the record and the stores after each call
@@ -117,6 +122,7 @@ after s (Mint input) =
 after s (Equate terms image) =
     state (addEquation (s .relation) (s .equations) (termsOf terms) image .relation) (s .slots) (s .queries)
     (addEquationEquations (s .relation) (s .equations) (termsOf terms) image)
+after s (Tickets text) = state (s .relation) (setTicketsSlots (s .relation) (s .slots) text) (s .queries) (s .equations)
 
 -- what fresh of width w leaves, whatever else lies in the stores
 abbrev pub fresh : ℕ → (slots queries equations : List ℕ) → State
@@ -133,7 +139,8 @@ abbrev pub firstLedger : Ledger
 firstLedger = ledger 1 (pair 0 0 ∷ []) [] []
 
 -- what a call and its answer make of the ledger, at the width given to fresh: a refused call alters nothing, but of
--- a set list as many of the first pairs join as were accepted
+-- a set list as many of the first pairs join as were accepted, and of a ticket text as many of the first lines, each
+-- with the pair that it spells
 unfoldable pub noted : ℕ → Ledger → Call → Answer → Ledger
 noted w l (Allocate n) a = onAccepted a (ledger (l .count + n) (l .sets) (l .queries) (l .equations)) l
 noted w l (Set p) a = onAccepted a (ledger (l .count) (p ∷ l .sets) (l .queries) (l .equations)) l
@@ -145,6 +152,8 @@ noted w l (Mint input) a =
     onAccepted a (ledger (l .count + w) (l .sets) (l .queries ++ ((input ++ upFrom (l .count) w) ∷ [])) (l .equations)) l
 noted w l (Equate terms image) a =
     onAccepted a (ledger (l .count) (l .sets) (l .queries) (l .equations ++ (equation (termsOf terms) image ∷ []))) l
+noted w l (Tickets text) a =
+    ledger (l .count) (joins (l .sets) (map linePair (take (a .accepted) (linesOf text)))) (l .queries) (l .equations)
 
 -- ---- a list of calls: what was called and answered, what is left at the end, and the ledger of it
 -- one call, and what it was answered

@@ -19,7 +19,7 @@ use Rattle.instance.specs.Parts.{Parts, pairVars}
 use Rattle.validity.specs.Check.{termsNo, equationNo, carried}
 use Rattle.history.specs.Ledger.{Ledger, known}
 use Rattle.history.specs.Sat.{Sat}
-use Rattle.history.specs.Calls.{Call, Allocate, Set, SetList, Record, Mint, Equate, State, asks, answer, after, noted}
+use Rattle.history.specs.Calls.{Call, Allocate, Set, SetList, Record, Mint, Equate, Tickets, State, asks, answer, after, noted}
 use Rattle.history.specs.Left.{Lengths, left}
 
 -- ---- outcomes
@@ -46,6 +46,7 @@ takesVars (SetList vars values) = false
 takesVars (Record input output) = false
 takesVars (Mint input) = true
 takesVars (Equate terms image) = false
+takesVars (Tickets text) = false
 
 -- one call on a state, beside the ledger as it was before
 pub record Told (w : ℕ) (s : State) (l : Ledger) (c : Call) : Type 0 where

@@ -15,12 +15,13 @@ use Rattle.expr.specs.Equation.{equationsWords}
 use Rattle.expr.specs.Weighted.{termsOf}
 use Rattle.permutation.specs.Left.{allocateVarsLeft, setVarLeft, setVarsLeft}
 use Rattle.recording.specs.Left.{addPermutationLeft, allocatePermutationLeft, addEquationLeft}
+use Rattle.tickets.specs.Left.{setTicketsLeft}
 use Rattle.instance.specs.Parts.{pairVars, has}
 use Rattle.held.specs.Held.{labelAsks}
 use Rattle.validated.specs.Validated.{termwiseAsks}
 use Rattle.decoding.specs.Read.{Rooms}
 use Rattle.history.specs.Ledger.{Ledger, known}
-use Rattle.history.specs.Calls.{Call, Allocate, Set, SetList, Record, Mint, Equate}
+use Rattle.history.specs.Calls.{Call, Allocate, Set, SetList, Record, Mint, Equate, Tickets}
 
 -- the lengths of the three stores; no call changes them
 pub record Lengths : Type 0 where
@@ -40,6 +41,7 @@ left w lengths l (Mint input) =
     firstNo (allocatePermutationLeft w (l .count) (lengths .slots) (length (l .queries)) (lengths .queries) input)
 left w lengths l (Equate terms image) =
     firstNo (addEquationLeft (l .equations) (lengths .equations) (termsOf terms) image)
+left w lengths l (Tickets text) = setTicketsLeft (l .count) (l .sets) text
 
 -- ---- the gate
 -- of the n wires from i on, how many pass the test?

@@ -8,7 +8,7 @@ use lib.ListN.{length, set}
 use Rattle.limits.specs.Questions.{ask, _▸_, firstNo, onYes}
 use Rattle.limits.proofs.Questions.{stays, goes-on, firstNo-append}
 use Rattle.allocator.specs.Slots.{Pair, pairAsks, pairNo, pairs, SetRun, ran, setRun}
-use Rattle.allocator.specs.Assign.{assignVarSlots, setPairs}
+use Rattle.allocator.specs.Assign.{assignVarSlots, howFar}
 use Rattle.allocator.specs.declared.SetPairs.{SetPairs}
 use Rattle.permutation.specs.Relation.{relationAsks}
 use Rattle.permutation.specs.Numbers.{setVarNo, setVarsNo}
@@ -39,7 +39,6 @@ module _ (rel : PermutationRelation) (slots : List ℕ) (p : Pair) (k : ℕ) (e 
     same = number-is ∙ goes-on _ _ z
 
     slots-same : assignVarSlots (rel .vars) slots p ≡ setVarSlots rel slots p
-    unfolding assignVarSlots
     slots-same = ap (λ (n : ℕ). onYes n (set slots (p .var) (p .value)) slots) (sym same)
 
     pub pair-refused : (j ≡ 0 → ⊥) → SetsVar asIs rel slots p (Refused j) (assignVarSlots (rel .vars) slots p)
@@ -63,7 +62,7 @@ module _ (rel : PermutationRelation) (slots vars values : List ℕ) (k : ℕ) (e
   list-refused h = told (ran k 0 slots) (rw (sym e) (sym (stays-by k _ (ran k 0 slots) h))) (Refused k) (outcome-refused k h)
 
   -- q: what the allocator answers for the pairs; j: what they and 9 answer
-  module _ (z : k ≡ 0) (q : SetPairs) (d : q ≡ setPairs (rel .vars) slots (pairs vars values)) (j : ℕ)
+  module _ (z : k ≡ 0) (q : SetPairs) (d : q ≡ howFar (setRun (rel .vars) slots (pairs vars values))) (j : ℕ)
       (a : j ≡ q .number ▸ ask 9 (eqb (length vars) (length values))) where
     abbrev r : SetRun
     r = setRun (rel .vars) slots (pairs vars values)

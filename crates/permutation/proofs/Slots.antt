@@ -1,9 +1,9 @@
--- Slots that hold the sets: made by fresh, kept by more wires, by a set, and by as many pairs of a set list as
--- were accepted. Assumes nothing.
+-- Slots that hold the sets: made by fresh, kept by more wires, by a set, and by as many of
+-- the items set in turn as were accepted. Assumes nothing.
 use Prim.Native.Nat.{ℕ, zero, suc, _+_, _≤_, _<_}
 use mathlib.Core.Path.{_≡_, refl, sym, ap, _∙_}
 use mathlib.Core.Bool.{Bool, true, false}
-use mathlib.Core.List.{List, [], _∷_, _++_, append-assoc}
+use mathlib.Core.List.{List, [], _∷_, _++_, append-assoc, map}
 use mathlib.Core.Option.{Option, none, some}
 use native.Mathlib.Nat.{not-suc-le-zero}
 use native.Mathlib.Omega.{arith}
@@ -14,7 +14,7 @@ use lib.Seq.{getD-set-same, getD-set-other, getD-take, length-take-le, take-set-
 use Rattle.limits.specs.Numbers.{prime, unassigned, maxCount}
 use Rattle.limits.specs.Questions.{pick, onYes}
 use Rattle.words.proofs.Lists.{all-map}
-use Rattle.allocator.specs.Slots.{Pair, pair, pairNo, SetRun, setRun, grownSlots}
+use Rattle.allocator.specs.Slots.{Pair, pair, pairNo, SetRun, setItems, grownSlots}
 use Rattle.allocator.specs.Values.{look, joins, fits, slotUnit}
 use Rattle.allocator.proofs.Accepted.{SetPair, pair-yes}
 use Rattle.allocator.proofs.Values.{put-same, put-grows, put-units, slot-some, slot-fits}
@@ -103,18 +103,23 @@ module _ (n : ℕ) (slots : List ℕ) (p : Pair) (z : pairNo n slots p ≡ 0) wh
           ∙ slot-some (p .value) (asked .unit)
       go k o x false e = ap slotUnit (getD-set-other (take n slots) (p .var) x (p .value) unassigned (eqb-false x (p .var) e)) ∙ o .held x
 
--- ---- pairs in turn: as many join the sets as were accepted
-abbrev pub RunHolds : ℕ → List Pair → List Pair → SetRun → Type 0
-RunHolds n sets ps r = HoldsSlots n (r .slots) (joins sets (take (r .accepted) ps))
+-- ---- items in turn: as many join the sets with their pairs as were accepted
+module _ {A : Type 0} (pairOf : A → Pair) (n : ℕ) where
+  abbrev pub RunHolds : List Pair → List A → SetRun → Type 0
+  RunHolds sets items r = HoldsSlots n (r .slots) (joins sets (map pairOf (take (r .accepted) items)))
 
-pub run-by : (n : ℕ) (sets ps : List Pair) (k : ℕ) (r q : SetRun) → (k ≡ 0 → RunHolds n sets ps r) → RunHolds n sets ps q
-    → RunHolds n sets ps (onYes k r q)
-run-by n sets ps zero r q f o = f refl
-run-by n sets ps (suc k) r q f o = o
+  pub run-by : (sets : List Pair) (items : List A) (k : ℕ) (r q : SetRun) → (k ≡ 0 → RunHolds sets items r) → RunHolds sets items q
+      → RunHolds sets items (onYes k r q)
+  run-by sets items zero r q f o = f refl
+  run-by sets items (suc k) r q f o = o
 
-pub run-holds : (n : ℕ) (ps : List Pair) (slots : List ℕ) (sets : List Pair) → HoldsSlots n slots sets → RunHolds n sets ps (setRun n slots ps)
-unfolding setRun
-run-holds n [] slots sets o = o
-run-holds n (p ∷ ps) slots sets o =
-    run-by n sets (p ∷ ps) (pairNo n slots p) _ _
-    (λ z. run-holds n ps (set slots (p .var) (p .value)) (p ∷ sets) (set-holds n slots p z sets o)) o
+  -- where an item is only accepted if its pair is
+  pub run-holds : (noOf : List ℕ → A → ℕ) → ((slots : List ℕ) (a : A) → noOf slots a ≡ 0 → pairNo n slots (pairOf a) ≡ 0)
+      → (items : List A) (slots : List ℕ) (sets : List Pair) → HoldsSlots n slots sets
+      → RunHolds sets items (setItems noOf pairOf slots items)
+  unfolding setItems
+  run-holds noOf f [] slots sets o = o
+  run-holds noOf f (a ∷ items) slots sets o =
+      run-by sets (a ∷ items) (noOf slots a) _ _
+      (λ z. run-holds noOf f items (set slots (pairOf a .var) (pairOf a .value)) (pairOf a ∷ sets)
+      (set-holds n slots (pairOf a) (f slots a z) sets o)) o

@@ -2,6 +2,7 @@
 -- and the sizes alone: the wire count n, the sets, and the stores' lengths. Numbers 1, 2 of the counts and 2 of the
 -- slots are never answered there. Assumes nothing.
 use Prim.Native.Nat.{ℕ}
+use mathlib.Core.Bool.{Bool}
 use mathlib.Core.List.{List, [], _∷_, _++_}
 use mathlib.Core.Option.{Option, none, some}
 use lib.Dec.{eqb, ltb}
@@ -20,19 +21,27 @@ use Rattle.permutation.specs.declared.IsAllocated.the-variants as alloca
 abbrev pub allocateVarsLeft : ℕ → ℕ → ℕ → List Question
 allocateVarsLeft n slots a = growAsks n slots a
 
+-- the sets let a wire take a value: they give it none, or that one
+abbrev pub setsTake : List Pair → Pair → Bool
+setsTake sets p = fits (look sets (p .var)) (p .value)
+
 -- set: 3, 4, 7 at a wire of n or more, 8 at a wire that the sets give another value
 abbrev pub setVarLeft : ℕ → List Pair → Pair → List Question
 setVarLeft n sets p =
     question 3 (ltb (p .var) maxCount)
     ∷ question 4 (ltb (p .value) prime)
     ∷ question 7 (ltb (p .var) n)
-    ∷ question 8 (fits (look sets (p .var)) (p .value))
+    ∷ question 8 (setsTake sets p)
     ∷ []
 
--- the same pair by pair, each accepted one joining the sets
+-- items in turn, each accepted one joining the sets with its pair: the first number that is not 0
+abbrev pub itemsLeft : {A : Type 0} → (List Pair → A → ℕ) → (A → Pair) → List Pair → List A → ℕ
+itemsLeft leftOf pairOf sets [] = 0
+itemsLeft leftOf pairOf sets (a ∷ items) = leftOf sets a ▸ itemsLeft leftOf pairOf (pairOf a ∷ sets) items
+
+-- the same of pairs
 abbrev pub pairsLeft : ℕ → List Pair → List Pair → ℕ
-pairsLeft n sets [] = 0
-pairsLeft n sets (p ∷ ps) = firstNo (setVarLeft n sets p) ▸ pairsLeft n (p ∷ sets) ps
+pairsLeft n = itemsLeft (λ sets p. firstNo (setVarLeft n sets p)) (λ p. p)
 
 -- set list: 2 of the two lists, the pairs, 9
 abbrev pub setVarsLeft : ℕ → List Pair → List ℕ → List ℕ → ℕ

@@ -7,7 +7,7 @@
 use Prim.Native.Nat.{ℕ, zero, suc, _+_, _≤_}
 use mathlib.Core.Path.{_≡_, refl, ap, ap₂, _∙_, subst}
 use mathlib.Core.Bool.{true}
-use mathlib.Core.List.{List, [], _∷_, _++_}
+use mathlib.Core.List.{List, [], _∷_, _++_, map-id}
 use native.Mathlib.Nat.{not-suc-le-zero}
 use native.Mathlib.Omega.{arith}
 use lib.ListN.{length, set, take, length-append}
@@ -15,7 +15,7 @@ use Rattle.limits.specs.Numbers.{maxCount}
 use Rattle.limits.specs.Questions.{onYes}
 use Rattle.words.specs.Pieces.{wordsOf}
 use Rattle.words.specs.Store.{allBelow, putWords}
-use Rattle.allocator.specs.Slots.{Pair, pair, pairs, grownSlots}
+use Rattle.allocator.specs.Slots.{Pair, pair, pairs, pairNo, grownSlots}
 use Rattle.allocator.specs.Values.{joins}
 use Rattle.expr.specs.Equation.{Term, Equation, equation, equationWords}
 use Rattle.permutation.specs.Numbers.{newRelationNo, allocateVarsNo, setVarNo, setVarsNo}
@@ -23,6 +23,7 @@ use Rattle.recording.specs.Numbers.{addPermutationNo, allocatePermutatio
 use Rattle.limits.specs.Outcome.{outcomeNumber, outcomeOf}
 use Rattle.permutation.specs.Answers.{relation, firstNumber, firstOf, newRelation, newSlots, moreVars, allocateVars, allocateVarsSlots, setVar, setVarSlots, setVars, setVarsRun, setVarsSlots}
 use Rattle.recording.specs.Answers.{oneQuery, oneEquation, queriesWith, addPermutation, addPermutationQueries, upFrom, allocatePermutation, allocatePermutationSlots, allocatePermutationQueries, addEquation, addEquationEquations}
+use Rattle.permutation.specs.State.{HoldsSlots}
 use Rattle.recording.specs.State.{HoldsQueries, Holds}
 use Rattle.permutation.specs.declared.PermutationRelation.{PermutationRelation}
 use Rattle.permutation.specs.declared.First.the-variants.{Var}
@@ -133,8 +134,10 @@ module _ (width : ℕ) (rel : PermutationRelation) (slots queries equations : Li
     widthIs = o .widthIs;
     count = o .count;
     inSlots =
-        run-by (rel .vars) sets (pairs vars values) (setVarsNo rel (length slots) vars values) _ _
-        (λ z. run-holds (rel .vars) (pairs vars values) slots sets (o .inSlots)) (o .inSlots);
+        subst (λ (ps : List Pair). HoldsSlots (rel .vars) (setVarsSlots rel slots vars values) (joins sets ps))
+        (map-id (take (setVars rel slots vars values .accepted) (pairs vars values)))
+        (run-by (λ p. p) (rel .vars) sets (pairs vars values) (setVarsNo rel (length slots) vars values) _ _
+        (λ z. run-holds (λ p. p) (rel .vars) (pairNo (rel .vars)) (λ s p q. q) (pairs vars values) slots sets (o .inSlots)) (o .inSlots));
     inQueries = o .inQueries;
     inEquations = o .inEquations;
   }

@@ -30,7 +30,7 @@ use Rattle.permutation.specs.declared.PermutationRelation.{PermutationRelation}
 use Rattle.allocator.specs.declared.VarValue.{VarValue}
 use Rattle.allocator.specs.declared.VarValue.the-variants as varValue
 use Rattle.permutation.specs.declared.IsAllocated.the-variants as allocated
-use Rattle.permutation.proofs.Left.{by-number, pair-left, run-left, slot-given}
+use Rattle.permutation.proofs.Left.{by-number, pair-left, pairs-left, slot-given}
 
 -- ---- what is settled: 1, the counts, the slots
 module _ (width : ℕ) (rel : PermutationRelation) (slots queries equations : List ℕ)
@@ -51,7 +51,7 @@ module _ (width : ℕ) (rel : PermutationRelation) (slots queries equations : Li
       goes-on _ _ (ask-yes 2 _ (le-leb 1 (rel .vars) (s .least)))
       ∙ goes-on _ _ (ask-yes 2 _ (le-leb (rel .vars) maxCount (omega (arith, s .room, s .most))))
 
-  after-relation : (qs : List Question) → firstNo (relationAsks rel (length slots) ++ qs) ≡ firstNo qs
+  pub after-relation : (qs : List Question) → firstNo (relationAsks rel (length slots) ++ qs) ≡ firstNo qs
   after-relation qs =
       let s = o .inSlots in
       after-width _
@@ -82,7 +82,7 @@ module _ (width : ℕ) (rel : PermutationRelation) (slots queries equations : Li
       by-number (setVarsNo rel (length slots) vars values) _ slots
       ∙ ap₂ (λ (k m : ℕ). k ▸ (m ▸ ask 9 (eqb (length vars) (length values))))
       (before-pairs vars values)
-      (run-left (rel .vars) (pairs vars values) slots sets (o .inSlots) ∙ ap (λ (k : ℕ). pairsLeft k sets (pairs vars values)) (o .count))
+      (pairs-left (rel .vars) (pairs vars values) slots sets (o .inSlots) ∙ ap (λ (k : ℕ). pairsLeft k sets (pairs vars values)) (o .count))
 
   -- ---- the calls on queries
   held-queries : ask 2 (leb (wordsOf (rel .width) (rel .queries)) (length queries)) ≡ 0

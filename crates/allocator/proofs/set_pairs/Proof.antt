@@ -9,10 +9,10 @@ use native.Mathlib.Omega.{arith}
 use borrow.Author.Needs.{needs}
 use denote.Ref.{now}
 use lib.ListN.{length, drop, getD}
-use Rattle.allocator.specs.Slots.{pair, pairs, ran, setRun}
+use Rattle.allocator.specs.Slots.{pair, pairs, pairNo, ran, setRun}
 use Rattle.allocator.specs.Assign.{assignedNo}
 use Rattle.allocator.proofs.Assign.{assigned-no}
-use Rattle.allocator.proofs.Run.{pairs-at, pairs-end, counted, from-none, run-ended, run-refused, run-accepted, assign-length, told}
+use Rattle.allocator.proofs.Run.{pairs-at, pairs-end, counted, from-none, run-ended, run-refused, run-accepted, item-length, told}
 use Rattle.allocator.proofs.set_pairs.Statement.{statement}
 use Rattle.allocator.proofs.set_pairs.Tie as tie
 
@@ -35,8 +35,8 @@ returns : tie.Need-returns Inv-loop μ-loop
 returns c =
     let l = c .before .before .loop in
     let a = c .before .before .before .before .before .before .args in
-    let e = run-ended (a .count) (l .slots) (l .i) _ _ (pairs-end (now (a .vars)) (now (a .values)) (l .i) (inr (c .if1 .taken))) (l .inv .1) in
-    told (a .count) (now (a .slots)) (pairs (now (a .vars)) (now (a .values))) e
+    let e = run-ended (pairNo (a .count)) (λ p. p) (l .slots) (l .i) _ _ (pairs-end (now (a .vars)) (now (a .values)) (l .i) (inr (c .if1 .taken))) (l .inv .1) in
+    told e
 
 mul-t7 : tie.Need-mul-t7 Inv-loop μ-loop
 mul-t7 c = search needs
@@ -60,7 +60,7 @@ same-length-2 : tie.Need-same-length-2 Inv-loop μ-loop
 same-length-2 c =
     let d = c .before .before .before .before in
     let l = d .before .before .before .before .before .before .loop in
-    ap length (d .assign-var .ensures .slots) ∙ assign-length _ (l .slots) _ ∙ l .inv .2
+    ap length (d .assign-var .ensures .slots) ∙ item-length (pairNo _) (λ p. p) (l .slots) _ ∙ l .inv .2
 
 returns-2 : tie.Need-returns-2 Inv-loop μ-loop
 returns-2 c =
@@ -72,9 +72,9 @@ returns-2 c =
     let p = pair (getD vars (l .i) 0) (getD values (l .i) 0) in
     let split = pairs-at vars values (l .i) (d .before .before .before .before .before .loop-test .taken) (d .before .before .before .before .if1 .left) in
     let answered = c .before .assigned-no .ensures ∙ ap assignedNo (d .assign-var .ensures .answer) ∙ assigned-no (a .count) (l .slots) p in
-    told (a .count) (now (a .slots)) (pairs vars values)
+    told
     (ap (λ (t : List ℕ). ran (c .before .assigned-no .result) (l .i) t) (d .assign-var .ensures .slots)
-    ∙ run-refused (a .count) (l .slots) (l .i) _ p _ _ split (l .inv .1) _ answered (c .if2 .taken))
+    ∙ run-refused (pairNo (a .count)) (λ p. p) (l .slots) (l .i) _ p _ _ split (l .inv .1) _ answered (c .if2 .taken))
 
 add-i : tie.Need-add-i Inv-loop μ-loop
 add-i c = search needs
@@ -94,8 +94,8 @@ loop-again c =
     let answered = c .before .assigned-no .ensures ∙ ap assignedNo (d .assign-var .ensures .answer) ∙ assigned-no (a .count) (l .slots) p in (
       omega arith,
       ap (λ (t : List ℕ). counted (l .i + 1) (setRun (a .count) t (drop (l .i + 1) (pairs vars values)))) (d .assign-var .ensures .slots)
-          ∙ run-accepted (a .count) (l .slots) (l .i) _ p _ _ split (l .inv .1) (sym answered ∙ c .if2 .left),
-      ap length (d .assign-var .ensures .slots) ∙ assign-length (a .count) (l .slots) p ∙ l .inv .2,
+          ∙ run-accepted (pairNo (a .count)) (λ p. p) (l .slots) (l .i) _ p _ _ split (l .inv .1) (sym answered ∙ c .if2 .left),
+      ap length (d .assign-var .ensures .slots) ∙ item-length (pairNo (a .count)) (λ p. p) (l .slots) p ∙ l .inv .2,
     )
 
 same-length-3 : tie.Need-same-length-3 Inv-loop μ-loop
@@ -105,8 +105,8 @@ returns-3 : tie.Need-returns-3 Inv-loop μ-loop
 returns-3 c =
     let l = c .before .loop in
     let a = c .before .before .before .before .before .args in
-    let e = run-ended (a .count) (l .slots) (l .i) _ _ (pairs-end (now (a .vars)) (now (a .values)) (l .i) (inl (c .loop-test .left))) (l .inv .1) in
-    told (a .count) (now (a .slots)) (pairs (now (a .vars)) (now (a .values))) e
+    let e = run-ended (pairNo (a .count)) (λ p. p) (l .slots) (l .i) _ _ (pairs-end (now (a .vars)) (now (a .values)) (l .i) (inl (c .loop-test .left))) (l .inv .1) in
+    told e
 
 pub set-pairs-spec : {M : Type 1} → statement M
 set-pairs-spec =

@@ -4,7 +4,7 @@ use denote.Ref.{now}
 use mathlib.Core.Path.{sym, ap, _∙_}
 use native.Mathlib.Omega.{arith}
 use lib.ListN.{length}
-use Rattle.allocator.specs.Slots.{pairs}
+use Rattle.allocator.specs.Slots.{pairNo, pairs}
 use Rattle.allocator.specs.declared.SetPairs.{SetPairs}
 use Rattle.allocator.proofs.Run.{pairs-within, accepted-within}
 use Rattle.permutation.proofs.Sets.{list-refused, pairs-refused, pairs-accepted}
@@ -34,7 +34,7 @@ cast-accepted c =
     let vars = now (a .vars) in
     let values = now (a .values) in
     let y = setVars-yes (a .rel) (length (now (a .slots))) vars values (sym (b .before .set-vars-no .ensures) ∙ b .if1 .left) in
-    let n = accepted-within (a .rel .vars) (now (a .slots)) (pairs vars values) in
+    let n = accepted-within (pairNo (a .rel .vars)) (λ p. p) (now (a .slots)) (pairs vars values) in
     let m = pairs-within vars values in
     let d = c .before .before .before .before .set-pairs .ensures in
     omega (arith, ap (λ (q : SetPairs). q .accepted) (d .answer))

@@ -1,0 +1,12 @@
+-- What a ticket call can still say no to along a list of calls from an accepted fresh, by the wire count and the sets
+-- of a book alone; 1 and 2 are never answered there. Assumes nothing.
+use Prim.Native.Nat.{ℕ}
+use mathlib.Core.List.{List}
+use Rattle.limits.specs.Questions.{firstNo}
+use Rattle.allocator.specs.Slots.{Pair}
+use Rattle.permutation.specs.Left.{setsTake, itemsLeft}
+use Rattle.tickets.specs.Lines.{linesOf, linePair, lineAsks}
+
+-- 40, 3, 41, 7 at a wire of n or more, 8 at a wire that the sets give another value; each accepted line joins the sets
+abbrev pub setTicketsLeft : ℕ → List Pair → List ℕ → ℕ
+setTicketsLeft n sets text = itemsLeft (λ s bytes. firstNo (lineAsks n (setsTake s) bytes)) linePair sets (linesOf text)
