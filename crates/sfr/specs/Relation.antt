@@ -7,12 +7,14 @@ use Rattle.permutation.specs.Answers.{firstNumber, firstVar}
 use Rattle.permutation.specs.declared.Recorded.{Recorded}
 use Rattle.permutation.specs.declared.Allocated.{Allocated}
 use Rattle.permutation.specs.declared.SetVars.{SetVars}
+use Rattle.tickets.specs.declared.SetTickets.{SetTickets}
 use Rattle.allocator.specs.declared.VarValue.{VarValue}
 use Rattle.allocator.specs.declared.VarValue.the-variants as varValue
 use Rattle.permutation.specs.declared.IsAllocated.{IsAllocated}
 use Rattle.permutation.specs.declared.IsAllocated.the-variants as allocated
 use Rattle.sfr.specs.declared.relation.SfrRelationAnswer.{SfrRelationAnswer}
 use Rattle.sfr.specs.declared.relation.SfrTally.{SfrTally}
+use Rattle.sfr.specs.declared.relation.SfrTicketTally.{SfrTicketTally}
 use Rattle.sfr.specs.declared.relation.SfrValue.{SfrValue}
 use Rattle.sfr.specs.declared.relation.SfrFlag.{SfrFlag}
 
@@ -27,6 +29,10 @@ allocatedAnswer r = record { number = firstNumber (r .first); first = firstVar (
 -- a set list: its number, and how many of its first pairs were accepted
 abbrev pub tallyOf : SetVars → SfrTally
 tallyOf r = record { number = outcomeNumber (r .outcome); accepted = r .accepted }
+
+-- a ticket text: its number, and how many of its first lines were accepted
+abbrev pub ticketTallyOf : SetTickets → SfrTicketTally
+ticketTallyOf r = record { number = outcomeNumber (r .outcome); accepted = r .accepted }
 
 -- a look at a value: its number, whether there is one, and the value or 0
 abbrev pub valueAnswer : VarValue → SfrValue

@@ -7,7 +7,8 @@ ghost use Rattle.limits.specs.Outcome.{outcomeNumber};
 ghost use Rattle.permutation.specs.Answers.{valueOf, isAllocated};
 ghost use Rattle.permutation.specs.Contracts.{MakesRelation, AllocatesVars, SetsVar, SetsVars};
 ghost use Rattle.recording.specs.Contracts.{AddsPermutation, AllocatesPermutation, AddsEquation};
-ghost use Rattle.sfr.specs.Relation.{recordedAnswer, allocatedAnswer, tallyOf, valueAnswer, flagOf};
+ghost use Rattle.tickets.specs.Tickets.{SetsTickets};
+ghost use Rattle.sfr.specs.Relation.{recordedAnswer, allocatedAnswer, tallyOf, ticketTallyOf, valueAnswer, flagOf};
 use allocator::FieldVar;
 use allocator::VarValue;
 use baby_bear::BabyBearUnit;
@@ -32,6 +33,13 @@ pub struct SfrRelationAnswer {
 pub struct SfrTally {
     pub number: u32,
     pub accepted: u32,
+}
+
+// A ticket text's number, and how many of its first lines were accepted.
+#[repr(C)]
+pub struct SfrTicketTally {
+    pub number: u32,
+    pub accepted: usize,
 }
 
 // A value, where there is one.
@@ -139,6 +147,24 @@ pub extern "C" fn sfr_set_vars(
     let o = r.outcome;
     let accepted = r.accepted;
     SfrTally {
+        number: outcome_no(o),
+        accepted,
+    }
+}
+
+// Wires are assigned the steps of ticket lines, up to the first line that is refused.
+#[no_mangle]
+pub extern "C" fn sfr_set_tickets(
+    rel: PermutationRelation,
+    slots: &mut [u32],
+    text: &[u8],
+) -> SfrTicketTally
+    ensures { λ r. ⌜ SetsTickets ticketTallyOf rel (now (slots .entry)) (now (text .entry)) r (now (slots .exit)) ⌝ }
+{
+    let r = tickets::set_tickets(rel, slots, text);
+    let o = r.outcome;
+    let accepted = r.accepted;
+    SfrTicketTally {
         number: outcome_no(o),
         accepted,
     }
