@@ -47,6 +47,8 @@
  *   34  Has the wire a value?
  *   35  Is the sum the image?
  *   36  Is the wire below the wire count?
+ *   40  Is the ticket line in its form, and not cut short at the text's end?
+ *   41  Is its step count below p?
  *
  * The same functions stand for Rust in rust/, behind slices. */
 #ifndef SFR_H
@@ -134,6 +136,12 @@ typedef struct {
     uint32_t accepted;
 } sfr_tally;
 
+/* How many of a ticket text's first lines were accepted, after a refusal too. */
+typedef struct {
+    uint32_t number;
+    size_t accepted;
+} sfr_ticket_tally;
+
 /* A value where there is one; else, and after a refusal, some is false and value 0. */
 typedef struct {
     uint32_t number;
@@ -167,6 +175,15 @@ sfr_tally sfr_set_vars(sfr_relation rel,
                        uint32_t *slots, size_t slots_len,
                        const uint32_t *vars, size_t vars_len,
                        const uint32_t *values, size_t values_len);
+
+/* Tickets: a wire set by each line of the text, in order. A line is 24 bytes: a wire in 10 columns, a space, grams in 12,
+ * a newline. Both numbers are decimal and right-justified, with blanks before them; none but 0 itself starts with 0. The
+ * wire gets the grams in steps of 50 g, halves up: 25 g is 1 step.
+ * Questions 1, 2; then 40, 3, 41, 7, 8 line by line. Lent: slots, a word per wire; text, of any length, only read. A
+ * refusal leaves the accepted lines set, and else all as it was. */
+sfr_ticket_tally sfr_set_tickets(sfr_relation rel,
+                                 uint32_t *slots, size_t slots_len,
+                                 const uint8_t *text, size_t text_len);
 
 /* Record: a query of inputs and outputs; unallocated wires are taken.
  * Questions 1, 2, 9, 3, 10. Lent: queries, 2w words for each with the new one; input and output, exactly w words each,

@@ -79,6 +79,17 @@ pub struct Tally {
     pub accepted: u32,
 }
 
+/// The answer of a ticket text.
+#[repr(C)]
+#[derive(Clone, Copy, Debug, PartialEq, Eq)]
+#[must_use]
+pub struct TicketTally {
+    /// 0, or the first question that said no.
+    pub number: u32,
+    /// How many of the first lines were accepted, and stay set, after a refusal too.
+    pub accepted: usize,
+}
+
 /// The answer to which value a wire has.
 #[repr(C)]
 #[derive(Clone, Copy, Debug, PartialEq, Eq)]
@@ -224,6 +235,13 @@ impl RelationAnswer {
 impl Tally {
     /// How many pairs were set, where all were.
     pub fn accepted(self) -> Result<u32, Refused> {
+        accepted(self.number).map(|()| self.accepted)
+    }
+}
+
+impl TicketTally {
+    /// How many lines were set, where all were.
+    pub fn accepted(self) -> Result<usize, Refused> {
         accepted(self.number).map(|()| self.accepted)
     }
 }

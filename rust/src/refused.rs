@@ -15,13 +15,13 @@ pub fn accepted(number: u32) -> Result<(), Refused> {
 }
 
 impl Refused {
-    /// Document 01's number.
+    /// The documents' number.
     #[must_use]
     pub fn number(self) -> u32 {
         self.0.get()
     }
 
-    /// The question, in document 01's words; "?" for a number that no call answers.
+    /// The question, in the documents' words; "?" for a number that no call answers.
     #[must_use]
     pub fn question(self) -> &'static str {
         match self.number() {
@@ -56,6 +56,8 @@ impl Refused {
             34 => "has the wire a value?",
             35 => "is the sum the image?",
             36 => "is the wire below the wire count?",
+            40 => "is the ticket line in its form, and not cut short at the text's end?",
+            41 => "is its step count below p?",
             _ => "?",
         }
     }

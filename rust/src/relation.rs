@@ -1,6 +1,6 @@
 //! Calls on a relation. In each, a pointer and the length after it are those of one slice.
 
-use crate::{sys, Flag, Relation, RelationAnswer, Tally, Value, Weighted};
+use crate::{sys, Flag, Relation, RelationAnswer, Tally, TicketTally, Value, Weighted};
 
 /// Fresh: a relation of that width with wire 0 alone, whose slot becomes 0.
 ///
@@ -46,6 +46,20 @@ pub fn set_vars(rel: Relation, slots: &mut [u32], vars: &[u32], values: &[u32]) 
             values.len(),
         )
     }
+}
+
+/// Tickets: sets a wire for each line of the text, in order.
+///
+/// A line is 24 bytes: a wire in 10 columns, a space, grams in 12, a newline. Both numbers are
+/// decimal and right-justified, with blanks before them; none but 0 itself starts with 0. The
+/// wire gets the grams in steps of 50 g, halves up: 25 g is 1 step.
+///
+/// Questions 1, 2; then 40, 3, 41, 7, 8 line by line. Lent: slots, a word per wire; the text may
+/// have any length. A refusal leaves the accepted lines set, and else everything as it was.
+pub fn set_tickets(rel: Relation, slots: &mut [u32], text: &[u8]) -> TicketTally {
+    let (words, len) = (slots.as_mut_ptr(), slots.len());
+    // SAFETY: see the head of this file.
+    unsafe { sys::sfr_set_tickets(rel, words, len, text.as_ptr(), text.len()) }
 }
 
 /// Records a query; unallocated wires are taken.

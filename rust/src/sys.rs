@@ -53,6 +53,13 @@ unsafe extern "C" {
         values: *const u32,
         values_len: usize,
     ) -> Tally;
+    pub fn sfr_set_tickets(
+        rel: Relation,
+        slots: *mut u32,
+        slots_len: usize,
+        text: *const u8,
+        text_len: usize,
+    ) -> TicketTally;
     pub fn sfr_add_permutation(
         rel: Relation,
         queries: *mut u32,

@@ -65,7 +65,7 @@ fn scaling_keeps_the_terms() {
 #[test]
 fn every_number_has_its_question() {
     let numbers = (1..=17).chain(20..=25).chain([27, 28]).chain(31..=36);
-    for number in numbers {
+    for number in numbers.chain([40, 41]) {
         let refused = accepted(number).unwrap_err();
         assert_eq!(refused.number(), number);
         assert!(refused.question().len() > 1, "{number}");
@@ -89,6 +89,12 @@ fn answers_are_results() -> Result<(), Refused> {
         (1, Err(7))
     );
     assert_eq!(sfr::value_of(rel, &slots, 1).accepted()?, Some(5));
+    let text = b"         1          274\n         2          275\n";
+    let tally = sfr::set_tickets(rel, &mut slots, &text[..47]);
+    assert_eq!(
+        (tally.accepted, tally.accepted().map_err(Refused::number)),
+        (1, Err(40))
+    );
     assert_eq!(sfr::value_of(rel, &slots, 2).accepted()?, None);
     assert!(!sfr::is_allocated(rel, 3).accepted()?);
     let mut bytes = [0; 4];
