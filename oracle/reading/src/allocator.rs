@@ -70,6 +70,11 @@ pub fn set_var(rel: Relation, slots: &mut [u32], var: u32, value: u32) -> u32 {
 fn set_pair(rel: Relation, slots: &mut [u32], var: u32, value: u32) -> Asked {
     ask(3, is_var(var))?;
     ask(4, is_unit(value))?;
+    set_slot(rel, slots, var, value)
+}
+
+/// 7 and 8 of a wire and a unit; the slot is written where both say yes.
+pub fn set_slot(rel: Relation, slots: &mut [u32], var: u32, value: u32) -> Asked {
     ask(7, var < rel.vars_count)?;
     let slot = &mut slots[var as usize];
     ask(8, *slot == UNASSIGNED || *slot == value)?;

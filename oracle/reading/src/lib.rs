@@ -1,10 +1,10 @@
-//! A second reading of document 01, call by call: what every call answers and what it
-//! leaves in each store it was lent, on every input, refused ones included.
+//! A second reading of documents 01 and 02, call by call: what every call answers and what
+//! it leaves in each store it was lent, on every input, refused ones included.
 //!
-//! Written from the document alone, beside neither the source nor the proved code, and
+//! Written from the documents alone, beside neither the source nor the proved code, and
 //! plain rather than fast: held words are decoded into lists of pairs, cells and terms,
-//! the questions are put in the document's order, and a call acts only after the last
-//! of them said yes. Where the document leaves a choice open, the comment at the place
+//! the questions are put in the documents' order, and a call acts only after the last
+//! of them said yes. Where a document leaves a choice open, the comment at the place
 //! says which one is taken.
 //!
 //! Names are the source's where it has them. A call's answer carries its number, 0 for
@@ -17,6 +17,7 @@ mod held;
 mod instance;
 mod questions;
 mod relation;
+mod ticket;
 mod utf8;
 mod witness;
 
@@ -31,6 +32,7 @@ pub use encoding::{
 pub use field::{add, mul};
 pub use instance::{compile, heading, public_value, InstanceAnswer};
 pub use relation::{add_equation, add_permutation, allocate_permutation, scale};
+pub use ticket::{set_tickets, ticket, TICKET_LINE};
 pub use utf8::is_utf8;
 pub use witness::{append_step, evaluate_step, is_witness_valid, permute, Params};
 
@@ -93,6 +95,14 @@ pub struct RelationAnswer {
 pub struct Tally {
     pub number: u32,
     pub accepted: u32,
+}
+
+/// The answer of a ticket text: how many of its first lines were accepted stands beside the
+/// number, after a refusal too.
+#[derive(Clone, Copy, Debug, PartialEq, Eq)]
+pub struct TicketTally {
+    pub number: u32,
+    pub accepted: usize,
 }
 
 /// The answer to "which value has this wire".

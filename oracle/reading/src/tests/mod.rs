@@ -1,4 +1,4 @@
-//! Document 01's worked examples, and for each call the cases in which a reading goes
+//! The documents' worked examples, and for each call the cases in which a reading goes
 //! wrong most easily.
 
 mod bytes;
@@ -6,6 +6,7 @@ mod check;
 mod examples;
 mod gate;
 mod relation;
+mod ticket;
 
 use crate::*;
 
@@ -57,6 +58,11 @@ impl Stores {
 
     fn set_list(&mut self, vars: &[u32], values: &[u32]) -> (u32, u32) {
         let tally = set_vars(self.rel, &mut self.slots, vars, values);
+        (tally.number, tally.accepted)
+    }
+
+    fn tickets(&mut self, text: &[u8]) -> (u32, usize) {
+        let tally = set_tickets(self.rel, &mut self.slots, text);
         (tally.number, tally.accepted)
     }
 
