@@ -3,6 +3,8 @@
 
 use reading::{Relation, Weighted};
 
+use crate::tickets::Text;
+
 /// One call with what is handed in.
 #[derive(Clone, Debug)]
 pub enum Call {
@@ -11,6 +13,7 @@ pub enum Call {
     AllocateWith(Vec<u32>),
     Set(u32, u32),
     SetList(Vec<u32>, Vec<u32>),
+    Tickets(Text),
     Record(Vec<u32>, Vec<u32>),
     Mint(Vec<u32>),
     Equation(Vec<(u32, u32)>, u32),
@@ -25,6 +28,7 @@ impl Call {
             Self::AllocateWith(_) => "allocate with values",
             Self::Set(..) => "set",
             Self::SetList(..) => "set list",
+            Self::Tickets(_) => "tickets",
             Self::Record(..) => "record",
             Self::Mint(_) => "mint",
             Self::Equation(..) => "equation",
@@ -39,7 +43,7 @@ impl Call {
 pub struct Answer {
     pub number: u32,
     pub first: u32,
-    pub accepted: u32,
+    pub accepted: usize,
     pub value: Option<u32>,
     pub yes: bool,
 }
@@ -98,6 +102,14 @@ impl State {
             },
             Call::SetList(vars, values) => {
                 let tally = reading::set_vars(self.rel, &mut self.slots, vars, values);
+                Answer {
+                    number: tally.number,
+                    accepted: tally.accepted as usize,
+                    ..Answer::default()
+                }
+            }
+            Call::Tickets(text) => {
+                let tally = reading::set_tickets(self.rel, &mut self.slots, &text.0);
                 Answer {
                     number: tally.number,
                     accepted: tally.accepted,

@@ -2,13 +2,14 @@
 
 use std::collections::BTreeSet;
 
-use reading::{MAX_COUNT, P};
+use reading::{MAX_COUNT, P, TICKET_LINE};
 use source::{Params, Parts};
 
 use crate::{
     calls::{Answer, Call, State},
     held::Held,
     rng::Rng,
+    tickets::{self, Text},
 };
 
 /// How a list's calls are chosen.
@@ -93,7 +94,7 @@ impl Generator {
 
     /// A call that fits the mood, for a relation in this state.
     pub fn call(&mut self, state: &State) -> Call {
-        match self.rng.below(20) {
+        match self.rng.below(23) {
             0..=2 => Call::Allocate(self.count(state)),
             3 => self.allocate_with(),
             4..=6 => {
@@ -101,10 +102,11 @@ impl Generator {
                 Call::Set(var, value)
             }
             7..=9 => self.set_list(state),
-            10 | 11 => self.record(state),
-            12 | 13 => Call::Mint(self.vars(state)),
-            14..=17 => self.equation(state),
-            18 => Call::Value(self.var(state)),
+            10..=12 => Call::Tickets(self.tickets(state)),
+            13 | 14 => self.record(state),
+            15 | 16 => Call::Mint(self.vars(state)),
+            17..=20 => self.equation(state),
+            21 => Call::Value(self.var(state)),
             _ => Call::IsAllocated(self.var(state)),
         }
     }
@@ -139,6 +141,10 @@ impl Generator {
                 self.known.insert(*var);
             }
             Call::SetList(vars, _) => self.known.extend(vars),
+            Call::Tickets(text) => {
+                let pairs = text.0.chunks(TICKET_LINE).flat_map(reading::ticket);
+                self.known.extend(pairs.map(|(var, _)| var));
+            }
             Call::Record(input, output) => {
                 self.known.extend(input);
                 self.known.extend(output);
@@ -247,7 +253,8 @@ impl Generator {
         Call::AllocateWith((0..len).map(|_| self.rng.unit()).collect())
     }
 
-    fn set_list(&mut self, state: &State) -> Call {
+    /// Up to five wires, with a value for each.
+    fn pairs(&mut self, state: &State) -> (Vec<u32>, Vec<u32>) {
         let len = self.rng.below(6);
         let (mut vars, mut values) = (Vec::new(), Vec::new());
         for _ in 0..len {
@@ -267,6 +274,11 @@ impl Generator {
             vars.push(var);
             values.push(value);
         }
+        (vars, values)
+    }
+
+    fn set_list(&mut self, state: &State) -> Call {
+        let (mut vars, mut values) = self.pairs(state);
         if self.mood == Mood::Wild && self.rng.once_in(5) {
             for _ in 0..self.rng.between(1, 3) {
                 let list = if self.rng.once_in(2) {
@@ -278,6 +290,34 @@ impl Generator {
             }
         }
         Call::SetList(vars, values)
+    }
+
+    /// A ticket text. All but wild ones are whole lines, or cut short: what is set is as in a
+    /// set list.
+    pub fn tickets(&mut self, state: &State) -> Text {
+        let (vars, values) = self.pairs(state);
+        let mut text = Vec::new();
+        for (var, value) in vars.into_iter().zip(values) {
+            let rng = &mut self.rng;
+            let (mut var, mut grams) = (u64::from(var), tickets::grams(rng, value));
+            if self.mood == Mood::Wild {
+                match rng.below(20) {
+                    0 => var = *rng.pick(&tickets::VARS),
+                    1 => grams = *rng.pick(&tickets::GRAMS),
+                    _ => {}
+                }
+            }
+            text.extend(tickets::line(var, grams));
+        }
+        let rng = &mut self.rng;
+        if self.mood == Mood::Wild {
+            for _ in 0..*rng.pick(&[0, 0, 1, 2]) {
+                tickets::damage(rng, &mut text);
+            }
+        } else if rng.once_in(4) {
+            text.truncate(rng.below(text.len() + 1));
+        }
+        Text(text)
     }
 
     fn record(&mut self, state: &State) -> Call {

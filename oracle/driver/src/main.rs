@@ -17,6 +17,7 @@ mod lists;
 mod options;
 mod rng;
 mod sample;
+mod tickets;
 
 use std::process::ExitCode;
 
@@ -33,6 +34,8 @@ const COMMANDS: &[Command] = &[
     ("leaves", library::leaves::run),
     #[cfg(feature = "library")]
     ("relation", library::relation::run),
+    #[cfg(feature = "library")]
+    ("tickets", library::tickets::run),
     #[cfg(feature = "library")]
     ("witness", library::witness::run),
     #[cfg(feature = "library")]

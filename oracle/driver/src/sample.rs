@@ -9,6 +9,7 @@
 mod case;
 mod instance;
 mod relation;
+mod tickets;
 mod trace;
 
 use std::{
@@ -33,13 +34,14 @@ const TRACES: u64 = 120;
 const INSTANCES: u64 = 200;
 
 /// What the cases of an operation are.
-const OPERATIONS: [(u32, &str); 27] = [
+const OPERATIONS: [(u32, &str); 28] = [
     (1, "sums"),
     (2, "products"),
     (3, "texts"),
     (4, "words"),
     (5, "items of units"),
     (6, "items of wires"),
+    (10, "ticket texts"),
     (11, "fresh relations"),
     (12, "allocations"),
     (13, "sets"),
@@ -77,6 +79,7 @@ pub fn run(options: &Options) -> bool {
     let mut rng = Rng::new(options.seed);
     let mut writes = Rng::new(!options.seed);
     let mut more = Rng::new(options.seed ^ (1 << 63));
+    let mut tickets = Rng::new(!options.seed ^ (1 << 63));
     let mut sample = Sample::default();
     sample.names();
     sample.fixed();
@@ -84,6 +87,7 @@ pub fn run(options: &Options) -> bool {
         sample.random(&mut rng);
     }
     sample.fixed_relations();
+    sample.fixed_tickets();
     for _ in 0..options.count.unwrap_or(RELATIONS) {
         sample.random_relation(&mut rng);
     }
@@ -91,6 +95,7 @@ pub fn run(options: &Options) -> bool {
         sample.random_trace(&mut rng, &mut writes);
         sample.random_permute(&mut more);
         sample.random_scaled(&mut more);
+        sample.random_tickets(&mut tickets);
     }
     for _ in 0..options.count.unwrap_or(INSTANCES) {
         sample.random_instance(&mut rng, &mut writes, &mut more);

@@ -1,6 +1,6 @@
 //! The calls on a relation, put to the sources after the second reading has answered.
 
-use reading::{MAX_COUNT, P};
+use reading::{MAX_COUNT, P, TICKET_LINE};
 use source::Relation;
 
 use super::Run;
@@ -36,7 +36,9 @@ pub fn untyped(call: &Call, width: u32) -> Option<u32> {
             let units = are_units(&weights) && are_units(&[*image]);
             (true, are_vars(&vars), units)
         }
-        Call::Allocate(_) | Call::AllocateWith(_) | Call::SetList(..) => (true, true, true),
+        Call::Allocate(_) | Call::AllocateWith(_) | Call::SetList(..) | Call::Tickets(_) => {
+            (true, true, true)
+        }
     };
     match (lists, vars, units) {
         (false, ..) => Some(9),
@@ -74,6 +76,7 @@ pub fn compare(
         }
         Call::Set(var, value) => accepted(answer, relation.set_var(*var, *value)),
         Call::SetList(vars, values) => set_list(answer, vars, values, relation),
+        Call::Tickets(text) => tickets(answer, &text.0, relation),
         Call::Record(input, output) => {
             relation.add_permutation(input, output);
             accepted(answer, Some(()))
@@ -127,7 +130,7 @@ fn set_list(answer: &Answer, vars: &[u32], values: &[u32], relation: &dyn Relati
             return accepted(answer, done);
         }
         let number = if are_vars(&[vars[cut]]) { 4 } else { 3 };
-        let expected = (number, cut as u32);
+        let expected = (number, cut);
         let given = (answer.number, answer.accepted);
         return same("number and tally", ("given", given), ("types", expected));
     }
@@ -140,10 +143,28 @@ fn set_list(answer: &Answer, vars: &[u32], values: &[u32], relation: &dyn Relati
     let done = relation.set_vars(&typed(vars), &typed(values));
     accepted(answer, done)?;
     if done.is_some() {
-        let all = vars.len() as u32;
-        same("tally", ("given", answer.accepted), ("source", all))?;
+        same("tally", ("given", answer.accepted), ("source", vars.len()))?;
     }
     Ok(())
+}
+
+/// The sources have no tickets: each line is a set of theirs, up to the first that is none.
+fn tickets(answer: &Answer, text: &[u8], relation: &dyn Relation) -> Compared {
+    let given = ("given", (answer.number, answer.accepted));
+    let mut tally = 0;
+    for line in text.chunks(TICKET_LINE) {
+        let (var, value) = match reading::ticket(line) {
+            Err(number) => return same("number and tally", given, ("line", (number, tally))),
+            Ok(pair) => pair,
+        };
+        if relation.set_var(var, value).is_none() {
+            let refused = matches!(answer.number, 7 | 8);
+            holds("7 or 8, as the source panics", refused, answer)?;
+            return same("tally", ("given", answer.accepted), ("source", tally));
+        }
+        tally += 1;
+    }
+    same("number and tally", given, ("source", (0, tally)))
 }
 
 /// Counts and held words on both sides.

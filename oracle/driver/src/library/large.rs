@@ -9,6 +9,7 @@ use super::side;
 use crate::{
     calls::{Call, State},
     compared::{same, Compared},
+    tickets::{self, Text},
 };
 
 const LIMIT: usize = MAX_COUNT as usize;
@@ -69,6 +70,8 @@ fn slots() -> Vec<Case> {
             Call::Set(all - 1, 5),
             Call::Set(all, 0),
             Call::SetList(vec![0, all - 2], vec![0, 0]),
+            Call::Tickets(Text(tickets::line(LIMIT as u64 - 1, 24))),
+            Call::Tickets(Text(tickets::line(LIMIT as u64, 24))),
             Call::Mint(vec![0]),
             Call::Value(all - 1),
             Call::IsAllocated(all - 1),

@@ -12,5 +12,6 @@ pub mod leaves;
 pub mod relation;
 mod side;
 pub mod terms;
+pub mod tickets;
 pub mod whole;
 pub mod witness;

@@ -31,14 +31,21 @@ pub fn run(options: &Options) -> bool {
 
 /// One relation on the library's side and on the second reading's.
 #[derive(Clone)]
-struct Pair {
+pub struct Pair {
     library: State,
     reading: State,
 }
 
 impl Pair {
+    pub fn new(state: State) -> Self {
+        Self {
+            library: state.clone(),
+            reading: state,
+        }
+    }
+
     /// Runs a call on both sides.
-    fn call(&mut self, call: &Call, seen: &mut Seen, log: &Log) -> Outcome<Answer> {
+    pub fn call(&mut self, call: &Call, seen: &mut Seen, log: &Log) -> Outcome<Answer> {
         log.say(|| format!("{call:?} on {:?}", self.reading.rel));
         let library = side::run(&mut self.library, call);
         let reading = self.reading.run(call);
@@ -82,11 +89,7 @@ impl Pair {
 /// One list of calls.
 fn list(seed: u64, seen: &mut Seen, log: &Log) -> Compared {
     let mut generator = Generator::new(Rng::new(seed));
-    let state = generator.state();
-    let mut pair = Pair {
-        library: state.clone(),
-        reading: state,
-    };
+    let mut pair = Pair::new(generator.state());
     fresh_astray(&mut generator.rng, &pair, seen, log)?;
     fresh(&mut pair, generator.width, seen, log)?;
     let relation = source::relation(generator.width, "");

@@ -45,6 +45,14 @@ pub fn run(state: &mut State, call: &Call) -> Answer {
             let tally = sfr::set_vars(rel, &mut state.slots, vars, values);
             Answer {
                 number: tally.number,
+                accepted: tally.accepted as usize,
+                ..Answer::default()
+            }
+        }
+        Call::Tickets(text) => {
+            let tally = sfr::set_tickets(rel, &mut state.slots, &text.0);
+            Answer {
+                number: tally.number,
                 accepted: tally.accepted,
                 ..Answer::default()
             }

@@ -1,4 +1,4 @@
-//! Operations 11 to 20 of a sample: one call on a relation each, with all that is lent to it
+//! Operations 10 to 20 of a sample: one call on a relation each, with all that is lent to it
 //! and with what the second reading says of it.
 //!
 //! A random case starts as a call that most likely is accepted, over stores that end where
@@ -9,7 +9,7 @@
 use reading::{Relation, MAX_COUNT, P, UNASSIGNED};
 
 use super::{
-    case::{Case, FIRST, FIRST_AFTER, ONE, SECOND, SECOND_AFTER, TWO},
+    case::{Case, FIRST, FIRST_AFTER, ONE, SECOND, SECOND_AFTER, TEXT, TWO},
     Sample,
 };
 use crate::{
@@ -46,7 +46,7 @@ impl Sample {
     }
 
     /// A call, put to the second reading.
-    fn call(&mut self, mut state: State, call: &Call) {
+    pub fn call(&mut self, mut state: State, call: &Call) {
         if let Call::Equation(terms, image) = call {
             return self.equation(17, state, terms, 1, *image);
         }
@@ -55,7 +55,7 @@ impl Sample {
         let number = answer.number;
         let case = match call {
             Call::Set(..) => case.answer(&[number]),
-            Call::SetList(..) => case.answer(&[number, answer.accepted]),
+            Call::SetList(..) | Call::Tickets(_) => case.answer(&[number, answer.accepted as u32]),
             Call::Value(_) => {
                 let (some, value) = (answer.value.is_some(), answer.value.unwrap_or(0));
                 case.answer(&[number, value, u32::from(some)])
@@ -228,6 +228,7 @@ fn handed_in(state: &State, call: &Call) -> Case {
             let case = case.given(&numbers(0, 0));
             case.list(ONE, one).list(TWO, other)
         }
+        Call::Tickets(text) => case.given(&numbers(0, 0)).bytes(TEXT, &text.0),
         Call::Mint(input) => case.given(&numbers(0, 0)).list(ONE, input),
         Call::Equation(..) => unreachable!("it has a function of its own"),
         Call::AllocateWith(_) => unreachable!("it is two calls"),
@@ -245,6 +246,7 @@ const fn operation(call: &Call) -> u32 {
         Call::Allocate(_) | Call::AllocateWith(_) => 12,
         Call::Set(..) => 13,
         Call::SetList(..) => 14,
+        Call::Tickets(_) => 10,
         Call::Record(..) => 15,
         Call::Mint(_) => 16,
         Call::Equation(..) => 17,
@@ -265,7 +267,7 @@ fn stores<'a>(state: &'a State, call: &Call) -> Vec<&'a [u32]> {
 }
 
 /// A relation of width 1 with wire 0 alone, over dirty stores of one length.
-fn fresh(len: usize) -> State {
+pub fn fresh(len: usize) -> State {
     let mut state = State::sized(len, len, len);
     state.new_relation(1);
     state
@@ -287,7 +289,7 @@ fn dirty(rng: &mut Rng, len: usize) -> Vec<u32> {
 }
 
 /// Slots of some wires with room for more of them; behind these lies anything.
-fn lend_slots(rng: &mut Rng, state: &mut State, more: usize) {
+pub fn lend_slots(rng: &mut Rng, state: &mut State, more: usize) {
     let held = rng.between(1, 9);
     state.rel.vars_count = held as u32;
     state.slots = (0..held)
@@ -321,7 +323,7 @@ fn lend_equations(rng: &mut Rng, state: &mut State, terms: usize) {
 }
 
 /// A wire, allocated or not.
-fn any_var(rng: &mut Rng, vars_count: u32) -> u32 {
+pub fn any_var(rng: &mut Rng, vars_count: u32) -> u32 {
     match rng.below(8) {
         0 => MAX_COUNT - 1,
         1 => rng.word() % MAX_COUNT,
@@ -348,7 +350,8 @@ fn assignment(rng: &mut Rng, state: &State) -> (u32, u32) {
     (rng.below(state.rel.vars_count as usize) as u32, rng.unit())
 }
 
-fn set_list(rng: &mut Rng, state: &State) -> Call {
+/// Some allocated wires, with a value for each; repeats agree.
+pub fn pairs(rng: &mut Rng, state: &State) -> (Vec<u32>, Vec<u32>) {
     let (mut vars, mut values) = (Vec::new(), Vec::new());
     for _ in 0..rng.below(7) {
         let (var, value) = assignment(rng, state);
@@ -357,17 +360,21 @@ fn set_list(rng: &mut Rng, state: &State) -> Call {
         values.push(before.map_or(value, |i| values[i]));
         vars.push(var);
     }
-    Call::SetList(vars, values)
+    (vars, values)
 }
 
-/// A call that most likely is accepted, and the stores that are lent to it. Counts whose
-/// stores are not lent are every second time any words.
-fn accepted_call(rng: &mut Rng, state: &mut State) -> Call {
+/// Counts of queries and equations that are every second time any words.
+pub fn any_counts(rng: &mut Rng, state: &mut State) {
     if rng.once_in(2) {
         state.rel.queries = rng.edge();
         state.rel.equations = rng.edge();
         state.rel.words = rng.edge();
     }
+}
+
+/// A call that most likely is accepted, and the stores that are lent to it.
+fn accepted_call(rng: &mut Rng, state: &mut State) -> Call {
+    any_counts(rng, state);
     let width = state.rel.width as usize;
     match rng.below(24) {
         0..=2 => {
@@ -382,7 +389,8 @@ fn accepted_call(rng: &mut Rng, state: &mut State) -> Call {
         }
         6..=9 => {
             lend_slots(rng, state, 0);
-            set_list(rng, state)
+            let (vars, values) = pairs(rng, state);
+            Call::SetList(vars, values)
         }
         10..=12 => {
             state.rel.vars_count = rng.between(1, 40) as u32;
@@ -419,7 +427,7 @@ fn equation(rng: &mut Rng, state: &mut State) -> Call {
 }
 
 /// Something that a question may say no to, whether the call asks it or not.
-fn fault(rng: &mut Rng, state: &mut State, call: &mut Call) {
+pub fn fault(rng: &mut Rng, state: &mut State, call: &mut Call) {
     match rng.below(14) {
         0 => state.rel.width = *rng.pick(&NO_WIDTHS),
         1 | 2 => count_astray(rng, state, call),

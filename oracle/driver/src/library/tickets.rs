@@ -1,0 +1,93 @@
+//! `tickets`: the proved library's ticket texts beside the second reading: lines and all that
+//! lies one byte beside them, cuts, limits, and random texts on what lists of calls make.
+
+use super::relation::Pair;
+use crate::{
+    calls::{Call, State},
+    compared::{Compared, Difference, Log, Seen},
+    generate::Generator,
+    lists,
+    options::Options,
+    rng::Rng,
+    tickets::{line, Text, BYTES, GRAMS, VARS},
+};
+
+pub fn run(options: &Options) -> bool {
+    let mut seen = Seen::default();
+    if let Err(difference) = fixed(&mut seen) {
+        println!("tickets: a difference: {}", difference.0);
+        return false;
+    }
+    seen.print();
+    println!("tickets: {} fixed texts, no difference", seen.total);
+    let line = lists::compare(options, list);
+    line.inspect(|line| println!("{line}")).is_some()
+}
+
+/// Texts that every run has.
+fn fixed(seen: &mut Seen) -> Compared {
+    for var in VARS {
+        for grams in GRAMS {
+            text(&[line(var, grams)], seen)?;
+        }
+    }
+    for (i, &grams) in GRAMS.iter().enumerate() {
+        beside(&line(VARS[i % VARS.len()], grams), seen)?;
+    }
+    let lines = [line(1, 49), line(99, 5_000_000), line(2, 25)].concat();
+    for len in 0..=lines.len() {
+        text(&[lines[..len].to_vec()], seen)?;
+        text(&[lines[len..].to_vec()], seen)?;
+    }
+    Ok(())
+}
+
+/// A line with each byte replaced, put in or left out, and with any two bytes replaced, between
+/// two lines that are right.
+fn beside(right: &[u8], seen: &mut Seen) -> Compared {
+    let mut among = |changed: Vec<u8>| text(&[line(3, 150), changed, line(4, 200)], seen);
+    for at in 0..=right.len() {
+        let (before, after) = right.split_at(at);
+        let next = after.get(1..).unwrap_or(&[]);
+        among([before, next].concat())?;
+        for byte in 0..=255 {
+            among([before, &[byte], next].concat())?;
+            among([before, &[byte], after].concat())?;
+        }
+        for later in 0..next.len() {
+            for a in BYTES {
+                for b in BYTES {
+                    let mut changed = right.to_vec();
+                    (changed[at], changed[at + 1 + later]) = (a, b);
+                    among(changed)?;
+                }
+            }
+        }
+    }
+    Ok(())
+}
+
+/// A text on a relation of a hundred wires, of which some have values.
+fn text(lines: &[Vec<u8>], seen: &mut Seen) -> Compared {
+    let mut state = State::sized(110, 0, 0);
+    state.new_relation(1);
+    state.run(&Call::Allocate(99));
+    state.run(&Call::SetList(vec![5, 9, 10, 50], vec![0, 2, 1, 7]));
+    let call = Call::Tickets(Text(lines.concat()));
+    let compared = Pair::new(state).call(&call, seen, &Log(false));
+    let told = compared.map_err(|difference| Difference(format!("{call:?}\n{}", difference.0)));
+    told.map(drop)
+}
+
+/// Some texts on one relation.
+fn list(seed: u64, seen: &mut Seen, log: &Log) -> Compared {
+    let mut generator = Generator::new(Rng::new(seed));
+    let stores = generator.state();
+    let state = generator.relation(stores, 20);
+    let mut pair = Pair::new(state.clone());
+    for _ in 0..generator.rng.between(1, 10) {
+        let text = generator.tickets(&state);
+        pair.call(&Call::Tickets(text), seen, log)?;
+    }
+    Ok(())
+}
