@@ -431,24 +431,34 @@ fn check(items: usize, rounds: u32) -> Line {
     }
 }
 
+/// A relation of so many wires and wire 0.
+pub fn fresh(items: usize) -> sfr::Relation {
+    sfr::Relation {
+        width: WIDTH,
+        vars_count: items as u32 + 1,
+        ..sfr::Relation::default()
+    }
+}
+
+/// Its slots, of which that of wire 0 alone has a value.
+pub fn unset(items: usize) -> Vec<u32> {
+    let mut slots = vec![u32::MAX; items + 1];
+    slots[0] = 0;
+    slots
+}
+
 fn set_list(items: usize) -> Line {
     let mut rng = Rng::new(items as u64);
     let vars: Vec<u32> = (1..=items as u32).collect();
     let values: Vec<u32> = vars.iter().map(|_| rng.word() % reading::P).collect();
-    let fresh = || {
-        let mut slots = vec![u32::MAX; items + 1];
-        slots[0] = 0;
-        slots
-    };
-    let rel = sfr::Relation {
-        width: WIDTH,
-        vars_count: items as u32 + 1,
-        ..sfr::Relation::default()
-    };
-    let library = timed(fresh, |slots| {
-        let tally = sfr::set_vars(rel, slots, &vars, &values);
-        assert_eq!((tally.number, tally.accepted), (0, items as u32));
-    });
+    let rel = fresh(items);
+    let library = timed(
+        || unset(items),
+        |slots| {
+            let tally = sfr::set_vars(rel, slots, &vars, &values);
+            assert_eq!((tally.number, tally.accepted), (0, items as u32));
+        },
+    );
     let source = timed(
         || {
             let relation = source::relation(WIDTH, LABEL);

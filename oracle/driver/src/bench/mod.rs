@@ -6,6 +6,7 @@
 mod evaluate;
 mod forms;
 mod input;
+mod tickets;
 
 use std::{env, fs, hint::black_box, time::Duration};
 
@@ -178,6 +179,7 @@ pub fn run(options: &Options) -> bool {
         input::LABEL.len()
     );
     input::tables(last);
+    tickets::tables(last);
     if asked_for("evaluate") {
         evaluate::tables(last);
     }
