@@ -26,8 +26,8 @@ use crate::{
 
 use case::{Case, FIRST, FIRST_AFTER, TEXT};
 
-/// Random cases of leaves, of calls on a relation, and of each call on a trace and on an
-/// instance, where no count is given: with the fixed ones they stay below 1 MiB.
+/// Random cases of leaves, of calls on a relation, of tickets and each call on a trace, and of
+/// each call on an instance, where no count is given: with the fixed ones they stay below 1 MiB.
 const LEAVES: u64 = 2_500;
 const RELATIONS: u64 = 1_200;
 const TRACES: u64 = 120;
