@@ -1,12 +1,12 @@
 //! `large`: stores of 2^30 words and of one more, and labels of 2^32 bytes, lent to the calls
-//! on traces and instances.
+//! on traces and instances; and a ticket text of more bytes than that.
 //!
 //! Zeroed pages take no memory until somebody writes to them; a store that a call clears
-//! takes 4 GiB, one such store at a time.
+//! takes 4 GiB, one such store at a time, and the text takes as much.
 
 use reading::{Instance, Relation, Trace, MAX_COUNT};
 
-use super::{instance::to_library, large, side, witness};
+use super::{instance::to_library, large, side, tickets, witness};
 use crate::{
     compared::{same, Compared},
     options::Options,
@@ -37,13 +37,16 @@ const PARAMS: [u32; 1] = [1];
 pub fn run(_: &Options) -> bool {
     let mut cases = 0;
     let compared = large::compare()
+        .and_then(|()| tickets::long())
         .and_then(|()| read_only(&mut cases))
         .and_then(|()| cleared(&mut cases));
     if let Err(difference) = compared {
         println!("large: a difference: {}", difference.0);
         return false;
     }
-    println!("large: the calls on relations and {cases} on traces and instances, no difference");
+    println!(
+        "large: the calls on relations, a long ticket text, and {cases} on traces and instances, no difference"
+    );
     true
 }
 

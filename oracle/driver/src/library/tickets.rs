@@ -1,10 +1,12 @@
 //! `tickets`: the proved library's ticket texts beside the second reading: lines and all that
 //! lies one byte beside them, cuts, limits, and random texts on what lists of calls make.
 
-use super::relation::Pair;
+use reading::TICKET_LINE;
+
+use super::{relation::Pair, side};
 use crate::{
     calls::{Call, State},
-    compared::{Compared, Difference, Log, Seen},
+    compared::{same, Compared, Difference, Log, Seen},
     generate::Generator,
     lists,
     options::Options,
@@ -77,6 +79,22 @@ fn text(lines: &[Vec<u8>], seen: &mut Seen) -> Compared {
     let compared = Pair::new(state).call(&call, seen, &Log(false));
     let told = compared.map_err(|difference| Difference(format!("{call:?}\n{}", difference.0)));
     told.map(drop)
+}
+
+/// A text of more than 2^32 bytes, which no question minds: every line sets wire 0 to 0 again,
+/// but for the last one. That is expected without the second reading, which would take long.
+pub fn long() -> Compared {
+    let lines = (1 << 32) / TICKET_LINE + 2;
+    let mut text = line(0, 24).repeat(lines);
+    text.truncate((lines - 1) * TICKET_LINE);
+    text.extend(line(1, 150));
+    let mut state = State::sized(2, 0, 0);
+    state.new_relation(1);
+    state.run(&Call::Allocate(1));
+    let answer = side::run(&mut state, &Call::Tickets(Text(text)));
+    let given = (answer.number, answer.accepted, &state.slots[..]);
+    let expected = (0, lines, &[0, 3][..]);
+    same("a long text", ("library", given), ("expected", expected))
 }
 
 /// Some texts on one relation.
