@@ -31,6 +31,9 @@ loop-holds c = (omega arith, omega arith, from-none _, refl)
 line-end-requires : tie.Need-line-end-requires Inv-loop μ-loop
 line-end-requires c κs = search needs
 
+add-next : tie.Need-add-next Inv-loop μ-loop
+add-next c = search needs
+
 sub-set-line : tie.Need-sub-set-line Inv-loop μ-loop
 sub-set-line c = search needs
 
@@ -58,9 +61,6 @@ returns c =
     told
     (ap (λ (t : List ℕ). ran (d .set-line .result) (l .i) t) (made .slots)
     ∙ run-refused (lineNo (a .count)) linePair (l .slots) (l .i) _ _ _ _ split (l .inv .2) _ (made .number) (c .if1 .taken))
-
-add-i : tie.Need-add-i Inv-loop μ-loop
-add-i c = search needs
 
 loop-less : tie.Need-loop-less Inv-loop μ-loop
 loop-less c = search needs
@@ -98,13 +98,13 @@ set-lines-spec =
     μ-loop
     loop-holds
     line-end-requires
+    add-next
     sub-set-line
     part-set-line-start
     part-set-line-end
     set-line-requires
     same-length
     returns
-    add-i
     loop-less
     loop-again
     same-length-2

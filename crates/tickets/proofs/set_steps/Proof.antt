@@ -2,6 +2,7 @@
 -- Assumes nothing.
 use denote.Ref.{now}
 use mathlib.Core.Path.{ap, _∙_}
+use native.Mathlib.Omega.{arith}
 use Rattle.allocator.specs.Slots.{pair}
 use Rattle.allocator.specs.Assign.{assignedNo}
 use Rattle.allocator.proofs.Assign.{assigned-no}
@@ -14,7 +15,7 @@ cast-if1 : tie.Need-cast-if1
 cast-if1 c = search needs
 
 returns : tie.Need-returns
-returns c = let a = c .before .before .args in wire-refused (a .count) (now (a .slots)) (pair (a .wire) (a .steps)) (c .if1 .taken)
+returns c = let a = c .before .before .args in wire-refused (a .count) (now (a .slots)) (pair (a .wire) (a .steps)) (omega arith)
 
 cast-if2 : tie.Need-cast-if2
 cast-if2 c = search needs
@@ -22,7 +23,7 @@ cast-if2 c = search needs
 returns-2 : tie.Need-returns-2
 returns-2 c =
     let a = c .before .before .before .args in
-    steps-refused (a .count) (now (a .slots)) (pair (a .wire) (a .steps)) (c .before .if1 .left) (c .if2 .taken)
+    steps-refused (a .count) (now (a .slots)) (pair (a .wire) (a .steps)) (omega arith) (omega arith)
 
 cast-t10 : tie.Need-cast-t10
 cast-t10 c = search needs
@@ -45,7 +46,7 @@ returns-3 c =
     let a = b .before .before .before .before .before .args in
     let p = pair (a .wire) (a .steps) in
     let made = b .assign-var .ensures in
-    let r = as-pair (a .count) (now (a .slots)) p (b .before .before .before .if1 .left) (b .before .before .if2 .left) _
+    let r = as-pair (a .count) (now (a .slots)) p (omega arith) (omega arith) _
     (c .assigned-no .ensures ∙ ap assignedNo (made .answer) ∙ assigned-no (a .count) (now (a .slots)) p) in
     record { number = r .number; slots = made .slots ∙ r .slots }
 
