@@ -36,6 +36,9 @@ fn fixed(seen: &mut Seen) -> Compared {
     for (i, &grams) in GRAMS.iter().enumerate() {
         beside(&line(VARS[i % VARS.len()], grams), seen)?;
     }
+    for (var, grams) in [(7, 50), (42, 3_475), (99, 12_345_678)] {
+        beside(&line(var, grams), seen)?;
+    }
     let lines = [line(1, 49), line(99, 5_000_000), line(2, 25)].concat();
     for len in 0..=lines.len() {
         text(&[lines[..len].to_vec()], seen)?;
