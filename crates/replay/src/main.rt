@@ -4,13 +4,14 @@
 // The sample comes on standard input (the file stdin beside src/). It was written by `cargo run --release --offline --
 // sample --seed 1` in oracle/, whose README.md says how it is laid out. Its answers come from Rust's own arithmetic,
 // UTF-8 and little-endian words and, for the calls on relations, traces and instances, from the second reading of
-// document 01 that stands there; never from the proved library.
+// documents 01 and 02 that stands there; never from the proved library.
 //
 // Of the leaves it has the edges of p and of u32 added and multiplied pairwise; no byte, and one and two bytes, at the
 // ends of UTF-8's rows, with document 01's and RFC 3629's texts; a word read at and past every place of up to seven
 // bytes; and 2,500 random cases, units and wires read into a store among them. Of fresh, allocate, set, set list,
 // record, mint, equation, value and is it allocated it has document 01's examples, every count and argument at its
 // limits, and 1,200 random cases at widths 1 to 24, absurd records among them, with every number that a short store
+// can bring about. Of ticket texts it has 72 fixed ones and 120 random ones, with every number that they
 // can bring about. Of scaled terms put as an equation, evaluate and append a step, permute, write and read SFRW it has
 // 120 random cases each, and of gate, value in publics, heading, write and read SFRI and check 200 each, most at widths
 // 1 to 3, sound and led astray; the writes with every number that a record, a store or an output of these sizes can
@@ -54,7 +55,7 @@ fn call(op: u32, case: &[u32], raw: &[u8], first: &mut [u32]) -> [u32; SIZE] {
     let text = text(case, raw, sample::TEXT);
     match op {
         1..=9 => leaves::call(op, given, text, first),
-        10..=20 => relation::call(op, given, case, first),
+        10..=20 => relation::call(op, given, case, text, first),
         21..=29 => traces::call(op, given, case, text, first),
         _ => instances::call(op, given, case, text, raw, first),
     }

@@ -1,4 +1,4 @@
-// Operations 11 to 20: the calls on a relation.
+// Operations 10 to 20: the calls on a relation.
 
 use crate::answer::SIZE;
 use crate::answer::allocated;
@@ -14,12 +14,20 @@ use crate::sample::TWO;
 use crate::sample::WORDS;
 use crate::sample::lent;
 use crate::sample::list;
+use crate::sample::low;
 use crate::sample::same;
 use crate::sample::word;
 use crate::terms;
 use allocator::FieldVar;
 use baby_bear::BabyBearUnit;
 use permutation::IsAllocated;
+
+// 10: record, slots, text; the number, how many lines were accepted, the slots.
+fn set_tickets(given: &[u32], slots: &mut [u32], text: &[u8]) -> [u32; SIZE] {
+    let set = tickets::set_tickets(relation(given), slots, text);
+    let outcome = set.outcome;
+    three(number(outcome), low(set.accepted), 0)
+}
 
 // 11: width, slots; the number, the record, the slots.
 fn new_relation(given: &[u32], slots: &mut [u32]) -> [u32; SIZE] {
@@ -85,12 +93,19 @@ fn is_allocated(given: &[u32], var: u32) -> [u32; SIZE] {
 }
 
 // A call on a relation, by its operation.
-pub(crate) fn call(op: u32, given: &[u32], case: &[u32], first: &mut [u32]) -> [u32; SIZE] {
+pub(crate) fn call(
+    op: u32,
+    given: &[u32],
+    case: &[u32],
+    text: &[u8],
+    first: &mut [u32],
+) -> [u32; SIZE] {
     let x = word(given, 0);
     let y = word(given, 1);
     let one = list(case, ONE);
     let two = list(case, TWO);
     match op {
+        10 => set_tickets(given, first, text),
         11 => new_relation(given, first),
         12 => allocate_vars(given, first, x),
         13 => set_var(given, first, x, y),
