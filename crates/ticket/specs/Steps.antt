@@ -1,4 +1,5 @@
--- Grams as steps (document 02, R-1). Nothing but the proof of `grams_to_steps` looks into this. Assumes nothing.
+-- Grams as steps (document 02, R-1). Nothing looks into this but the proof of `grams_to_steps` and
+-- worked examples. Assumes nothing.
 use Prim.Native.Nat.{ℕ, _+_, _/_, _%_}
 use lib.Dec.{leb}
 use Rattle.limits.specs.Questions.{pick}

@@ -10,7 +10,7 @@ ghost use Rattle.ticket.specs.Form.{readLine};
 ghost use Rattle.ticket.specs.Steps.{gramsToSteps};
 ghost use Rattle.ticket.specs.Scan.{withDigit, withColumn, scanned};
 
-// How many bytes a line has.
+// How many bytes a line has: the wire in 0 to 9, a blank in 10, the grams in 11 to 22, a newline in 23.
 pub const LINE: usize = 24;
 
 // A blank, which pads on the left and stands between the two numbers.

@@ -21,7 +21,7 @@ returns-3 c =
     let came = c .before .if1 .came in
     c .with-digit .ensures
     ∙ sym (column-later _ _
-    (λ x y. ⊎-elim (λ w. w .1 .left y) (λ w. w .left x) came) (λ x y. ⊎-elim (λ w. w .2 .left y) (λ w. w .left x) came))
+    (λ x y. ⊎-elim (λ w. w .1 .left y) (λ w. w .left x) came) (λ x y. ⊎-elim (λ w. omega (arith, w .2 .left)) (λ w. w .left x) came))
 
 pub with-column-spec : {M : Type 1} → statement M
 with-column-spec = tie.close (tie.spec returns returns-2 with-digit-requires returns-3)
