@@ -11,7 +11,7 @@ use Rattle.limits.specs.Numbers.{unassigned}
 use Rattle.limits.specs.Questions.{ask, _▸_, pick, firstNo, onYes}
 use Rattle.limits.proofs.Questions.{stays, goes-on, ask-yes, ask-no, ▸-assoc, ▸-zero, onYes-no}
 use Rattle.allocator.specs.Slots.{Pair, slotTakes, wireAsks, pairNo}
-use Rattle.allocator.specs.Assign.{assignVar, assignVarSlots, AssignsVar, assignedNo}
+use Rattle.allocator.specs.Assign.{assignVar, AssignsVar, assignedNo}
 use Rattle.allocator.specs.declared.Assigned.the-variants.{Fresh, Repeated, Refused}
 
 -- the number of an answer is the number of the pair

@@ -12,7 +12,11 @@ use native.Mathlib.Numerals.{add-one}
 use lib.ListN.{length, drop, getD, set, length-set}
 use Rattle.limits.specs.Questions.{Question, _▸_, firstNo, onYes}
 use Rattle.limits.proofs.Questions.{onYes-no, firstNo-append}
-use Rattle.allocator.specs.Slots.{Pair, pair, pairs, SetRun, ran, afterItem, setItems, itemsAsks}
+use Rattle.limits.specs.Outcome.{outcomeOf}
+use Rattle.limits.specs.declared.Outcome.{Outcome}
+use Rattle.limits.specs.declared.Outcome.the-variants.{Accepted, Refused}
+use Rattle.limits.proofs.Answered.{outcome-refused, outcome-accepted, stays-by}
+use Rattle.allocator.specs.Slots.{Pair, pair, pairs, SetRun, ran, afterItem, setItems, itemsAsks, runAfter}
 use Rattle.allocator.specs.Assign.{howFar, Runs}
 
 -- ---- the common pairs of two lists, from place i on
@@ -43,7 +47,7 @@ abbrev pub counted : ℕ → SetRun → SetRun
 counted i r = ran (r .number) (i + r .accepted) (r .slots)
 
 -- a run as the answer and the slots
-pub told : {a run : SetRun} → a ≡ run → Runs run (howFar a) (a .slots)
+pub told : {a run : SetRun} → a ≡ run → Runs howFar run (howFar a) (a .slots)
 told e = record { answer = ap howFar e; slots = ap (λ (r : SetRun). r .slots) e }
 
 pub from-none : (r : SetRun) → counted 0 r ≡ r
@@ -121,6 +125,41 @@ module _ {A : Type 0} (noOf : List ℕ → A → ℕ) (pairOf : A → Pair) wher
           ≡ k ▸ firstNo (itemsAsks asks pairOf (set slots (pairOf a .var) (pairOf a .value)) items)
       go zero r e = e
       go (suc k) r e = refl
+
+-- ---- a run behind earlier questions
+pub after-number : (k : ℕ) (r : SetRun) (slots : List ℕ) → runAfter k r slots .number ≡ k ▸ r .number
+unfolding _▸_
+after-number zero r slots = refl
+after-number (suc k) r slots = refl
+
+pub after-length : (k : ℕ) (r : SetRun) (slots : List ℕ) → length (r .slots) ≡ length slots → length (runAfter k r slots .slots) ≡ length slots
+after-length zero r slots e = e
+after-length (suc k) r slots e = refl
+
+-- what code tells of it that found the number k of the earlier questions, and then how far the items came
+module _ {A : Type 0} (tell : Outcome → ℕ → A) (before k : ℕ) (e : k ≡ before) (slots : List ℕ) (items : SetRun) where
+  abbrev Tells : A → List ℕ → Type 0
+  Tells = Runs (λ r. tell (outcomeOf (r .number)) (r .accepted)) (runAfter before items slots)
+
+  tells : (r : SetRun) → r ≡ runAfter before items slots → (o : Outcome) → o ≡ outcomeOf (r .number) → Tells (tell o (r .accepted)) (r .slots)
+  tells r q o s = record {
+    answer = λ i. tell ((s ∙ ap (λ (t : SetRun). outcomeOf (t .number)) q) i) (q i .accepted);
+    slots = ap (λ (t : SetRun). t .slots) q;
+  }
+
+  pub stopped : (k ≡ 0 → ⊥) → Tells (tell (Refused k) 0) slots
+  stopped h = tells (ran k 0 slots) (rw (sym e) (stays-by k items (ran k 0 slots) h)) (Refused k) (outcome-refused k h)
+
+  -- j, n, slots₁: how far they came
+  module _ (z : k ≡ 0) (j n : ℕ) (slots₁ : List ℕ) (d : ran j n slots₁ ≡ items) where
+    went-on : ran j n slots₁ ≡ runAfter before items slots
+    went-on = let y : before ≡ 0 = sym e ∙ z in rw y d
+
+    pub items-refused : (j ≡ 0 → ⊥) → Tells (tell (Refused j) n) slots₁
+    items-refused h = tells (ran j n slots₁) went-on (Refused j) (outcome-refused j h)
+
+    pub items-accepted : j ≡ 0 → Tells (tell Accepted n) slots₁
+    items-accepted y = tells (ran j n slots₁) went-on Accepted (outcome-accepted j y)
 
 -- there are no more pairs than wires
 pub pairs-within : (vars values : List ℕ) → length (pairs vars values) ≤ length vars

@@ -3,7 +3,7 @@ use Prim.Native.Nat.{ℕ, _+_}
 use mathlib.Core.Path.{_≡_}
 use mathlib.Core.List.{List}
 use lib.Dec.{eqb, leb}
-use lib.ListN.{length, getD, set}
+use lib.ListN.{length, getD}
 use Rattle.limits.specs.Numbers.{unassigned}
 use Rattle.limits.specs.Questions.{pick, onYes}
 use Rattle.allocator.specs.Slots.{Pair, pairNo, grownSlots, SetRun, afterItem}
@@ -37,9 +37,9 @@ assignedNo (Refused k) = k
 abbrev pub howFar : SetRun → SetPairs
 howFar run = record { number = run .number; accepted = run .accepted }
 
--- what code does that sets items in turn: the run's answer, and the run's slots afterwards
-pub record Runs (run : SetRun) (r : SetPairs) (slots₁ : List ℕ) : Type 0 where
-  pub answer : r ≡ howFar run
+-- what code does that sets items in turn: the run's answer, told as the caller has it, and the slots afterwards
+pub record Runs {A : Type 0} (told : SetRun → A) (run : SetRun) (r : A) (slots₁ : List ℕ) : Type 0 where
+  pub answer : r ≡ told run
   pub slots : slots₁ ≡ run .slots
 
 -- n more wires where the store holds them, else the slots as they are

@@ -89,6 +89,10 @@ itemsAsks asks pairOf slots [] = []
 itemsAsks asks pairOf slots (a ∷ items) =
     asks slots a ++ itemsAsks asks pairOf (set slots (pairOf a .var) (pairOf a .value)) items
 
+-- a run behind earlier questions that came to k: nothing is tried where they say no
+abbrev pub runAfter : ℕ → SetRun → List ℕ → SetRun
+runAfter k r slots = onYes k r (ran k 0 slots)
+
 -- pairs set in turn
 abbrev pub setRun : ℕ → List ℕ → List Pair → SetRun
 setRun count = setItems (pairNo count) (λ p. p)

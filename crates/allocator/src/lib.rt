@@ -7,7 +7,7 @@
 ghost use mathlib.Core.Path.{_≡_};
 ghost use Rattle.limits.specs.Questions.{_▸_, firstNo};
 ghost use Rattle.allocator.specs.Slots.{slotsAsks, growAsks, wireAsks, pair, pairs, setRun};
-ghost use Rattle.allocator.specs.Assign.{AssignsVar, assignedNo, Runs, growSlots};
+ghost use Rattle.allocator.specs.Assign.{AssignsVar, assignedNo, howFar, Runs, growSlots};
 use baby_bear::BabyBearUnit;
 use limits::MAX_COUNT;
 use limits::P;
@@ -114,7 +114,7 @@ pub fn assigned_no(a: Assigned) -> u32
 
 // The common pairs of two lists set in turn, up to the first that is refused; earlier ones stay set.
 pub fn set_pairs(count: u32, slots: &mut [u32], vars: &[u32], values: &[u32]) -> SetPairs
-    ensures { λ r. ⌜ Runs (setRun count (now (slots .entry)) (pairs (now (vars .entry)) (now (values .entry)))) r (now (slots .exit)) ⌝ }
+    ensures { λ r. ⌜ Runs howFar (setRun count (now (slots .entry)) (pairs (now (vars .entry)) (now (values .entry)))) r (now (slots .exit)) ⌝ }
 {
     let mut i: usize = 0;
     while i < vars.len() {

@@ -12,7 +12,7 @@ use Rattle.permutation.specs.Numbers.{allocateVarsNo, setVarNo}
 use Rattle.recording.specs.Numbers.{addPermutationNo, allocatePermutationNo, addEquationNo}
 use Rattle.recording.specs.State.{Holds}
 use Rattle.permutation.specs.declared.PermutationRelation.{PermutationRelation}
-use Rattle.recording.proofs.Keeps.{new-holds, allocateVars-keeps, setVar-keeps, setVars-keeps, addPermutation-keeps, allocatePermutation-keeps, addEquation-keeps}
+use Rattle.recording.proofs.Keeps.{new-holds, with-slots, allocateVars-keeps, setVar-keeps, setVars-keeps, addPermutation-keeps, allocatePermutation-keeps, addEquation-keeps}
 use Rattle.tickets.proofs.Laws.{setTickets-holds}
 use Rattle.history.specs.Ledger.{Ledger}
 use Rattle.history.specs.Calls.{Call, Allocate, Set, SetList, Record, Mint, Equate, Tickets, State, answer, after, fresh, firstOutcome, ledger, firstLedger, noted, log, final, ledgerOf}
@@ -72,15 +72,7 @@ module _ (w : ℕ) (s : State) (l : Ledger) (i : Agrees w s l) where
       subst (Agrees w (after s (Equate terms image)))
       (on-outcome (addEquationNo rel (length (s .equations)) (termsOf terms) image) (λ m. ledger (l .count) (l .sets) (l .queries) m) _ _)
       (addEquation-keeps w _ _ _ _ _ _ _ _ i (termsOf terms) image)
-  keeps (Tickets text) = record {
-    least = i .least;
-    most = i .most;
-    widthIs = i .widthIs;
-    count = i .count;
-    inSlots = setTickets-holds rel (s .slots) text (l .sets) (i .inSlots);
-    inQueries = i .inQueries;
-    inEquations = i .inEquations;
-  }
+  keeps (Tickets text) = with-slots w _ _ _ _ _ _ _ _ i _ _ (setTickets-holds rel (s .slots) text (l .sets) (i .inSlots))
 
 -- every list of calls
 pub keeps-all : (w : ℕ) (cs : List Call) (s : State) (l : Ledger) → Agrees w s l → Agrees w (final s cs) (ledgerOf w l (log s cs))

@@ -10,8 +10,8 @@ use Rattle.words.specs.Store.{putWords}
 use Rattle.words.specs.Pieces.{wordsOf}
 use Rattle.words.proofs.Pieces.{wordsOf-suc}
 use Rattle.words.proofs.Written.{put-length}
-use Rattle.allocator.specs.Slots.{pairs, pairNo, grownSlots, SetRun, ran, setRun}
-use Rattle.allocator.proofs.Run.{run-length}
+use Rattle.allocator.specs.Slots.{pairs, pairNo, grownSlots, ran, setRun}
+use Rattle.allocator.proofs.Run.{run-length, after-length}
 use Rattle.expr.specs.Equation.{equation, equationWords}
 use Rattle.expr.specs.Weighted.{termsOf}
 use Rattle.expr.proofs.Held.{length-equation}
@@ -34,12 +34,6 @@ use Rattle.history.specs.Demand.{lengthsOf}
 kept : (k : ℕ) (new old : List ℕ) → (k ≡ 0 → length new ≡ length old) → length (onYes k new old) ≡ length old
 kept zero new old f = f refl
 kept (suc k) new old f = refl
-
--- of a run that an earlier number may have stopped
-list-length : (k a : ℕ) (r : SetRun) (slots : List ℕ) → length (r .slots) ≡ length slots
-    → length (onYes {A = SetRun} k (ran a (r .accepted) (r .slots)) (ran k 0 slots) .slots) ≡ length slots
-list-length zero a r slots e = e
-list-length (suc k) a r slots e = refl
 
 query-length : (rel : PermutationRelation) (cells queries : List ℕ) → length cells ≡ rel .width + rel .width
     → wordsOf (rel .width) (rel .queries + 1) ≤ length queries → length (queriesWith rel cells queries) ≡ length queries
@@ -67,7 +61,7 @@ module _ (s : State) where
   lengths-kept (SetList vars values) =
       let r = setRun (rel .vars) (s .slots) (pairs vars values) in
       lengths (after s (SetList vars values))
-      (list-length (setVarsNo rel (length (s .slots)) vars values) (r .number ▸ ask 9 (eqb (length vars) (length values))) r (s .slots)
+      (after-length (setVarsNo rel (length (s .slots)) vars values) (ran (r .number ▸ ask 9 (eqb (length vars) (length values))) (r .accepted) (r .slots)) (s .slots)
       (run-length (pairNo (rel .vars)) (λ p. p) (pairs vars values) (s .slots))) refl refl
   lengths-kept (Record input output) =
       lengths (after s (Record input output)) refl
@@ -91,9 +85,8 @@ module _ (s : State) where
       let y = addEquation-yes rel (length (s .equations)) (termsOf terms) image z in
       put-length (rel .words) (equationWords e) (s .equations) (rw (length-equation e) (y .room))))
   lengths-kept (Tickets text) =
-      let r = setLines (rel .vars) (s .slots) text in
       lengths (after s (Tickets text))
-      (list-length (firstNo (relationAsks rel (length (s .slots)))) (r .number) r (s .slots)
+      (after-length (firstNo (relationAsks rel (length (s .slots)))) (setLines (rel .vars) (s .slots) text) (s .slots)
       (run-length (lineNo (rel .vars)) linePair (linesOf text) (s .slots))) refl refl
 
 -- nor does a list of calls

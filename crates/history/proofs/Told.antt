@@ -6,10 +6,10 @@ use mathlib.Core.Bool.{true}
 use mathlib.Core.List.{List, [], _∷_, _++_}
 use lib.Dec.{eqb}
 use lib.ListN.{length}
-use Rattle.limits.specs.Questions.{ask, _▸_, question, firstNo, onYes}
+use Rattle.limits.specs.Questions.{ask, _▸_, question, firstNo}
 use Rattle.limits.proofs.Questions.{▸-zero, firstNo-append}
-use Rattle.allocator.specs.Slots.{pairs, pairAsks, pairNo, ran, SetRun, setRun, itemsAsks}
-use Rattle.allocator.proofs.Run.{run-number}
+use Rattle.allocator.specs.Slots.{pairs, pairAsks, pairNo, ran, setRun, itemsAsks}
+use Rattle.allocator.proofs.Run.{run-number, after-number}
 use Rattle.expr.specs.Weighted.{termsOf}
 use Rattle.limits.specs.declared.Outcome.the-variants as outcome
 use Rattle.permutation.specs.declared.PermutationRelation.{PermutationRelation}
@@ -42,13 +42,6 @@ first-no : (f : First) → Accepted (firstOutcome f) → firstNumber f ≡ 0
 first-no (first.Var x) a = refl
 first-no (first.Refused k) a = cc
 
--- ---- a set list's number
-list-number : (k m : ℕ) (r : SetRun) (slots : List ℕ)
-    → onYes {A = SetRun} k (ran (r .number ▸ m) (r .accepted) (r .slots)) (ran k 0 slots) .number ≡ k ▸ (r .number ▸ m)
-unfolding _▸_
-list-number zero m r slots = refl
-list-number (suc k) m r slots = refl
-
 -- each call answers by the first no of its questions
 by-questions : (s : State) (c : Call) → answer s c .outcome ≡ outcomeOf (firstNo (asks s c))
 unfolding answer asks allocateVarsNo setVarNo pairNo setVarsNo setVarsRun addPermutationNo allocatePermutationNo addEquationNo
@@ -59,8 +52,9 @@ by-questions s (SetList vars values) =
     let before = setVarsAsks (s .relation) (length (s .slots)) vars values in
     let these = itemsAsks (pairAsks n) (λ p. p) (s .slots) (pairs vars values) in
     let nine = question 9 (eqb (length vars) (length values)) ∷ [] in
+    let r = setRun n (s .slots) (pairs vars values) in
     ap outcomeOf
-    (list-number (firstNo before) (ask 9 (eqb (length vars) (length values))) (setRun n (s .slots) (pairs vars values)) (s .slots)
+    (after-number (firstNo before) (ran (r .number ▸ ask 9 (eqb (length vars) (length values))) (r .accepted) (r .slots)) (s .slots)
     ∙ ap (λ (k : ℕ). firstNo before ▸ k)
     (ap₂ _▸_ (run-number (pairNo n) (λ p. p) (pairAsks n) (λ t p. refl) (s .slots) (pairs vars values)) (sym (▸-zero _)) ∙ sym (firstNo-append these nine))
     ∙ sym (firstNo-append before (these ++ nine)))

@@ -65,11 +65,6 @@ pub pairs-left : (n : ℕ) (ps : List Pair) (slots : List ℕ) (sets : List Pair
     → setRun n slots ps .number ≡ pairsLeft n sets ps
 pairs-left n = run-left (pairNo n) (λ sets p. firstNo (setVarLeft n sets p)) (λ p. p) n (λ slots p z. z) (λ slots sets o p. pair-left n slots sets o p)
 
--- a run that 1 or 2 may have stopped
-pub by-number : (k : ℕ) (r : SetRun) (slots : List ℕ) → onYes k r (ran k 0 slots) .number ≡ k ▸ r .number
-by-number zero r slots = sym (zero-▸ _)
-by-number (suc k) r slots = sym (stays (suc k) _ (λ z. absurd (omega arith)))
-
 -- ---- a slot's value is what the sets give its wire
 module _ (n : ℕ) (slots : List ℕ) (sets : List Pair) (o : HoldsSlots n slots sets) where
   pub slot-given : (x : ℕ) → pick (ltb x n) (slotValue (getD slots x unassigned)) varValue.Nothing ≡ given (look sets x)

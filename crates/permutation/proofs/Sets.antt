@@ -8,14 +8,16 @@ use lib.ListN.{length, set}
 use Rattle.limits.specs.Questions.{ask, _▸_, firstNo, onYes}
 use Rattle.limits.proofs.Questions.{stays, goes-on, firstNo-append}
 use Rattle.allocator.specs.Slots.{Pair, pairAsks, pairNo, pairs, SetRun, ran, setRun}
-use Rattle.allocator.specs.Assign.{assignVarSlots, howFar}
+use Rattle.allocator.specs.Assign.{assignVarSlots, howFar, Runs}
 use Rattle.allocator.specs.declared.SetPairs.{SetPairs}
+use Rattle.allocator.proofs.Run.{stopped, items-refused, items-accepted}
 use Rattle.permutation.specs.Relation.{relationAsks}
 use Rattle.permutation.specs.Numbers.{setVarNo, setVarsNo}
 use Rattle.limits.specs.Outcome.{outcomeOf, asIs}
 use Rattle.permutation.specs.Answers.{setVarSlots, setVarsRun}
 use Rattle.permutation.specs.Contracts.{SetsVar, SetsVars}
 use Rattle.permutation.specs.declared.PermutationRelation.{PermutationRelation}
+use Rattle.permutation.specs.declared.SetVars.{SetVars}
 use Rattle.limits.specs.declared.Outcome.{Outcome}
 use Rattle.limits.specs.declared.Outcome.the-variants.{Accepted, Refused}
 use Rattle.limits.proofs.Answered.{outcome-refused, outcome-accepted, stays-by}
@@ -49,30 +51,30 @@ module _ (rel : PermutationRelation) (slots : List ℕ) (p : Pair) (k : ℕ) (e 
 
 -- ---- a set list; k: what 1 and 2 answer
 module _ (rel : PermutationRelation) (slots vars values : List ℕ) (k : ℕ) (e : k ≡ setVarsNo rel (length slots) vars values) where
-  -- a run as the answer and the slots
-  told : (r : SetRun) → setVarsRun rel slots vars values ≡ r → (o : Outcome) → o ≡ outcomeOf (r .number)
-      → SetsVars asIs rel slots vars values (record { outcome = o; accepted = r .accepted }) (r .slots)
-  told r q o s = record {
-    answer = λ i. record { outcome = (s ∙ ap (λ (t : SetRun). outcomeOf (t .number)) (sym q)) i; accepted = sym q i .accepted };
-    slots = ap (λ (t : SetRun). t .slots) (sym q);
-  }
+  abbrev tell : Outcome → ℕ → SetVars
+  tell o n = record { outcome = o; accepted = n }
 
-  pub list-refused : (k ≡ 0 → ⊥) → SetsVars asIs rel slots vars values (record { outcome = Refused k; accepted = 0 }) slots
+  -- the pairs, and then 9
+  abbrev both : SetRun
+  both =
+      let r = setRun (rel .vars) slots (pairs vars values) in
+      ran (r .number ▸ ask 9 (eqb (length vars) (length values))) (r .accepted) (r .slots)
+
+  pub list-refused : (k ≡ 0 → ⊥) → SetsVars asIs rel slots vars values (tell (Refused k) 0) slots
   unfolding setVarsRun
-  list-refused h = told (ran k 0 slots) (rw (sym e) (sym (stays-by k _ (ran k 0 slots) h))) (Refused k) (outcome-refused k h)
+  list-refused h = stopped tell (setVarsNo rel (length slots) vars values) k e slots both h
 
-  -- q: what the allocator answers for the pairs; j: what they and 9 answer
-  module _ (z : k ≡ 0) (q : SetPairs) (d : q ≡ howFar (setRun (rel .vars) slots (pairs vars values))) (j : ℕ)
-      (a : j ≡ q .number ▸ ask 9 (eqb (length vars) (length values))) where
-    abbrev r : SetRun
-    r = setRun (rel .vars) slots (pairs vars values)
+  -- q, slots₁: what the allocator answers and leaves for the pairs; j: what they and 9 answer
+  module _ (z : k ≡ 0) (q : SetPairs) (slots₁ : List ℕ) (d : Runs howFar (setRun (rel .vars) slots (pairs vars values)) q slots₁)
+      (j : ℕ) (a : j ≡ q .number ▸ ask 9 (eqb (length vars) (length values))) where
+    both-is : ran j (q .accepted) slots₁ ≡ both
+    both-is =
+        λ i. ran ((a ∙ ap (λ (p : SetPairs). p .number ▸ ask 9 (eqb (length vars) (length values))) (d .answer)) i) (d .answer i .accepted) (d .slots i)
 
-    run-is : setVarsRun rel slots vars values ≡ ran j (q .accepted) (r .slots)
+    pub pairs-refused : (j ≡ 0 → ⊥) → SetsVars asIs rel slots vars values (tell (Refused j) (q .accepted)) slots₁
     unfolding setVarsRun
-    run-is = let y : setVarsNo rel (length slots) vars values ≡ 0 = sym e ∙ z in rw (y, a, d)
+    pairs-refused h = items-refused tell (setVarsNo rel (length slots) vars values) k e slots both z j (q .accepted) slots₁ both-is h
 
-    pub pairs-refused : (j ≡ 0 → ⊥) → SetsVars asIs rel slots vars values (record { outcome = Refused j; accepted = q .accepted }) (r .slots)
-    pairs-refused h = told (ran j (q .accepted) (r .slots)) run-is (Refused j) (outcome-refused j h)
-
-    pub pairs-accepted : j ≡ 0 → SetsVars asIs rel slots vars values (record { outcome = Accepted; accepted = q .accepted }) (r .slots)
-    pairs-accepted y = told (ran j (q .accepted) (r .slots)) run-is Accepted (outcome-accepted j y)
+    pub pairs-accepted : j ≡ 0 → SetsVars asIs rel slots vars values (tell Accepted (q .accepted)) slots₁
+    unfolding setVarsRun
+    pairs-accepted y = items-accepted tell (setVarsNo rel (length slots) vars values) k e slots both z j (q .accepted) slots₁ both-is y

@@ -14,7 +14,7 @@ use lib.Seq.{getD-set-same, getD-set-other, getD-take, length-take-le, take-set-
 use Rattle.limits.specs.Numbers.{prime, unassigned, maxCount}
 use Rattle.limits.specs.Questions.{pick, onYes}
 use Rattle.words.proofs.Lists.{all-map}
-use Rattle.allocator.specs.Slots.{Pair, pair, pairNo, SetRun, setItems, grownSlots}
+use Rattle.allocator.specs.Slots.{Pair, pair, pairNo, SetRun, ran, setItems, runAfter, grownSlots}
 use Rattle.allocator.specs.Values.{look, joins, fits, slotUnit}
 use Rattle.allocator.proofs.Accepted.{SetPair, pair-yes}
 use Rattle.allocator.proofs.Values.{put-same, put-grows, put-units, slot-some, slot-fits}
@@ -108,10 +108,15 @@ module _ {A : Type 0} (pairOf : A → Pair) (n : ℕ) where
   abbrev pub RunHolds : List Pair → List A → SetRun → Type 0
   RunHolds sets items r = HoldsSlots n (r .slots) (joins sets (map pairOf (take (r .accepted) items)))
 
-  pub run-by : (sets : List Pair) (items : List A) (k : ℕ) (r q : SetRun) → (k ≡ 0 → RunHolds sets items r) → RunHolds sets items q
+  run-by : (sets : List Pair) (items : List A) (k : ℕ) (r q : SetRun) → (k ≡ 0 → RunHolds sets items r) → RunHolds sets items q
       → RunHolds sets items (onYes k r q)
   run-by sets items zero r q f o = f refl
   run-by sets items (suc k) r q f o = o
+
+  -- nor does a run behind earlier questions that say no alter anything
+  pub after-holds : (sets : List Pair) (items : List A) (k : ℕ) (r : SetRun) (slots : List ℕ) → RunHolds sets items r
+      → HoldsSlots n slots sets → RunHolds sets items (runAfter k r slots)
+  after-holds sets items k r slots f o = run-by sets items k r (ran k 0 slots) (λ z. f) o
 
   -- where an item is only accepted if its pair is
   pub run-holds : (noOf : List ℕ → A → ℕ) → ((slots : List ℕ) (a : A) → noOf slots a ≡ 0 → pairNo n slots (pairOf a) ≡ 0)

@@ -7,7 +7,7 @@ use lib.ListN.{length, getD, set}
 use Rattle.limits.specs.Numbers.{unassigned}
 use Rattle.limits.specs.Questions.{pick, ask, _▸_, onYes}
 use Rattle.limits.specs.Outcome.{outcomeOf}
-use Rattle.allocator.specs.Slots.{Pair, pairs, grownSlots, SetRun, ran, setRun}
+use Rattle.allocator.specs.Slots.{Pair, pairs, grownSlots, SetRun, ran, runAfter, setRun}
 use Rattle.permutation.specs.Numbers.{newRelationNo, allocateVarsNo, setVarNo, setVarsNo, valueOfNo, isAllocatedNo}
 use Rattle.permutation.specs.declared.PermutationRelation.{PermutationRelation}
 use Rattle.limits.specs.declared.Outcome.{Outcome}
@@ -94,17 +94,16 @@ setVarSlots rel slots p = onYes (setVarNo rel slots p) (set slots (p .var) (p .v
 unfoldable pub setVarsRun : PermutationRelation → List ℕ → List ℕ → List ℕ → SetRun
 setVarsRun rel slots vars values =
     let r = setRun (rel .vars) slots (pairs vars values) in
-    onYes (setVarsNo rel (length slots) vars values)
-    (ran (r .number ▸ ask 9 (eqb (length vars) (length values))) (r .accepted) (r .slots))
-    (ran (setVarsNo rel (length slots) vars values) 0 slots)
+    runAfter (setVarsNo rel (length slots) vars values)
+    (ran (r .number ▸ ask 9 (eqb (length vars) (length values))) (r .accepted) (r .slots)) slots
 
--- the answer: the number and the tally of that run
+-- a run's answer: the outcome of its number, and its tally
+abbrev pub setVarsOf : SetRun → SetVars
+setVarsOf run = record { outcome = outcomeOf (run .number); accepted = run .accepted }
+
+-- the answer
 abbrev pub setVars : PermutationRelation → List ℕ → List ℕ → List ℕ → SetVars
-setVars rel slots vars values =
-    record {
-      outcome = outcomeOf (setVarsRun rel slots vars values .number);
-      accepted = setVarsRun rel slots vars values .accepted;
-    }
+setVars rel slots vars values = setVarsOf (setVarsRun rel slots vars values)
 
 -- the slots afterwards: those of that run
 abbrev pub setVarsSlots : PermutationRelation → List ℕ → List ℕ → List ℕ → List ℕ

@@ -5,7 +5,8 @@ use Prim.Native.Nat.{ℕ}
 use mathlib.Core.Path.{_≡_}
 use mathlib.Core.List.{List}
 use Rattle.allocator.specs.Slots.{Pair}
-use Rattle.permutation.specs.Answers.{newRelation, newSlots, allocateVars, allocateVarsSlots, setVar, setVarSlots, setVars, setVarsSlots}
+use Rattle.allocator.specs.Assign.{Runs}
+use Rattle.permutation.specs.Answers.{newRelation, newSlots, allocateVars, allocateVarsSlots, setVar, setVarSlots, setVarsRun, setVarsOf}
 use Rattle.permutation.specs.declared.PermutationRelation.{PermutationRelation}
 use Rattle.limits.specs.declared.Outcome.{Outcome}
 use Rattle.permutation.specs.declared.Recorded.{Recorded}
@@ -29,8 +30,6 @@ pub record SetsVar {A : Type 0} (told : Outcome → A) (rel : PermutationRelatio
   pub answer : r ≡ told (setVar rel slots₀ p)
   pub slots : slots₁ ≡ setVarSlots rel slots₀ p
 
--- set list
-pub record SetsVars {A : Type 0} (told : SetVars → A) (rel : PermutationRelation) (slots₀ vars values : List ℕ)
-    (r : A) (slots₁ : List ℕ) : Type 0 where
-  pub answer : r ≡ told (setVars rel slots₀ vars values)
-  pub slots : slots₁ ≡ setVarsSlots rel slots₀ vars values
+-- set list: `Runs` has the parts
+abbrev pub SetsVars : {A : Type 0} → (SetVars → A) → PermutationRelation → (slots₀ vars values : List ℕ) → A → (slots₁ : List ℕ) → Type 0
+SetsVars told rel slots₀ vars values = Runs (λ run. told (setVarsOf run)) (setVarsRun rel slots₀ vars values)

@@ -30,7 +30,7 @@ use Rattle.permutation.specs.declared.First.the-variants.{Var}
 use Rattle.permutation.proofs.Accepted.{New, new-yes, allocateVars-yes, setVar-yes}
 use Rattle.recording.proofs.Accepted.{addPermutation-yes, allocatePermutation-yes, addEquation-yes}
 use Rattle.recording.proofs.Minted.{upFrom-length}
-use Rattle.permutation.proofs.Slots.{fresh-holds, grown-holds, set-holds, run-by, run-holds}
+use Rattle.permutation.proofs.Slots.{fresh-holds, grown-holds, set-holds, after-holds, run-holds}
 use Rattle.recording.proofs.Stores.{upFrom-below, query-below, query-holds, equation-holds}
 
 none-below : allBelow maxCount [] ≡ true
@@ -102,20 +102,25 @@ module _ (width : ℕ) (rel : PermutationRelation) (slots queries equations : Li
   pub allocateVars-first : (a : ℕ) → firstNumber (allocateVars rel slots a .first) ≡ 0 → allocateVars rel slots a .first ≡ Var n
   allocateVars-first a = first-is (allocateVarsNo rel (length slots) a)
 
+  -- only the slots and the sets change
+  pub with-slots : (slots₁ : List ℕ) (sets₁ : List Pair) → HoldsSlots (rel .vars) slots₁ sets₁
+      → Holds width rel slots₁ queries equations n sets₁ asked stated
+  with-slots slots₁ sets₁ h = record {
+    least = o .least;
+    most = o .most;
+    widthIs = o .widthIs;
+    count = o .count;
+    inSlots = h;
+    inQueries = o .inQueries;
+    inEquations = o .inEquations;
+  }
+
   -- ---- set
   pub setVar-keeps : (p : Pair)
       → Holds width rel (setVarSlots rel slots p) queries equations n (onYes (outcomeNumber (setVar rel slots p)) (p ∷ sets) sets) asked stated
   setVar-keeps p =
       go (setVarNo rel slots p)
-      (λ z. record {
-        least = o .least;
-        most = o .most;
-        widthIs = o .widthIs;
-        count = o .count;
-        inSlots = set-holds (rel .vars) slots p (setVar-yes rel slots p z) sets (o .inSlots);
-        inQueries = o .inQueries;
-        inEquations = o .inEquations;
-      })
+      (λ z. with-slots (set slots (p .var) (p .value)) (p ∷ sets) (set-holds (rel .vars) slots p (setVar-yes rel slots p z) sets (o .inSlots)))
     where
       go : (k : ℕ) → (k ≡ 0 → Holds width rel (set slots (p .var) (p .value)) queries equations n (p ∷ sets) asked stated)
           → Holds width rel (onYes k (set slots (p .var) (p .value)) slots) queries equations n
@@ -128,19 +133,12 @@ module _ (width : ℕ) (rel : PermutationRelation) (slots queries equations : Li
       → Holds width rel (setVarsSlots rel slots vars values) queries equations n
       (joins sets (take (setVars rel slots vars values .accepted) (pairs vars values))) asked stated
   unfolding setVarsRun
-  setVars-keeps vars values = record {
-    least = o .least;
-    most = o .most;
-    widthIs = o .widthIs;
-    count = o .count;
-    inSlots =
-        subst (λ (ps : List Pair). HoldsSlots (rel .vars) (setVarsSlots rel slots vars values) (joins sets ps))
-        (map-id (take (setVars rel slots vars values .accepted) (pairs vars values)))
-        (run-by (λ p. p) (rel .vars) sets (pairs vars values) (setVarsNo rel (length slots) vars values) _ _
-        (λ z. run-holds (λ p. p) (rel .vars) (pairNo (rel .vars)) (λ s p q. q) (pairs vars values) slots sets (o .inSlots)) (o .inSlots));
-    inQueries = o .inQueries;
-    inEquations = o .inEquations;
-  }
+  setVars-keeps vars values =
+      with-slots (setVarsSlots rel slots vars values) (joins sets (take (setVars rel slots vars values .accepted) (pairs vars values)))
+      (subst (λ (ps : List Pair). HoldsSlots (rel .vars) (setVarsSlots rel slots vars values) (joins sets ps))
+      (map-id (take (setVars rel slots vars values .accepted) (pairs vars values)))
+      (after-holds (λ p. p) (rel .vars) sets (pairs vars values) (setVarsNo rel (length slots) vars values) _ slots
+      (run-holds (λ p. p) (rel .vars) (pairNo (rel .vars)) (λ s p q. q) (pairs vars values) slots sets (o .inSlots)) (o .inSlots)))
 
   -- ---- record
   pub addPermutation-keeps : (input output : List ℕ)

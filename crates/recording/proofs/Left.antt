@@ -30,7 +30,8 @@ use Rattle.permutation.specs.declared.PermutationRelation.{PermutationRelation}
 use Rattle.allocator.specs.declared.VarValue.{VarValue}
 use Rattle.allocator.specs.declared.VarValue.the-variants as varValue
 use Rattle.permutation.specs.declared.IsAllocated.the-variants as allocated
-use Rattle.permutation.proofs.Left.{by-number, pair-left, pairs-left, slot-given}
+use Rattle.allocator.proofs.Run.{after-number}
+use Rattle.permutation.proofs.Left.{pair-left, pairs-left, slot-given}
 
 -- ---- what is settled: 1, the counts, the slots
 module _ (width : ℕ) (rel : PermutationRelation) (slots queries equations : List ℕ)
@@ -79,7 +80,7 @@ module _ (width : ℕ) (rel : PermutationRelation) (slots queries equations : Li
   pub setVars-left : (vars values : List ℕ) → setVarsRun rel slots vars values .number ≡ setVarsLeft n sets vars values
   unfolding setVarsRun
   setVars-left vars values =
-      by-number (setVarsNo rel (length slots) vars values) _ slots
+      after-number (setVarsNo rel (length slots) vars values) _ slots
       ∙ ap₂ (λ (k m : ℕ). k ▸ (m ▸ ask 9 (eqb (length vars) (length values))))
       (before-pairs vars values)
       (pairs-left (rel .vars) (pairs vars values) slots sets (o .inSlots) ∙ ap (λ (k : ℕ). pairsLeft k sets (pairs vars values)) (o .count))

@@ -1,7 +1,7 @@
 -- The questions of the calls that record, in document 01's order, over the record and the lists that the lent stores
 -- hold. Assumes nothing.
 use Prim.Native.Nat.{ℕ, _+_}
-use mathlib.Core.List.{List, [], _∷_, _++_}
+use mathlib.Core.List.{List, [], _∷_}
 use lib.Dec.{ltb, leb}
 use lib.ListN.{length}
 use Rattle.limits.specs.Numbers.{prime, maxCount}

@@ -1,6 +1,5 @@
 -- The answers of calls on a relation as structs for C: document 01's number, and the values of each case.
 -- Assumes nothing.
-use Prim.Native.Nat.{ℕ}
 use mathlib.Core.Bool.{true, false}
 use Rattle.limits.specs.Outcome.{outcomeNumber}
 use Rattle.permutation.specs.Answers.{firstNumber, firstVar}

@@ -3,16 +3,15 @@ use Prim.Native.Nat.{ℕ, _≤_, _<_}
 use mathlib.Core.Path.{_≡_, sym, ap, ap₂, _∙_}
 use mathlib.Core.List.{List}
 use borrow.Author.Tests.{lt-ltb, le-ltb}
-use lib.Dec.{ltb}
 use lib.ListN.{set}
 use Rattle.limits.specs.Numbers.{prime, maxCount}
-use Rattle.limits.specs.Questions.{ask, _▸_, firstNo, onYes}
-use Rattle.allocator.specs.Slots.{Pair, slotTakes, pairNo}
+use Rattle.limits.specs.Questions.{ask, _▸_, onYes}
+use Rattle.allocator.specs.Slots.{Pair, pairNo}
 use Rattle.allocator.specs.Assign.{assignVarSlots}
 use Rattle.ticket.specs.Form.{readLine}
 use Rattle.ticket.specs.declared.Ticket.{Ticket}
 use Rattle.ticket.specs.declared.Line.the-variants as line
-use Rattle.tickets.specs.Lines.{ticketPair, linePair, ticketAsks, ticketNo, lineNo, SetsItem}
+use Rattle.tickets.specs.Lines.{ticketPair, linePair, ticketNo, lineNo, SetsItem}
 
 -- ---- a wire and steps
 module _ (count : ℕ) (slots : List ℕ) (p : Pair) where

@@ -1,6 +1,6 @@
 -- What the lines of a text come to on the slots: their number is the first no of their questions, as many join the sets
 -- as were accepted, and where the slots hold the sets of a book, count and sets settle what is asked. Assumes nothing.
-use Prim.Native.Nat.{ℕ, zero, suc}
+use Prim.Native.Nat.{ℕ}
 use mathlib.Core.Path.{_≡_, refl, ap, _∙_, sym}
 use mathlib.Core.Bool.{Bool, true, false}
 use mathlib.Core.List.{List, map}
@@ -9,17 +9,17 @@ use borrow.Author.Tests.{ltb-true}
 use lib.Dec.{ltb}
 use lib.ListN.{length, take}
 use Rattle.limits.specs.Numbers.{prime, maxCount}
-use Rattle.limits.specs.Questions.{ask, _▸_, firstNo, onYes}
+use Rattle.limits.specs.Questions.{ask, _▸_, firstNo}
 use Rattle.limits.proofs.Questions.{firstNo-append}
 use Rattle.allocator.specs.Slots.{Pair, slotTakes, pairNo}
 use Rattle.allocator.specs.Values.{joins}
-use Rattle.allocator.proofs.Run.{run-number}
+use Rattle.allocator.proofs.Run.{run-number, after-number}
 use Rattle.permutation.specs.Relation.{relationAsks}
 use Rattle.permutation.specs.State.{HoldsSlots}
 use Rattle.permutation.specs.Left.{setsTake}
 use Rattle.permutation.specs.declared.PermutationRelation.{PermutationRelation}
-use Rattle.permutation.proofs.Slots.{run-by, run-holds}
-use Rattle.permutation.proofs.Left.{by-number, after-seven, takes-is, run-left}
+use Rattle.permutation.proofs.Slots.{after-holds, run-holds}
+use Rattle.permutation.proofs.Left.{after-seven, takes-is, run-left}
 use Rattle.ticket.specs.Form.{readLine}
 use Rattle.tickets.specs.Lines.{linesOf, isTicket, linePair, lineAsks, lineNo, linesAsks, setLines}
 use Rattle.tickets.specs.Tickets.{setTicketsAsks, setTicketsRun, setTickets, setTicketsSlots}
@@ -64,7 +64,7 @@ module _ (rel : PermutationRelation) (slots text : List ℕ) where
   pub setTickets-number : setTicketsRun rel slots text .number ≡ firstNo (setTicketsAsks rel slots text)
   unfolding setTicketsRun
   setTickets-number =
-      by-number (firstNo (relationAsks rel (length slots))) (setLines (rel .vars) slots text) slots
+      after-number (firstNo (relationAsks rel (length slots))) (setLines (rel .vars) slots text) slots
       ∙ ap (λ (k : ℕ). firstNo (relationAsks rel (length slots)) ▸ k) (lines-number (rel .vars) slots text)
       ∙ sym (firstNo-append (relationAsks rel (length slots)) (linesAsks (rel .vars) slots text))
 
@@ -72,5 +72,5 @@ module _ (rel : PermutationRelation) (slots text : List ℕ) where
       → HoldsSlots (rel .vars) (setTicketsSlots rel slots text) (joins sets (map linePair (take (setTickets rel slots text .accepted) (linesOf text))))
   unfolding setTicketsRun
   setTickets-holds sets o =
-      run-by linePair (rel .vars) sets (linesOf text) (firstNo (relationAsks rel (length slots))) _ _
-      (λ z. run-holds linePair (rel .vars) (lineNo (rel .vars)) (line-pair (rel .vars)) (linesOf text) slots sets o) o
+      after-holds linePair (rel .vars) sets (linesOf text) (firstNo (relationAsks rel (length slots))) _ slots
+      (run-holds linePair (rel .vars) (lineNo (rel .vars)) (line-pair (rel .vars)) (linesOf text) slots sets o) o

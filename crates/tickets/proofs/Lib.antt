@@ -1,5 +1,4 @@
 pub mod Lines
 pub mod Items
-pub mod Called
 pub mod Laws
 pub mod Examples

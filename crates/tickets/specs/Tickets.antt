@@ -1,11 +1,11 @@
 -- The ticket call on a relation: its questions, what it answers, and what it leaves of the slots. Assumes nothing.
 use Prim.Native.Nat.{ℕ}
-use mathlib.Core.Path.{_≡_}
 use mathlib.Core.List.{List, _++_}
 use lib.ListN.{length}
-use Rattle.limits.specs.Questions.{Question, firstNo, onYes}
+use Rattle.limits.specs.Questions.{Question, firstNo}
 use Rattle.limits.specs.Outcome.{outcomeOf}
-use Rattle.allocator.specs.Slots.{SetRun, ran}
+use Rattle.allocator.specs.Slots.{SetRun, runAfter}
+use Rattle.allocator.specs.Assign.{Runs}
 use Rattle.permutation.specs.Relation.{relationAsks}
 use Rattle.permutation.specs.declared.PermutationRelation.{PermutationRelation}
 use Rattle.tickets.specs.Lines.{linesAsks, setLines}
@@ -17,25 +17,20 @@ setTicketsAsks rel slots text = relationAsks rel (length slots) ++ linesAsks (re
 
 -- the number, how many lines were accepted, and the slots: nothing is tried where 1 or 2 says no
 unfoldable pub setTicketsRun : PermutationRelation → List ℕ → List ℕ → SetRun
-setTicketsRun rel slots text =
-    onYes (firstNo (relationAsks rel (length slots)))
-    (setLines (rel .vars) slots text)
-    (ran (firstNo (relationAsks rel (length slots))) 0 slots)
+setTicketsRun rel slots text = runAfter (firstNo (relationAsks rel (length slots))) (setLines (rel .vars) slots text) slots
 
--- the answer: the number and the tally of that run
+-- a run's answer: the outcome of its number, and its tally
+abbrev pub setTicketsOf : SetRun → SetTickets
+setTicketsOf run = record { outcome = outcomeOf (run .number); accepted = run .accepted }
+
+-- the answer
 abbrev pub setTickets : PermutationRelation → List ℕ → List ℕ → SetTickets
-setTickets rel slots text =
-    record {
-      outcome = outcomeOf (setTicketsRun rel slots text .number);
-      accepted = setTicketsRun rel slots text .accepted;
-    }
+setTickets rel slots text = setTicketsOf (setTicketsRun rel slots text)
 
 -- the slots afterwards: those of that run
 abbrev pub setTicketsSlots : PermutationRelation → List ℕ → List ℕ → List ℕ
 setTicketsSlots rel slots text = setTicketsRun rel slots text .slots
 
--- what the call does: the answer, told as the caller has it, and the slots before (₀) and after it (₁)
-pub record SetsTickets {A : Type 0} (told : SetTickets → A) (rel : PermutationRelation) (slots₀ text : List ℕ)
-    (r : A) (slots₁ : List ℕ) : Type 0 where
-  pub answer : r ≡ told (setTickets rel slots₀ text)
-  pub slots : slots₁ ≡ setTicketsSlots rel slots₀ text
+-- what the call does, told as the caller has it: `Runs` has the parts, the answer and the slots
+abbrev pub SetsTickets : {A : Type 0} → (SetTickets → A) → PermutationRelation → (slots₀ text : List ℕ) → A → (slots₁ : List ℕ) → Type 0
+SetsTickets told rel slots₀ text = Runs (λ run. told (setTicketsOf run)) (setTicketsRun rel slots₀ text)

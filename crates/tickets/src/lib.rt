@@ -7,7 +7,7 @@ ghost use Prim.Native.Nat.{_+_, _≤_, min};
 ghost use mathlib.Core.Path.{_≡_};
 ghost use Rattle.limits.specs.Outcome.{asIs};
 ghost use Rattle.allocator.specs.Slots.{pair};
-ghost use Rattle.allocator.specs.Assign.{Runs};
+ghost use Rattle.allocator.specs.Assign.{howFar, Runs};
 ghost use Rattle.tickets.specs.Lines.{linePair, ticketNo, lineNo, SetsItem, setLines};
 ghost use Rattle.tickets.specs.Tickets.{SetsTickets};
 use allocator::FieldVar;
@@ -67,7 +67,7 @@ fn line_end(at: usize, len: usize) -> usize
 
 // The lines of a text in turn, up to the first that is refused; earlier ones stay set.
 fn set_lines(count: u32, slots: &mut [u32], text: &[u8]) -> SetPairs
-    ensures { λ r. ⌜ Runs (setLines count (now (slots .entry)) (now (text .entry))) r (now (slots .exit)) ⌝ }
+    ensures { λ r. ⌜ Runs howFar (setLines count (now (slots .entry)) (now (text .entry))) r (now (slots .exit)) ⌝ }
 {
     let mut i: usize = 0;
     let mut at: usize = 0;

@@ -47,8 +47,7 @@ returns-2 c =
     let b = c .before .before .before .before .before .before .before in
     let a = b .before .before .before .before .before .args in
     let d = c .before .before .before .before .before .set-pairs .ensures in
-    let r = pairs-refused (a .rel) (now (a .slots)) (now (a .vars)) (now (a .values)) _ (b .before .set-vars-no .ensures) (b .if1 .left) _ (d .answer) _ (c .before .before .asked .ensures) (c .if2 .taken) in
-    record { answer = r .answer; slots = d .slots ∙ r .slots }
+    pairs-refused (a .rel) (now (a .slots)) (now (a .vars)) (now (a .values)) _ (b .before .set-vars-no .ensures) (b .if1 .left) _ _ d _ (c .before .before .asked .ensures) (c .if2 .taken)
 
 same-length-2 : tie.Need-same-length-2
 same-length-2 c = search needs
@@ -58,8 +57,7 @@ returns-3 c =
     let b = c .before .before .before .before .before .before .before in
     let a = b .before .before .before .before .before .args in
     let d = c .before .before .before .before .before .set-pairs .ensures in
-    let r = pairs-accepted (a .rel) (now (a .slots)) (now (a .vars)) (now (a .values)) _ (b .before .set-vars-no .ensures) (b .if1 .left) _ (d .answer) _ (c .before .before .asked .ensures) (c .if2 .left) in
-    record { answer = r .answer; slots = d .slots ∙ r .slots }
+    pairs-accepted (a .rel) (now (a .slots)) (now (a .vars)) (now (a .values)) _ (b .before .set-vars-no .ensures) (b .if1 .left) _ _ d _ (c .before .before .asked .ensures) (c .if2 .left)
 
 pub set-vars-spec : {M : Type 1} → statement M
 set-vars-spec =

@@ -1,6 +1,6 @@
 -- `recording::add_equation` meets its contract: a walk of its MIR, by hand, with a branch whose arms both return. The sizes are asked, then the terms, then the rest, and the record is made by the last number. The terms' slice is Copy: a copy of what it owns goes to `asked_terms` and one to `put_equation`. The store goes to `put_equation` for good; in the other arm it is given up as it was.
 -- Assumes nothing.
-use mathlib.Core.Path.{_≡_, refl, ap, _∙_, subst}
+use mathlib.Core.Path.{_≡_, refl, ap, subst}
 use Prim.Native.Nat.{ℕ, zero, suc, _<_, _^_}
 use native.Mathlib.Omega.{arith}
 use mathlib.Core.Bool.{Bool, not}

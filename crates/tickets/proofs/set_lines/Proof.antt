@@ -7,7 +7,7 @@ use mathlib.Core.List.{List}
 use native.Mathlib.Omega.{arith}
 use borrow.Author.Needs.{needs}
 use denote.Ref.{now}
-use lib.ListN.{length, drop, take}
+use lib.ListN.{length, drop}
 use Rattle.allocator.specs.Slots.{ran}
 use Rattle.allocator.proofs.Run.{counted, from-none, run-ended, run-refused, run-accepted, item-length, told}
 use Rattle.tickets.specs.Lines.{linePair, lineNo, setLines}
