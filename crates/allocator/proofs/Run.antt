@@ -9,10 +9,11 @@ use mathlib.Core.Logic.{_⊎_, inl, inr}
 use native.Mathlib.Omega.{arith}
 use native.Mathlib.Nat.{not-suc-le-zero, le-of-suc-le-suc}
 use native.Mathlib.Numerals.{add-one}
-use lib.ListN.{length, drop, getD, set, length-set}
+use lib.ListN.{length, take, drop, getD, set, length-set}
 use Rattle.limits.specs.Questions.{Question, _▸_, firstNo, onYes}
 use Rattle.limits.proofs.Questions.{onYes-no, firstNo-append}
 use Rattle.limits.specs.Outcome.{outcomeOf}
+use Rattle.words.specs.Store.{All}
 use Rattle.limits.specs.declared.Outcome.{Outcome}
 use Rattle.limits.specs.declared.Outcome.the-variants.{Accepted, Refused}
 use Rattle.limits.proofs.Answered.{outcome-refused, outcome-accepted, stays-by}
@@ -109,6 +110,19 @@ module _ {A : Type 0} (noOf : List ℕ → A → ℕ) (pairOf : A → Pair) wher
           → onYes {A = SetRun} k (ran (r .number) (suc (r .accepted)) (r .slots)) (ran k 0 slots) .accepted ≤ length (a ∷ items)
       go zero r h = omega arith
       go (suc k) r h = omega arith
+
+  -- what an item has that is accepted, each of the accepted ones has
+  pub accepted-all : (P : A → Type 0) → ((slots : List ℕ) (a : A) → noOf slots a ≡ 0 → P a)
+      → (slots : List ℕ) (items : List A) → All P (take (setItems noOf pairOf slots items .accepted) items)
+  unfolding setItems
+  accepted-all P f slots [] = tt
+  accepted-all P f slots (a ∷ items) =
+      go (noOf slots a) refl _ (accepted-all P f (set slots (pairOf a .var) (pairOf a .value)) items)
+    where
+      go : (k : ℕ) → noOf slots a ≡ k → (r : SetRun) → All P (take (r .accepted) items)
+          → All P (take (onYes {A = SetRun} k (ran (r .number) (suc (r .accepted)) (r .slots)) (ran k 0 slots) .accepted) (a ∷ items))
+      go zero e r h = (f slots a e, h)
+      go (suc k) e r h = tt
 
   -- its number is the first no of the items' questions
   pub run-number : (asks : List ℕ → A → List Question) → ((slots : List ℕ) (a : A) → noOf slots a ≡ firstNo (asks slots a))

@@ -1,0 +1,113 @@
+-- What a ticket line's number says, and what the lines of a text come to beside a set list of their pairs.
+-- Assumes nothing.
+use Prim.Native.Nat.{ℕ, zero, suc}
+use mathlib.Core.Path.{_≡_, refl, ap}
+use mathlib.Core.Bool.{Bool, true, false, false≢true}
+use mathlib.Core.Logic.{_↔_}
+use mathlib.Core.List.{List, [], _∷_, map}
+use native.Mathlib.Omega.{arith}
+use lib.Dec.{eqb, ltb}
+use lib.ListN.{set, take}
+use Rattle.limits.specs.Numbers.{prime, maxCount}
+use Rattle.limits.specs.Questions.{pick, ask, _▸_, firstNo, onYes}
+use Rattle.words.specs.Store.{All}
+use Rattle.allocator.specs.Slots.{slotTakes, pairNo, SetRun, ran, setItems, setRun}
+use Rattle.allocator.proofs.Run.{accepted-all}
+use Rattle.ticket.specs.Form.{Of, readLine}
+use Rattle.ticket.specs.declared.Ticket.{Ticket}
+use Rattle.ticket.specs.declared.Line.{Line}
+use Rattle.ticket.specs.declared.Line.the-variants as line
+use Rattle.ticket.proofs.Form.{read-of, bad-iff}
+use Rattle.tickets.specs.Lines.{linesOf, isTicket, ticketPair, linePair, ticketAsks, lineNo, setLines}
+
+-- ---- 40 is answered exactly where the line is no ticket's
+forty : (form wire steps held takes : Bool) → ask 40 form ▸ (ask 3 wire ▸ (ask 41 steps ▸ (ask 7 held ▸ (ask 8 takes ▸ 0)))) ≡ 40
+    → form ≡ false
+unfolding ask _▸_
+forty false b c d e z = refl
+forty true false c d e z = absurd (omega arith)
+forty true true false d e z = absurd (omega arith)
+forty true true true false e z = absurd (omega arith)
+forty true true true true false z = absurd (omega arith)
+forty true true true true true z = absurd (omega arith)
+
+not-ticket : (r : Line) → isTicket r ≡ false → r ≡ line.Bad
+not-ticket (line.Of t) e = cc
+not-ticket line.Bad e = refl
+
+pub line-40 : (n : ℕ) (slots bytes : List ℕ) → (lineNo n slots bytes ≡ 40) ↔ ((t : Ticket) → Of t bytes → ⊥)
+unfolding lineNo ask _▸_
+line-40 n slots bytes = (
+  λ e.
+      bad-iff bytes .0
+      (not-ticket (readLine bytes)
+      (forty (isTicket (readLine bytes)) (ltb (linePair bytes .var) maxCount) (ltb (linePair bytes .value) prime)
+      (ltb (linePair bytes .var) n) (slotTakes slots (linePair bytes)) e)),
+  λ f. let b : readLine bytes ≡ line.Bad = bad-iff bytes .1 f in rw b,
+)
+
+-- ---- the lines that are counted are tickets' lines, and set what they say
+pub record Counted (bytes : List ℕ) : Type 0 where
+  pub ticket : Ticket
+  pub of : Of ticket bytes
+  pub sets : linePair bytes ≡ ticketPair (line.Of ticket)
+
+is-ticket : (bytes : List ℕ) (r : Line) → readLine bytes ≡ r → isTicket r ≡ true → Counted bytes
+is-ticket bytes (line.Of t) e b = record { ticket = t; of = read-of t bytes e; sets = ap ticketPair e }
+is-ticket bytes line.Bad e b = absurd (false≢true b)
+
+formed : (form : Bool) (k : ℕ) → ask 40 form ▸ k ≡ 0 → form ≡ true
+unfolding ask _▸_
+formed true k z = refl
+formed false k z = absurd (omega arith)
+
+line-counted : (n : ℕ) (slots bytes : List ℕ) → lineNo n slots bytes ≡ 0 → Counted bytes
+unfolding lineNo
+line-counted n slots bytes z = is-ticket bytes (readLine bytes) refl (formed (isTicket (readLine bytes)) (firstNo (ticketAsks n (slotTakes slots) (linePair bytes))) z)
+
+pub lines-counted : (n : ℕ) (slots text : List ℕ) → All Counted (take (setLines n slots text .accepted) (linesOf text))
+lines-counted n slots text = accepted-all (lineNo n) linePair Counted (line-counted n) slots (linesOf text)
+
+-- ---- lines act in order like a set list
+-- 41 stands in place of 4
+abbrev pub inPlace : SetRun → SetRun
+inPlace r = ran (pick (eqb (r .number) 4) 41 (r .number)) (r .accepted) (r .slots)
+
+same-number : (form wire steps held takes : Bool) → form ≡ true
+    → ask 40 form ▸ (ask 3 wire ▸ (ask 41 steps ▸ (ask 7 held ▸ (ask 8 takes ▸ 0))))
+    ≡ (let k = ask 3 wire ▸ (ask 4 steps ▸ (ask 7 held ▸ (ask 8 takes ▸ 0))) in pick (eqb k 4) 41 k)
+unfolding ask _▸_
+same-number false b c d e f = cc
+same-number true false c d e f = refl
+same-number true true false d e f = refl
+same-number true true true false e f = refl
+same-number true true true true false f = refl
+same-number true true true true true f = refl
+
+number-is : (n : ℕ) (slots bytes : List ℕ) → isTicket (readLine bytes) ≡ true
+    → lineNo n slots bytes ≡ pick (eqb (pairNo n slots (linePair bytes)) 4) 41 (pairNo n slots (linePair bytes))
+unfolding lineNo pairNo
+number-is n slots bytes f =
+    same-number (isTicket (readLine bytes)) (ltb (linePair bytes .var) maxCount) (ltb (linePair bytes .value) prime)
+    (ltb (linePair bytes .var) n) (slotTakes slots (linePair bytes)) f
+
+-- k: the pair's number; m: the line's; q, r: what the rest comes to
+one-more : (slots : List ℕ) (k m : ℕ) → m ≡ pick (eqb k 4) 41 k → (r q : SetRun) → r ≡ inPlace q
+    → onYes {A = SetRun} m (ran (r .number) (suc (r .accepted)) (r .slots)) (ran m 0 slots)
+    ≡ inPlace (onYes k (ran (q .number) (suc (q .accepted)) (q .slots)) (ran k 0 slots))
+one-more slots zero m e r q s = rw e (ap (λ (t : SetRun). ran (t .number) (suc (t .accepted)) (t .slots)) s)
+one-more slots (suc k) m e r q s = go (eqb (suc k) 4) e
+  where
+    go : (b : Bool) → m ≡ pick b 41 (suc k)
+        → onYes {A = SetRun} m (ran (r .number) (suc (r .accepted)) (r .slots)) (ran m 0 slots) ≡ ran (pick b 41 (suc k)) 0 slots
+    go true h = rw h
+    go false h = rw h
+
+pub like-pairs : (n : ℕ) (slots : List ℕ) (lines : List (List ℕ)) → All (λ bytes. isTicket (readLine bytes) ≡ true) lines
+    → setItems (lineNo n) linePair slots lines ≡ inPlace (setRun n slots (map linePair lines))
+unfolding setItems
+like-pairs n slots [] t = refl
+like-pairs n slots (bytes ∷ lines) t =
+    let p = linePair bytes in
+    one-more slots (pairNo n slots p) (lineNo n slots bytes) (number-is n slots bytes (t .0)) _ _
+    (like-pairs n (set slots (p .var) (p .value)) lines (t .1))
