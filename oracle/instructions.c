@@ -1,7 +1,8 @@
 /* Each call on files of a batch once, for oracle/instructions to count what it takes: items as the argument says. An item is
- * a query of width 8, a public and an equation of two terms. */
+ * a query of width 8, a public and an equation of two terms; of tickets a line. */
 #include <stdio.h>
 #include <stdlib.h>
+#include <string.h>
 
 #include "sfr.h"
 
@@ -28,7 +29,7 @@ int main(int argc, char **argv) {
     const size_t sfri_len = 33 + LABEL + 4 * (pairs + cells + words), sfrw_len = 17 + 4 * cells;
     uint32_t *slots = lent(vars, 4), *scratch = lent(vars, 4), *trace = lent(cells, 4);
     uint32_t *publics = lent(pairs, 4), *queries = lent(cells, 4), *equations = lent(words, 4);
-    uint8_t *sfri = lent(sfri_len, 1), *sfrw = lent(sfrw_len, 1);
+    uint8_t *sfri = lent(sfri_len, 1), *sfrw = lent(sfrw_len, 1), *text = lent(items, 24);
 
     /* Every wire that is used carries 5, and no round changes it. */
     sfr_relation_answer at = sfr_allocate_vars(sfr_new_relation(WIDTH, slots, vars).relation, slots, vars, WIDTH);
@@ -44,6 +45,11 @@ int main(int argc, char **argv) {
         at = sfr_add_equation(at.relation, equations, words, terms, 2, 0);
         accepted("equation", at.number);
     }
+
+    char line[25];
+    snprintf(line, sizeof line, "%10u %12u\n", 1 + WIDTH, 250u); /* the first set wire, 5 steps again */
+    for (size_t i = 0; i < items; i++) memcpy(text + 24 * i, line, 24);
+    accepted("tickets", sfr_set_tickets(at.relation, slots, vars, text, 24 * items).number);
 
     const sfr_instance ins = sfr_compile(at.relation, label, LABEL, slots, vars, queries, cells, equations, words, publics, pairs,
                                          scratch, vars).instance;
