@@ -9,7 +9,7 @@ use mathlib.Core.Logic.{_⊎_, inl, inr}
 use native.Mathlib.Omega.{arith}
 use native.Mathlib.Nat.{not-suc-le-zero, le-of-suc-le-suc}
 use native.Mathlib.Numerals.{add-one}
-use lib.ListN.{length, take, drop, getD, set, length-set}
+use lib.ListN.{length, take, drop, getD, length-set}
 use Rattle.limits.specs.Questions.{Question, _▸_, firstNo, onYes}
 use Rattle.limits.proofs.Questions.{onYes-no, firstNo-append}
 use Rattle.limits.specs.Outcome.{outcomeOf}
@@ -17,7 +17,7 @@ use Rattle.words.specs.Store.{All}
 use Rattle.limits.specs.declared.Outcome.{Outcome}
 use Rattle.limits.specs.declared.Outcome.the-variants.{Accepted, Refused}
 use Rattle.limits.proofs.Answered.{outcome-refused, outcome-accepted, stays-by}
-use Rattle.allocator.specs.Slots.{Pair, pair, pairs, SetRun, ran, afterItem, setItems, itemsAsks, runAfter}
+use Rattle.allocator.specs.Slots.{Pair, pair, pairs, SetRun, ran, afterItem, setItems, itemsAsks, runAfter, oneAccepted, withPair}
 use Rattle.allocator.specs.Assign.{howFar, Runs}
 
 -- ---- the common pairs of two lists, from place i on
@@ -70,13 +70,13 @@ module _ {A : Type 0} (noOf : List ℕ → A → ℕ) (pairOf : A → Pair) wher
           let q : noOf slots a ≡ k = sym j in
           let f = rw z at e in
           let g = simp q at f in
-          rw (q, onYes-no k (set slots (pairOf a .var) (pairOf a .value)) slots h)
+          rw (q, onYes-no k (withPair slots (pairOf a)) slots h)
           (ap (λ (m : ℕ). ran k m slots) (sym n) ∙ (sym (ap (counted i) (onYes-no k _ (ran k 0 slots) h)) ∙ g))
 
       pub run-accepted : noOf slots a ≡ 0 → counted (i + 1) (setItems noOf pairOf (afterItem noOf pairOf slots a) rest) ≡ whole
       unfolding setItems
       run-accepted q =
-          let r = setItems noOf pairOf (set slots (pairOf a .var) (pairOf a .value)) rest in
+          let r = setItems noOf pairOf (withPair slots (pairOf a)) rest in
           let n : i + 1 + r .accepted ≡ i + suc (r .accepted) = omega arith in
           let f = simp q at (rw z at e) in
           rw q (ap (λ (m : ℕ). ran (r .number) m (r .slots)) n ∙ f)
@@ -85,7 +85,7 @@ module _ {A : Type 0} (noOf : List ℕ → A → ℕ) (pairOf : A → Pair) wher
   pub item-length : (slots : List ℕ) (a : A) → length (afterItem noOf pairOf slots a) ≡ length slots
   item-length slots a = go (noOf slots a)
     where
-      go : (k : ℕ) → length (onYes k (set slots (pairOf a .var) (pairOf a .value)) slots) ≡ length slots
+      go : (k : ℕ) → length (onYes k (withPair slots (pairOf a)) slots) ≡ length slots
       go zero = length-set slots (pairOf a .var) (pairOf a .value)
       go (suc k) = refl
 
@@ -93,10 +93,10 @@ module _ {A : Type 0} (noOf : List ℕ → A → ℕ) (pairOf : A → Pair) wher
   pub run-length : (items : List A) (slots : List ℕ) → length (setItems noOf pairOf slots items .slots) ≡ length slots
   unfolding setItems
   run-length [] slots = refl
-  run-length (a ∷ items) slots = go (noOf slots a) _ (run-length items (set slots (pairOf a .var) (pairOf a .value)))
+  run-length (a ∷ items) slots = go (noOf slots a) _ (run-length items (withPair slots (pairOf a)))
     where
-      go : (k : ℕ) (r : SetRun) → length (r .slots) ≡ length (set slots (pairOf a .var) (pairOf a .value))
-          → length (onYes {A = SetRun} k (ran (r .number) (suc (r .accepted)) (r .slots)) (ran k 0 slots) .slots) ≡ length slots
+      go : (k : ℕ) (r : SetRun) → length (r .slots) ≡ length (withPair slots (pairOf a))
+          → length (onYes {A = SetRun} k (oneAccepted r) (ran k 0 slots) .slots) ≡ length slots
       go zero r e = e ∙ length-set slots (pairOf a .var) (pairOf a .value)
       go (suc k) r e = refl
 
@@ -104,10 +104,10 @@ module _ {A : Type 0} (noOf : List ℕ → A → ℕ) (pairOf : A → Pair) wher
   pub accepted-within : (slots : List ℕ) (items : List A) → setItems noOf pairOf slots items .accepted ≤ length items
   unfolding setItems
   accepted-within slots [] = omega arith
-  accepted-within slots (a ∷ items) = go (noOf slots a) _ (accepted-within (set slots (pairOf a .var) (pairOf a .value)) items)
+  accepted-within slots (a ∷ items) = go (noOf slots a) _ (accepted-within (withPair slots (pairOf a)) items)
     where
       go : (k : ℕ) (r : SetRun) → r .accepted ≤ length items
-          → onYes {A = SetRun} k (ran (r .number) (suc (r .accepted)) (r .slots)) (ran k 0 slots) .accepted ≤ length (a ∷ items)
+          → onYes {A = SetRun} k (oneAccepted r) (ran k 0 slots) .accepted ≤ length (a ∷ items)
       go zero r h = omega arith
       go (suc k) r h = omega arith
 
@@ -117,10 +117,10 @@ module _ {A : Type 0} (noOf : List ℕ → A → ℕ) (pairOf : A → Pair) wher
   unfolding setItems
   accepted-all P f slots [] = tt
   accepted-all P f slots (a ∷ items) =
-      go (noOf slots a) refl _ (accepted-all P f (set slots (pairOf a .var) (pairOf a .value)) items)
+      go (noOf slots a) refl _ (accepted-all P f (withPair slots (pairOf a)) items)
     where
       go : (k : ℕ) → noOf slots a ≡ k → (r : SetRun) → All P (take (r .accepted) items)
-          → All P (take (onYes {A = SetRun} k (ran (r .number) (suc (r .accepted)) (r .slots)) (ran k 0 slots) .accepted) (a ∷ items))
+          → All P (take (onYes {A = SetRun} k (oneAccepted r) (ran k 0 slots) .accepted) (a ∷ items))
       go zero e r h = (f slots a e, h)
       go (suc k) e r h = tt
 
@@ -130,13 +130,13 @@ module _ {A : Type 0} (noOf : List ℕ → A → ℕ) (pairOf : A → Pair) wher
   unfolding setItems _▸_
   run-number asks n slots [] = refl
   run-number asks n slots (a ∷ items) =
-      go (noOf slots a) _ (run-number asks n (set slots (pairOf a .var) (pairOf a .value)) items)
-      ∙ ap (λ (k : ℕ). k ▸ firstNo (itemsAsks asks pairOf (set slots (pairOf a .var) (pairOf a .value)) items)) (n slots a)
-      ∙ sym (firstNo-append (asks slots a) (itemsAsks asks pairOf (set slots (pairOf a .var) (pairOf a .value)) items))
+      go (noOf slots a) _ (run-number asks n (withPair slots (pairOf a)) items)
+      ∙ ap (λ (k : ℕ). k ▸ firstNo (itemsAsks asks pairOf (withPair slots (pairOf a)) items)) (n slots a)
+      ∙ sym (firstNo-append (asks slots a) (itemsAsks asks pairOf (withPair slots (pairOf a)) items))
     where
-      go : (k : ℕ) (r : SetRun) → r .number ≡ firstNo (itemsAsks asks pairOf (set slots (pairOf a .var) (pairOf a .value)) items)
-          → onYes {A = SetRun} k (ran (r .number) (suc (r .accepted)) (r .slots)) (ran k 0 slots) .number
-          ≡ k ▸ firstNo (itemsAsks asks pairOf (set slots (pairOf a .var) (pairOf a .value)) items)
+      go : (k : ℕ) (r : SetRun) → r .number ≡ firstNo (itemsAsks asks pairOf (withPair slots (pairOf a)) items)
+          → onYes {A = SetRun} k (oneAccepted r) (ran k 0 slots) .number
+          ≡ k ▸ firstNo (itemsAsks asks pairOf (withPair slots (pairOf a)) items)
       go zero r e = e
       go (suc k) r e = refl
 

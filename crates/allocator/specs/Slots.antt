@@ -70,24 +70,29 @@ pub record SetRun : Type 0 where
 abbrev pub ran : ℕ → ℕ → List ℕ → SetRun
 ran number accepted slots = record { number = number; accepted = accepted; slots = slots }
 
--- the slots after one item: the slot of its wire holds its value, or all are as they were
+-- one item accepted before what the others came to
+abbrev pub oneAccepted : SetRun → SetRun
+oneAccepted r = ran (r .number) (suc (r .accepted)) (r .slots)
+
+-- the slots with a pair set: the slot of its wire holds its value
+abbrev pub withPair : List ℕ → Pair → List ℕ
+withPair slots p = set slots (p .var) (p .value)
+
+-- the slots after one item: with its pair set, or as they were
 abbrev pub afterItem : {A : Type 0} → (List ℕ → A → ℕ) → (A → Pair) → List ℕ → A → List ℕ
-afterItem noOf pairOf slots a = onYes (noOf slots a) (set slots (pairOf a .var) (pairOf a .value)) slots
+afterItem noOf pairOf slots a = onYes (noOf slots a) (withPair slots (pairOf a)) slots
 
 -- each item is asked on the slots as the earlier ones leave them; the first that is refused ends the run
 unfoldable pub setItems : {A : Type 0} → (List ℕ → A → ℕ) → (A → Pair) → List ℕ → List A → SetRun
 setItems noOf pairOf slots [] = ran 0 0 slots
 setItems noOf pairOf slots (a ∷ items) =
-    let r = setItems noOf pairOf (set slots (pairOf a .var) (pairOf a .value)) items in
-    onYes (noOf slots a)
-    (ran (r .number) (suc (r .accepted)) (r .slots))
-    (ran (noOf slots a) 0 slots)
+    onYes (noOf slots a) (oneAccepted (setItems noOf pairOf (withPair slots (pairOf a)) items)) (ran (noOf slots a) 0 slots)
 
 -- their questions, one item after the other
 abbrev pub itemsAsks : {A : Type 0} → (List ℕ → A → List Question) → (A → Pair) → List ℕ → List A → List Question
 itemsAsks asks pairOf slots [] = []
 itemsAsks asks pairOf slots (a ∷ items) =
-    asks slots a ++ itemsAsks asks pairOf (set slots (pairOf a .var) (pairOf a .value)) items
+    asks slots a ++ itemsAsks asks pairOf (withPair slots (pairOf a)) items
 
 -- a run behind earlier questions that came to k: nothing is tried where they say no
 abbrev pub runAfter : ℕ → SetRun → List ℕ → SetRun

@@ -13,7 +13,7 @@ use lib.Seq.{getD-take, length-take-le}
 use Rattle.limits.specs.Numbers.{prime, unassigned, maxCount}
 use Rattle.limits.specs.Questions.{pick, ask, _▸_, firstNo, onYes}
 use Rattle.limits.proofs.Questions.{stays, ask-no, zero-▸}
-use Rattle.allocator.specs.Slots.{Pair, pairNo, slotTakes, SetRun, ran, setItems, setRun}
+use Rattle.allocator.specs.Slots.{Pair, pairNo, slotTakes, SetRun, ran, setItems, setRun, oneAccepted}
 use Rattle.allocator.specs.Values.{look, fits, slotUnit}
 use Rattle.allocator.proofs.Values.{slot-fits}
 use Rattle.permutation.specs.Answers.{slotValue}
@@ -55,7 +55,7 @@ run-left noOf leftOf pairOf n f g (a ∷ items) slots sets o =
     ∙ ap (λ (k : ℕ). k ▸ itemsLeft leftOf pairOf (pairOf a ∷ sets) items) (g slots sets o a)
   where
     go : (k : ℕ) (r : SetRun) → noOf slots a ≡ k → (noOf slots a ≡ 0 → r .number ≡ itemsLeft leftOf pairOf (pairOf a ∷ sets) items)
-        → onYes {A = SetRun} k (ran (r .number) (suc (r .accepted)) (r .slots)) (ran k 0 slots) .number
+        → onYes {A = SetRun} k (oneAccepted r) (ran k 0 slots) .number
         ≡ k ▸ itemsLeft leftOf pairOf (pairOf a ∷ sets) items
     go zero r e h = h e ∙ sym (zero-▸ _)
     go (suc k) r e h = sym (stays (suc k) _ (λ z. absurd (omega arith)))

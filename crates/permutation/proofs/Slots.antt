@@ -14,7 +14,7 @@ use lib.Seq.{getD-set-same, getD-set-other, getD-take, length-take-le, take-set-
 use Rattle.limits.specs.Numbers.{prime, unassigned, maxCount}
 use Rattle.limits.specs.Questions.{pick, onYes}
 use Rattle.words.proofs.Lists.{all-map}
-use Rattle.allocator.specs.Slots.{Pair, pair, pairNo, SetRun, ran, setItems, runAfter, grownSlots}
+use Rattle.allocator.specs.Slots.{Pair, pair, pairNo, SetRun, ran, setItems, runAfter, grownSlots, withPair}
 use Rattle.allocator.specs.Values.{look, joins, fits, slotUnit}
 use Rattle.allocator.proofs.Accepted.{SetPair, pair-yes}
 use Rattle.allocator.proofs.Values.{put-same, put-grows, put-units, slot-some, slot-fits}
@@ -126,5 +126,5 @@ module _ {A : Type 0} (pairOf : A → Pair) (n : ℕ) where
   run-holds noOf f [] slots sets o = o
   run-holds noOf f (a ∷ items) slots sets o =
       run-by sets (a ∷ items) (noOf slots a) _ _
-      (λ z. run-holds noOf f items (set slots (pairOf a .var) (pairOf a .value)) (pairOf a ∷ sets)
+      (λ z. run-holds noOf f items (withPair slots (pairOf a)) (pairOf a ∷ sets)
       (set-holds n slots (pairOf a) (f slots a z) sets o)) o

@@ -3,10 +3,9 @@ use Prim.Native.Nat.{ℕ, _≤_, _<_}
 use mathlib.Core.Path.{_≡_, sym, ap, ap₂, _∙_}
 use mathlib.Core.List.{List}
 use borrow.Author.Tests.{lt-ltb, le-ltb}
-use lib.ListN.{set}
 use Rattle.limits.specs.Numbers.{prime, maxCount}
 use Rattle.limits.specs.Questions.{ask, _▸_, onYes}
-use Rattle.allocator.specs.Slots.{Pair, pairNo}
+use Rattle.allocator.specs.Slots.{Pair, pairNo, withPair}
 use Rattle.allocator.specs.Assign.{assignVarSlots}
 use Rattle.ticket.specs.Form.{readLine}
 use Rattle.ticket.specs.declared.Ticket.{Ticket}
@@ -35,7 +34,7 @@ module _ (count : ℕ) (slots : List ℕ) (p : Pair) where
       → SetsItem (ticketNo count) (λ q. q) slots p k (assignVarSlots count slots p)
   as-pair a h k e =
       let n = pair-number a h in
-      record { number = e ∙ n; slots = ap (λ (m : ℕ). onYes m (set slots (p .var) (p .value)) slots) n }
+      record { number = e ∙ n; slots = ap (λ (m : ℕ). onYes m (withPair slots p) slots) n }
 
 -- ---- a line
 module _ (count : ℕ) (slots bytes : List ℕ) where
@@ -53,5 +52,5 @@ module _ (count : ℕ) (slots bytes : List ℕ) where
         → SetsItem (lineNo count) linePair slots bytes k slots₁
     of-ticket k slots₁ s = record {
       number = s .number ∙ ticket-number;
-      slots = s .slots ∙ ap₂ (λ (m : ℕ) (p : Pair). onYes m (set slots (p .var) (p .value)) slots) ticket-number (ap ticketPair (sym e));
+      slots = s .slots ∙ ap₂ (λ (m : ℕ) (p : Pair). onYes m (withPair slots p) slots) ticket-number (ap ticketPair (sym e));
     }

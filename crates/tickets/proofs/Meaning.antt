@@ -7,11 +7,11 @@ use mathlib.Core.Logic.{_↔_}
 use mathlib.Core.List.{List, [], _∷_, map}
 use native.Mathlib.Omega.{arith}
 use lib.Dec.{eqb, ltb}
-use lib.ListN.{set, take}
+use lib.ListN.{take}
 use Rattle.limits.specs.Numbers.{prime, maxCount}
 use Rattle.limits.specs.Questions.{pick, ask, _▸_, firstNo, onYes}
 use Rattle.words.specs.Store.{All}
-use Rattle.allocator.specs.Slots.{slotTakes, pairNo, SetRun, ran, setItems, setRun}
+use Rattle.allocator.specs.Slots.{slotTakes, pairNo, SetRun, ran, setItems, setRun, oneAccepted, withPair}
 use Rattle.allocator.proofs.Run.{accepted-all}
 use Rattle.ticket.specs.Form.{Of, readLine}
 use Rattle.ticket.specs.declared.Ticket.{Ticket}
@@ -93,13 +93,13 @@ number-is n slots bytes f =
 
 -- k: the pair's number; m: the line's; q, r: what the rest comes to
 one-more : (slots : List ℕ) (k m : ℕ) → m ≡ pick (eqb k 4) 41 k → (r q : SetRun) → r ≡ inPlace q
-    → onYes {A = SetRun} m (ran (r .number) (suc (r .accepted)) (r .slots)) (ran m 0 slots)
-    ≡ inPlace (onYes k (ran (q .number) (suc (q .accepted)) (q .slots)) (ran k 0 slots))
+    → onYes {A = SetRun} m (oneAccepted r) (ran m 0 slots)
+    ≡ inPlace (onYes k (oneAccepted q) (ran k 0 slots))
 one-more slots zero m e r q s = rw e (ap (λ (t : SetRun). ran (t .number) (suc (t .accepted)) (t .slots)) s)
 one-more slots (suc k) m e r q s = go (eqb (suc k) 4) e
   where
     go : (b : Bool) → m ≡ pick b 41 (suc k)
-        → onYes {A = SetRun} m (ran (r .number) (suc (r .accepted)) (r .slots)) (ran m 0 slots) ≡ ran (pick b 41 (suc k)) 0 slots
+        → onYes {A = SetRun} m (oneAccepted r) (ran m 0 slots) ≡ ran (pick b 41 (suc k)) 0 slots
     go true h = rw h
     go false h = rw h
 
@@ -110,4 +110,4 @@ like-pairs n slots [] t = refl
 like-pairs n slots (bytes ∷ lines) t =
     let p = linePair bytes in
     one-more slots (pairNo n slots p) (lineNo n slots bytes) (number-is n slots bytes (t .0)) _ _
-    (like-pairs n (set slots (p .var) (p .value)) lines (t .1))
+    (like-pairs n (withPair slots p) lines (t .1))
