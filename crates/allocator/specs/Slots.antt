@@ -38,6 +38,15 @@ abbrev pub slotTakes : List ℕ → Pair → Bool
 slotTakes slots p =
     eqb (getD slots (p .var) unassigned) unassigned || eqb (getD slots (p .var) unassigned) (p .value)
 
+-- 3, the number of the value's own question, 7, 8 of a pair, over the wire count and whether its wire may take its value
+abbrev pub settingAsks : (unit count : ℕ) → (Pair → Bool) → Pair → List Question
+settingAsks unit count takes p =
+    question 3 (ltb (p .var) maxCount)
+    ∷ question unit (ltb (p .value) prime)
+    ∷ question 7 (ltb (p .var) count)
+    ∷ question 8 (takes p)
+    ∷ []
+
 -- 3, 4, 7 of one pair
 abbrev pub wireAsks : ℕ → Pair → List Question
 wireAsks count p =
@@ -46,9 +55,9 @@ wireAsks count p =
     ∷ question 7 (ltb (p .var) count)
     ∷ []
 
--- and 8
+-- 3, 4, 7, 8 of one pair on the slots as they are
 abbrev pub pairAsks : ℕ → List ℕ → Pair → List Question
-pairAsks count slots p = wireAsks count p ++ (question 8 (slotTakes slots p) ∷ [])
+pairAsks count slots = settingAsks 4 count (slotTakes slots)
 
 -- the number of one pair: the first no of its questions
 unfoldable pub pairNo : ℕ → List ℕ → Pair → ℕ

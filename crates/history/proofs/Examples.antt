@@ -84,7 +84,7 @@ calls =
     Allocate 2
     ∷ Set (pair 0 5)
     ∷ Tickets text
-    ∷ SetList (2 ∷ 7 ∷ []) (5 ∷ 5 ∷ [])
+    ∷ SetList (0 ∷ 7 ∷ []) (0 ∷ 5 ∷ [])
     ∷ SetList (2 ∷ []) []
     ∷ Record (1 ∷ []) (2 ∷ [])
     ∷ Equate (weighted 1 3 ∷ []) 6
@@ -103,9 +103,9 @@ outcomes : map (λ (e : Entry). e .answered .outcome) (log (begin 1 slots querie
 unfolding ask _▸_ newRelationNo allocateVarsNo setVarNo setVarsNo addPermutationNo allocatePermutationNo addEquationNo pairNo setItems setVarsRun ticketLine gramsToSteps readLine linesOf lineNo setTicketsRun allBelow answer after
 outcomes = refl
 
--- the ledger: three wires, wire 2 set to 5 by the first ticket and by the list, the query 1 to 2, the equation 3 · wire 1 = 6
+-- the ledger: three wires, wire 2 set to 5 by the first ticket, 0 again by the list, the query 1 to 2, the equation 3 · wire 1 = 6
 ledger-is : lastLedger 1 slots queries equations calls
-    ≡ ledger 3 (pair 2 5 ∷ pair 2 5 ∷ pair 0 0 ∷ []) ((1 ∷ 2 ∷ []) ∷ []) (equation (term 1 3 ∷ []) 6 ∷ [])
+    ≡ ledger 3 (pair 0 0 ∷ pair 2 5 ∷ pair 0 0 ∷ []) ((1 ∷ 2 ∷ []) ∷ []) (equation (term 1 3 ∷ []) 6 ∷ [])
 unfolding ask _▸_ newRelationNo allocateVarsNo setVarNo setVarsNo addPermutationNo allocatePermutationNo addEquationNo pairNo setItems setVarsRun ticketLine gramsToSteps readLine linesOf lineNo setTicketsRun allBelow answer after noted
 ledger-is = refl
 

@@ -27,7 +27,7 @@ use Rattle.history.specs.Left.{Lengths, left}
 abbrev pub Accepted : Outcome → Type 0
 Accepted o = o ≡ outcome.Accepted
 
--- an outcome by the first no of 01's questions, and by that of those that ledger and sizes leave open: accepted
+-- an outcome by the first no of the documents' questions, and by that of those that ledger and sizes leave open: accepted
 -- where none says no, else refused with the number
 pub record Answers (o : Outcome) (asked left : ℕ) : Type 0 where
   pub by-questions : o ≡ outcomeOf asked

@@ -9,7 +9,7 @@ abbrev pub outcomeOf : ℕ → Outcome
 outcomeOf zero = outcome.Accepted
 outcomeOf (suc k) = outcome.Refused (suc k)
 
--- document 01's number of the answer: 0 is yes
+-- the documents' number of the answer: 0 is yes
 abbrev pub outcomeNumber : Outcome → ℕ
 outcomeNumber outcome.Accepted = 0
 outcomeNumber (outcome.Refused k) = k

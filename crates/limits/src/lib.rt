@@ -1,6 +1,6 @@
 // The numbers that every call keeps to, and how questions are put: in order, up to the first no.
 //
-// A call of document 01 answers the number of the first of its questions that says no, or its result. In
+// A call of the documents answers the number of the first of its questions that says no, or its result. In
 // code the questions are a chain: each takes the number that was answered before it (0 for none yet), and
 // an earlier no stays.
 

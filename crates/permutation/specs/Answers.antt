@@ -7,7 +7,7 @@ use lib.ListN.{length, getD, set}
 use Rattle.limits.specs.Numbers.{unassigned}
 use Rattle.limits.specs.Questions.{pick, ask, _▸_, onYes}
 use Rattle.limits.specs.Outcome.{outcomeOf}
-use Rattle.allocator.specs.Slots.{Pair, pairs, grownSlots, SetRun, ran, runAfter, setRun}
+use Rattle.allocator.specs.Slots.{Pair, pairs, grownSlots, withPair, SetRun, ran, runAfter, setRun}
 use Rattle.permutation.specs.Numbers.{newRelationNo, allocateVarsNo, setVarNo, setVarsNo, valueOfNo, isAllocatedNo}
 use Rattle.permutation.specs.declared.PermutationRelation.{PermutationRelation}
 use Rattle.limits.specs.declared.Outcome.{Outcome}
@@ -87,7 +87,7 @@ setVar rel slots p = outcomeOf (setVarNo rel slots p)
 
 -- the slots afterwards
 abbrev pub setVarSlots : PermutationRelation → List ℕ → Pair → List ℕ
-setVarSlots rel slots p = onYes (setVarNo rel slots p) (set slots (p .var) (p .value)) slots
+setVarSlots rel slots p = onYes (setVarNo rel slots p) (withPair slots p) slots
 
 -- ---- set list: nothing is tried where 1 or 2 says no; 9 comes after the common pairs, which stay set
 -- the number, how many pairs were accepted, and the slots

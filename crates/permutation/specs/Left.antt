@@ -7,10 +7,10 @@ use mathlib.Core.List.{List, [], _∷_, _++_}
 use mathlib.Core.Option.{Option, none, some}
 use lib.Dec.{eqb, ltb}
 use lib.ListN.{length}
-use Rattle.limits.specs.Numbers.{prime, maxCount}
-use Rattle.limits.specs.Questions.{pick, ask, _▸_, Question, question, firstNo, onYes}
+use Rattle.limits.specs.Numbers.{maxCount}
+use Rattle.limits.specs.Questions.{pick, ask, _▸_, Question, firstNo, onYes}
 use Rattle.limits.specs.Asks.{storeAsks}
-use Rattle.allocator.specs.Slots.{Pair, growAsks, pairs}
+use Rattle.allocator.specs.Slots.{Pair, growAsks, settingAsks, pairs}
 use Rattle.allocator.specs.Values.{look, fits}
 use Rattle.allocator.specs.declared.VarValue.{VarValue}
 use Rattle.allocator.specs.declared.VarValue.the-variants as varValue
@@ -27,12 +27,7 @@ setsTake sets p = fits (look sets (p .var)) (p .value)
 
 -- set: 3, 4, 7 at a wire of n or more, 8 at a wire that the sets give another value
 abbrev pub setVarLeft : ℕ → List Pair → Pair → List Question
-setVarLeft n sets p =
-    question 3 (ltb (p .var) maxCount)
-    ∷ question 4 (ltb (p .value) prime)
-    ∷ question 7 (ltb (p .var) n)
-    ∷ question 8 (setsTake sets p)
-    ∷ []
+setVarLeft n sets = settingAsks 4 n (setsTake sets)
 
 -- items in turn, each accepted one joining the sets with its pair: the first number that is not 0
 abbrev pub itemsLeft : {A : Type 0} → (List Pair → A → ℕ) → (A → Pair) → List Pair → List A → ℕ

@@ -15,7 +15,7 @@ use Rattle.limits.specs.Numbers.{maxCount}
 use Rattle.limits.specs.Questions.{onYes}
 use Rattle.words.specs.Pieces.{wordsOf}
 use Rattle.words.specs.Store.{allBelow, putWords}
-use Rattle.allocator.specs.Slots.{Pair, pair, pairs, pairNo, grownSlots}
+use Rattle.allocator.specs.Slots.{Pair, pair, pairs, pairNo, withPair, grownSlots}
 use Rattle.allocator.specs.Values.{joins}
 use Rattle.expr.specs.Equation.{Term, Equation, equation, equationWords}
 use Rattle.permutation.specs.Numbers.{newRelationNo, allocateVarsNo, setVarNo, setVarsNo}
@@ -120,10 +120,10 @@ module _ (width : ℕ) (rel : PermutationRelation) (slots queries equations : Li
       → Holds width rel (setVarSlots rel slots p) queries equations n (onYes (outcomeNumber (setVar rel slots p)) (p ∷ sets) sets) asked stated
   setVar-keeps p =
       go (setVarNo rel slots p)
-      (λ z. with-slots (set slots (p .var) (p .value)) (p ∷ sets) (set-holds (rel .vars) slots p (setVar-yes rel slots p z) sets (o .inSlots)))
+      (λ z. with-slots (withPair slots p) (p ∷ sets) (set-holds (rel .vars) slots p (setVar-yes rel slots p z) sets (o .inSlots)))
     where
-      go : (k : ℕ) → (k ≡ 0 → Holds width rel (set slots (p .var) (p .value)) queries equations n (p ∷ sets) asked stated)
-          → Holds width rel (onYes k (set slots (p .var) (p .value)) slots) queries equations n
+      go : (k : ℕ) → (k ≡ 0 → Holds width rel (withPair slots p) queries equations n (p ∷ sets) asked stated)
+          → Holds width rel (onYes k (withPair slots p) slots) queries equations n
           (onYes (outcomeNumber (outcomeOf k)) (p ∷ sets) sets) asked stated
       go zero f = f refl
       go (suc k) f = o

@@ -78,7 +78,7 @@ fn with_relation(number: u32, value: u32, r: PermutationRelation, same: bool) ->
     ]
 }
 
-// Document 01's number of an outcome.
+// The documents' number of an outcome.
 pub(crate) fn number(outcome: Outcome) -> u32 {
     match outcome {
         Outcome::Accepted => 0,

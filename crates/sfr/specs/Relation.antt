@@ -1,4 +1,4 @@
--- The answers of calls on a relation as structs for C: document 01's number, and the values of each case.
+-- The answers of calls on a relation as structs for C: the documents' number, and the values of each case.
 -- Assumes nothing.
 use mathlib.Core.Bool.{true, false}
 use Rattle.limits.specs.Outcome.{outcomeNumber}

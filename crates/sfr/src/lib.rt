@@ -1,7 +1,7 @@
 // The proved functions for C and Rust: the static library libsfr.a (`rt staticlib sfr`), declared in
 // include/sfr.h and rust/src/sys.rs.
 //
-// Each function here only hands its arguments on; what comes back is its own struct with document 01's number
+// Each function here only hands its arguments on; what comes back is its own struct with the documents' number
 // first, 0 for yes. A lent list is a pointer and a count.
 
 ghost use mathlib.Core.Path.{_≡_};

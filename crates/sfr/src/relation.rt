@@ -57,7 +57,7 @@ pub struct SfrFlag {
     pub yes: bool,
 }
 
-// Document 01's number of an outcome.
+// The documents' number of an outcome.
 pub(crate) fn outcome_no(o: Outcome) -> u32
     ensures { λ r. ⌜ r ≡ outcomeNumber o ⌝ }
 {

@@ -16,7 +16,7 @@ use lib.Arith.{mod-mul}
 use lib.ListN.{length}
 use Rattle.limits.specs.Questions.{pick}
 use Rattle.limits.proofs.Below.{both-true, true-both}
-use Rattle.ticket.specs.Form.{blank, lastDigit, lastOrBlank, rightOrBlank, justified, ticketLine, Of}
+use Rattle.ticket.specs.Form.{blank, lastDigit, lastOrBlank, rightOrBlank, justified, lineLength, ticketLine, Of}
 use Rattle.ticket.specs.Form.{spelled, spelledTicket, sameBytes, readLine}
 use Rattle.ticket.specs.declared.Ticket.{Ticket}
 use Rattle.ticket.specs.declared.Line.{Line}
@@ -74,7 +74,7 @@ spelled-fits k n e = subst (λ (m : ℕ). m < 10 ^ k) (sym (e ∙ spelled-justif
 
 -- ---- a ticket's line
 module _ (t : Ticket) where
-  pub line-length : length (ticketLine t) ≡ 24
+  pub line-length : length (ticketLine t) ≡ lineLength
   unfolding ticketLine
   line-length = refl
 

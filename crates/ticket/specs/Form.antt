@@ -48,6 +48,10 @@ wireColumns = 10
 abbrev pub gramsColumns : ℕ
 gramsColumns = 12
 
+-- the bytes of a line
+abbrev pub lineLength : ℕ
+lineLength = 24
+
 -- a ticket's line: the wire, a blank, the grams, a newline
 unfoldable pub ticketLine : Ticket → List ℕ
 ticketLine t = justified wireColumns (t .wire) ++ (blank ∷ (justified gramsColumns (t .grams) ++ (newline ∷ [])))
@@ -59,7 +63,8 @@ pub record Of (t : Ticket) (bytes : List ℕ) : Type 0 where
   pub line : bytes ≡ ticketLine t
 
 -- ---- the reading
--- the number that bytes spell behind n: a digit moves what is before it one place up; a blank counts as 0
+-- the number that bytes spell behind n: each moves what is before it one place up, a digit counts as itself and a blank
+-- as 0; what another byte counts as is all the same, since the line is compared
 abbrev pub spelled : ℕ → List ℕ → ℕ
 spelled n [] = n
 spelled n (b ∷ bytes) = spelled (n * 10 + (b - 48)) bytes

@@ -1,5 +1,5 @@
 -- What the scan of src/lib.rt keeps, in the words of the definition: the contracts of its helpers cite this,
--- and nothing else does. Assumes nothing.
+-- and no other contract does. Assumes nothing.
 use Prim.Native.Nat.{ℕ, _+_, _-_, _*_}
 use mathlib.Core.Bool.{_&&_}
 use mathlib.Core.List.{List, [], _∷_}

@@ -1,7 +1,7 @@
 // A ticket line of the scale house (document 02, R-1): which wire it names and how many grams, and grams as steps.
 //
-// A line is read in one pass, column by column from the left: blanks, then digits that do not begin with 0, and in the
-// last column a digit. Every open function answers on every input.
+// Of a line the byte between the numbers and the last one are looked at first, and then each column once, from the left:
+// blanks, then digits that do not begin with 0, and in the last column a digit. Every open function answers on every input.
 
 ghost use Prim.Native.Nat.{_^_, _≤_, _<_};
 ghost use mathlib.Core.Path.{_≡_};

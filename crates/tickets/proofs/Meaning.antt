@@ -1,24 +1,27 @@
--- What a ticket line's number says, and what the lines of a text come to beside a set list of their pairs.
--- Assumes nothing.
+-- What a ticket line's number says, that the lines which a call counts are tickets' lines, and what the lines of a text
+-- come to beside a set list of their pairs: up to the first that is no ticket's, where 40 ends the run. Assumes nothing.
 use Prim.Native.Nat.{ℕ, zero, suc}
 use mathlib.Core.Path.{_≡_, refl, ap}
 use mathlib.Core.Bool.{Bool, true, false, false≢true}
 use mathlib.Core.Logic.{_↔_}
-use mathlib.Core.List.{List, [], _∷_, map}
+use mathlib.Core.List.{List, [], _∷_, _++_, map}
 use native.Mathlib.Omega.{arith}
 use lib.Dec.{eqb, ltb}
-use lib.ListN.{take}
+use lib.ListN.{length, take}
 use Rattle.limits.specs.Numbers.{prime, maxCount}
 use Rattle.limits.specs.Questions.{pick, ask, _▸_, firstNo, onYes}
 use Rattle.words.specs.Store.{All}
-use Rattle.allocator.specs.Slots.{slotTakes, pairNo, SetRun, ran, setItems, setRun, oneAccepted, withPair}
+use Rattle.allocator.specs.Slots.{slotTakes, pairNo, SetRun, ran, runAfter, setItems, setRun, oneAccepted, withPair}
 use Rattle.allocator.proofs.Run.{accepted-all}
+use Rattle.permutation.specs.Relation.{relationAsks}
+use Rattle.permutation.specs.declared.PermutationRelation.{PermutationRelation}
 use Rattle.ticket.specs.Form.{Of, readLine}
 use Rattle.ticket.specs.declared.Ticket.{Ticket}
 use Rattle.ticket.specs.declared.Line.{Line}
 use Rattle.ticket.specs.declared.Line.the-variants as line
 use Rattle.ticket.proofs.Form.{read-of, bad-iff}
-use Rattle.tickets.specs.Lines.{linesOf, isTicket, ticketPair, linePair, ticketAsks, lineNo, setLines}
+use Rattle.tickets.specs.Lines.{linesOf, isTicket, ticketPair, linePair, ticketAsks, lineNo}
+use Rattle.tickets.specs.Tickets.{setTicketsRun, setTickets}
 
 -- ---- 40 is answered exactly where the line is no ticket's
 forty : (form wire steps held takes : Bool) → ask 40 form ▸ (ask 3 wire ▸ (ask 41 steps ▸ (ask 7 held ▸ (ask 8 takes ▸ 0)))) ≡ 40
@@ -65,8 +68,16 @@ line-counted : (n : ℕ) (slots bytes : List ℕ) → lineNo n slots bytes ≡ 0
 unfolding lineNo
 line-counted n slots bytes z = is-ticket bytes (readLine bytes) refl (formed (isTicket (readLine bytes)) (firstNo (ticketAsks n (slotTakes slots) (linePair bytes))) z)
 
-pub lines-counted : (n : ℕ) (slots text : List ℕ) → All Counted (take (setLines n slots text .accepted) (linesOf text))
-lines-counted n slots text = accepted-all (lineNo n) linePair Counted (line-counted n) slots (linesOf text)
+pub setTickets-counted : (rel : PermutationRelation) (slots text : List ℕ)
+    → All Counted (take (setTickets rel slots text .accepted) (linesOf text))
+unfolding setTicketsRun
+setTickets-counted rel slots text =
+    go (firstNo (relationAsks rel (length slots))) _
+    (accepted-all (lineNo (rel .vars)) linePair Counted (line-counted (rel .vars)) slots (linesOf text))
+  where
+    go : (k : ℕ) (r : SetRun) → All Counted (take (r .accepted) (linesOf text)) → All Counted (take (runAfter k r slots .accepted) (linesOf text))
+    go zero r h = h
+    go (suc k) r h = tt
 
 -- ---- lines act in order like a set list
 -- 41 stands in place of 4
@@ -111,3 +122,18 @@ like-pairs n slots (bytes ∷ lines) t =
     let p = linePair bytes in
     one-more slots (pairNo n slots p) (lineNo n slots bytes) (number-is n slots bytes (t .0)) _ _
     (like-pairs n (withPair slots p) lines (t .1))
+
+-- a line that is no ticket's ends the run with 40, where no line before it did
+pub up-to-bad : (n : ℕ) (slots : List ℕ) (lines : List (List ℕ)) (bytes : List ℕ) (rest : List (List ℕ)) → readLine bytes ≡ line.Bad
+    → setItems (lineNo n) linePair slots (lines ++ (bytes ∷ rest))
+    ≡ (let r = setItems (lineNo n) linePair slots lines in ran (r .number ▸ 40) (r .accepted) (r .slots))
+unfolding setItems lineNo ask _▸_
+up-to-bad n slots [] bytes rest e = rw e
+up-to-bad n slots (a ∷ lines) bytes rest e =
+    go (lineNo n slots a) _ _ (up-to-bad n (withPair slots (linePair a)) lines bytes rest e)
+  where
+    go : (k : ℕ) (r q : SetRun) → r ≡ ran (q .number ▸ 40) (q .accepted) (q .slots)
+        → onYes {A = SetRun} k (oneAccepted r) (ran k 0 slots)
+        ≡ (let t = onYes {A = SetRun} k (oneAccepted q) (ran k 0 slots) in ran (t .number ▸ 40) (t .accepted) (t .slots))
+    go zero r q s = ap oneAccepted s
+    go (suc k) r q s = refl

@@ -1,5 +1,5 @@
--- What ticket texts mean: the lines of a text are the text, those of tickets written one after the other are these
--- tickets' lines and set their wires to their steps; and the lines that a call counts are tickets' lines. Assumes nothing.
+-- What ticket texts are: the lines of a text are the text, and those of tickets written one after the other are these
+-- tickets' lines and set their wires to their steps. Assumes nothing.
 use Prim.Native.Nat.{ℕ, zero, suc, _+_, _*_, _/_, _^_, _≤_, _<_}
 use mathlib.Core.Path.{_≡_, refl, sym, ap, ap₂, _∙_}
 use mathlib.Core.List.{List, [], _∷_, _++_, map, append-nil}

@@ -3,21 +3,19 @@
 use Prim.Native.Nat.{ℕ, _+_, _/_}
 use mathlib.Core.Path.{_≡_}
 use mathlib.Core.Bool.{Bool, true, false}
-use mathlib.Core.List.{List, [], _∷_}
-use lib.Dec.{ltb}
+use mathlib.Core.List.{List, _∷_}
 use lib.ListN.{length}
-use Rattle.limits.specs.Numbers.{prime, maxCount}
 use Rattle.limits.specs.Questions.{Question, question, firstNo}
 use Rattle.words.specs.Pieces.{pieces}
-use Rattle.allocator.specs.Slots.{Pair, pair, slotTakes, SetRun, afterItem, setItems, itemsAsks}
-use Rattle.ticket.specs.Form.{readLine}
+use Rattle.allocator.specs.Slots.{Pair, pair, settingAsks, slotTakes, SetRun, afterItem, setItems, itemsAsks}
+use Rattle.ticket.specs.Form.{lineLength, readLine}
 use Rattle.ticket.specs.Steps.{gramsToSteps}
 use Rattle.ticket.specs.declared.Line.{Line}
 use Rattle.ticket.specs.declared.Line.the-variants as line
 
--- a text's lines: 24 bytes each, and what is left at the end where it is cut short
+-- a text's lines: every 24 bytes one, and what is left at the end where it is cut short
 unfoldable pub linesOf : List ℕ → List (List ℕ)
-linesOf text = pieces 24 ((length text + 23) / 24) text
+linesOf text = pieces lineLength ((length text + 23) / lineLength) text
 
 -- is a line some ticket's?
 abbrev pub isTicket : Line → Bool
@@ -33,14 +31,9 @@ ticketPair line.Bad = pair 0 0
 abbrev pub linePair : List ℕ → Pair
 linePair bytes = ticketPair (readLine bytes)
 
--- 3, 41 in place of 4, 7, 8 of a pair, over the wire count and whether a wire may take a value
+-- 3, 41 in place of 4, 7, 8 of a ticket's pair
 abbrev pub ticketAsks : ℕ → (Pair → Bool) → Pair → List Question
-ticketAsks count takes p =
-    question 3 (ltb (p .var) maxCount)
-    ∷ question 41 (ltb (p .value) prime)
-    ∷ question 7 (ltb (p .var) count)
-    ∷ question 8 (takes p)
-    ∷ []
+ticketAsks = settingAsks 41
 
 -- 40 of a line, and then those of its pair
 abbrev pub lineAsks : ℕ → (Pair → Bool) → List ℕ → List Question

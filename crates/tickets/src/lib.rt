@@ -73,6 +73,7 @@ fn set_lines(count: u32, slots: &mut [u32], text: &[u8]) -> SetPairs
     let mut at: usize = 0;
     while at < text.len() {
         let end = line_end(at, text.len());
+        // the tally where this line is accepted
         let next = i + 1;
         let no = set_line(count, slots, &text[at..end]);
         if no != 0 {

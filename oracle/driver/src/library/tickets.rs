@@ -31,6 +31,9 @@ fn fixed(seen: &mut Seen) -> Compared {
     for var in VARS {
         for grams in GRAMS {
             text(&[line(var, grams)], seen)?;
+            for other in others(var, grams) {
+                text(&[other.into_bytes()], seen)?;
+            }
         }
     }
     for (i, &grams) in GRAMS.iter().enumerate() {
@@ -45,6 +48,16 @@ fn fixed(seen: &mut Seen) -> Compared {
         text(&[lines[len..].to_vec()], seen)?;
     }
     Ok(())
+}
+
+/// A line with one number padded with zeros, or justified to the left.
+fn others(var: u64, grams: u64) -> [String; 4] {
+    [
+        format!("{var:010} {grams:>12}\n"),
+        format!("{var:>10} {grams:012}\n"),
+        format!("{var:<10} {grams:>12}\n"),
+        format!("{var:>10} {grams:<12}\n"),
+    ]
 }
 
 /// A line with each byte replaced, put in or left out, and with any two bytes replaced, between

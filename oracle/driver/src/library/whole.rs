@@ -1,6 +1,6 @@
 //! `whole`: whole runs of the proved library beside the sources, with no second reading in
-//! between: calls, gate, builder, bytes out and in, and the check. Each side goes on with
-//! what it made itself.
+//! between, but for ticket lines, which it takes apart: calls, gate, builder, bytes out and in,
+//! and the check. Each side goes on with what it made itself.
 
 use source::{Instance, Params};
 
