@@ -84,6 +84,7 @@ calls =
     Allocate 2
     ∷ Set (pair 0 5)
     ∷ Tickets text
+    ∷ Tickets (ticketLine (record { wire = 0; grams = 24 }))
     ∷ SetList (0 ∷ 7 ∷ []) (0 ∷ 5 ∷ [])
     ∷ SetList (2 ∷ []) []
     ∷ Record (1 ∷ []) (2 ∷ [])
@@ -97,15 +98,16 @@ fresh-accepted : newRelation 1 slots .outcome ≡ Accepted
 unfolding ask _▸_ newRelationNo
 fresh-accepted = refl
 
--- 0 to 5 is refused with 8, the tickets and the list stop at wire 7 with 7, unequal lengths give 9, the mint lacks room (10)
+-- 0 to 5 is refused with 8, the first tickets and the list stop at wire 7 with 7, unequal lengths give 9, the mint lacks room (10)
 outcomes : map (λ (e : Entry). e .answered .outcome) (log (begin 1 slots queries equations calls) calls)
-    ≡ Accepted ∷ Refused 8 ∷ Refused 7 ∷ Refused 7 ∷ Refused 9 ∷ Accepted ∷ Accepted ∷ Refused 10 ∷ Refused 5 ∷ Refused 6 ∷ []
+    ≡ Accepted ∷ Refused 8 ∷ Refused 7 ∷ Accepted ∷ Refused 7 ∷ Refused 9 ∷ Accepted ∷ Accepted ∷ Refused 10 ∷ Refused 5 ∷ Refused 6 ∷ []
 unfolding ask _▸_ newRelationNo allocateVarsNo setVarNo setVarsNo addPermutationNo allocatePermutationNo addEquationNo pairNo setItems setVarsRun ticketLine gramsToSteps readLine linesOf lineNo setTicketsRun allBelow answer after
 outcomes = refl
 
--- the ledger: three wires, wire 2 set to 5 by the first ticket, 0 again by the list, the query 1 to 2, the equation 3 · wire 1 = 6
+-- the ledger: three wires, wire 2 set to 5 by the first line of the refused tickets, wire 0 to 0 again by the accepted ones and by the
+-- list, the query 1 to 2, the equation 3 · wire 1 = 6
 ledger-is : lastLedger 1 slots queries equations calls
-    ≡ ledger 3 (pair 0 0 ∷ pair 2 5 ∷ pair 0 0 ∷ []) ((1 ∷ 2 ∷ []) ∷ []) (equation (term 1 3 ∷ []) 6 ∷ [])
+    ≡ ledger 3 (pair 0 0 ∷ pair 0 0 ∷ pair 2 5 ∷ pair 0 0 ∷ []) ((1 ∷ 2 ∷ []) ∷ []) (equation (term 1 3 ∷ []) 6 ∷ [])
 unfolding ask _▸_ newRelationNo allocateVarsNo setVarNo setVarsNo addPermutationNo allocatePermutationNo addEquationNo pairNo setItems setVarsRun ticketLine gramsToSteps readLine linesOf lineNo setTicketsRun allBelow answer after noted
 ledger-is = refl
 
