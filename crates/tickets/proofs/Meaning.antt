@@ -106,7 +106,7 @@ number-is n slots bytes f =
 one-more : (slots : List ℕ) (k m : ℕ) → m ≡ pick (eqb k 4) 41 k → (r q : SetRun) → r ≡ inPlace q
     → onYes {A = SetRun} m (oneAccepted r) (ran m 0 slots)
     ≡ inPlace (onYes k (oneAccepted q) (ran k 0 slots))
-one-more slots zero m e r q s = rw e (ap (λ (t : SetRun). ran (t .number) (suc (t .accepted)) (t .slots)) s)
+one-more slots zero m e r q s = rw e (ap oneAccepted s)
 one-more slots (suc k) m e r q s = go (eqb (suc k) 4) e
   where
     go : (b : Bool) → m ≡ pick b 41 (suc k)
