@@ -25,13 +25,29 @@ pairs (x ∷ vars) [] = []
 pairs (x ∷ vars) (v ∷ values) = pair x v ∷ pairs vars values
 
 -- ---- questions, by the wire count and the length of the slot store
+-- 2: the count, and that it fits the store
+abbrev pub fitAsks : ℕ → ℕ → List Question
+fitAsks count len = countAsks count ++ (question 2 (leb count len) ∷ [])
+
 -- 2: the store's size, the count, and that the count fits the store
 abbrev pub slotsAsks : ℕ → ℕ → List Question
-slotsAsks count len = storeAsks len ++ (countAsks count ++ (question 2 (leb count len) ∷ []))
+slotsAsks count len = storeAsks len ++ fitAsks count len
 
--- 5, 6: would there be at most 2^30 wires with n more, and does the store hold them?
+-- 5: would there be at most 2^30 wires with n more?
+abbrev pub mostAsks : ℕ → ℕ → List Question
+mostAsks count n = question 5 (leb (count + n) maxCount) ∷ []
+
+-- 6: does the store hold them?
+abbrev pub roomAsks : ℕ → ℕ → ℕ → List Question
+roomAsks count len n = question 6 (leb (count + n) len) ∷ []
+
+-- 5 and 6, and what is put in between
+abbrev pub growAsksWith : List Question → ℕ → ℕ → ℕ → List Question
+growAsksWith between count len n = mostAsks count n ++ (between ++ roomAsks count len n)
+
+-- with nothing between
 abbrev pub growAsks : ℕ → ℕ → ℕ → List Question
-growAsks count len n = question 5 (leb (count + n) maxCount) ∷ question 6 (leb (count + n) len) ∷ []
+growAsks = growAsksWith []
 
 -- the slot of a wire may take a value: it is unassigned, or holds that value
 abbrev pub slotTakes : List ℕ → Pair → Bool

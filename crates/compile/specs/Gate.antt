@@ -6,14 +6,15 @@ use mathlib.Core.List.{List, [], _∷_, _++_}
 use lib.Dec.{eqb, leb}
 use lib.ListN.{length, take, replicate}
 use Rattle.limits.specs.Numbers.{maxCount, unassigned}
-use Rattle.limits.specs.Questions.{Question, question, firstNo, pick, onYes}
+use Rattle.limits.specs.Questions.{Question, question, firstNo, inTurn, pick, onYes}
 use Rattle.limits.specs.Asks.{storeAsks}
 use Rattle.words.specs.Store.{allBelow, putWords}
 use Rattle.words.specs.Pieces.{wordsOf, stepsOf}
 use Rattle.utf8.specs.Utf8.{isUtf8}
 use Rattle.allocator.specs.Slots.{Pair, pair}
 use Rattle.expr.specs.Equation.{equationsAt}
-use Rattle.permutation.specs.Relation.{relationAsks, queriesAsks, equationsAsks}
+use Rattle.permutation.specs.Sharing.{Sharing, alone}
+use Rattle.permutation.specs.Relation.{relationAsksWith, queriesAsks, equationsAsks}
 use Rattle.limits.specs.Outcome.{outcomeOf}
 use Rattle.limits.specs.declared.Outcome.the-variants as outcome
 use Rattle.permutation.specs.declared.PermutationRelation.{PermutationRelation}
@@ -110,9 +111,17 @@ lentStoresAsks l =
 abbrev pub lentSoundAsks : GateLent → List Question
 lentSoundAsks l = soundAsks (l .relation) (l .label) (l .slots) (l .queries) (l .equations)
 
+-- 1, 2: the front, up to the last question that sharing puts in
+abbrev pub compileFront : Sharing → GateLent → List Question
+compileFront h l = inTurn (
+    relationAsksWith h (l .relation) (length (l .slots))
+    ∷ lentStoresAsks l
+    ∷ h .opened
+    ∷ [])
+
 -- 1, 2, 11: what is asked before the publics are made
 abbrev pub preparedAsks : GateLent → List Question
-preparedAsks l = relationAsks (l .relation) (length (l .slots)) ++ (lentStoresAsks l ++ lentSoundAsks l)
+preparedAsks l = compileFront alone l ++ lentSoundAsks l
 
 -- their first no, or 0
 unfoldable pub preparedNo : GateLent → ℕ
@@ -125,8 +134,12 @@ madeAsks l =
     ∷ gateAsks (compiledParts (l .relation) (l .slots) (l .queries) (l .equations)) (l .scratch)
 
 -- all of the gate's questions: 1, 2, 11, 10, 16, 12 to 15
+abbrev pub compileAsksWith : Sharing → GateLent → List Question
+compileAsksWith h l = compileFront h l ++ (lentSoundAsks l ++ madeAsks l)
+
+-- alone
 abbrev pub compileAsks : GateLent → List Question
-compileAsks l = preparedAsks l ++ madeAsks l
+compileAsks = compileAsksWith alone
 
 -- the number of the gate: its first no, or 0
 unfoldable pub compileNo : GateLent → ℕ

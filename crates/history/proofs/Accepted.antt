@@ -14,7 +14,8 @@ use Rattle.utf8.specs.Utf8.{isUtf8}
 use Rattle.expr.specs.Equation.{equationsWords}
 use Rattle.decoding.specs.Read.{Rooms}
 use Rattle.history.specs.Ledger.{Ledger}
-use Rattle.history.specs.Left.{Lengths, publicCount, validatedLeft, compileLeft, instanceWriteLeft, instanceReadLeft, witnessWriteLeft, witnessReadLeft}
+use Rattle.history.specs.Calls.{Lengths}
+use Rattle.history.specs.Left.{publicCount, validatedLeft, compileLeft, instanceWriteLeft, instanceReadLeft, witnessWriteLeft, witnessReadLeft}
 use Rattle.history.specs.Whole.{TraceHeld}
 
 -- ---- the gate

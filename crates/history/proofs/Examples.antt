@@ -136,7 +136,7 @@ SatA trace = Sat (Evaluates 1 (parametersOf 1 1 params)) (lastLedger 1 slots que
 pub satisfied : SatA ((2 ∷ 5 ∷ []) ∷ [])
 unfolding ask _▸_ newRelationNo allocateVarsNo setVarNo setVarsNo addPermutationNo allocatePermutationNo addEquationNo pairNo setItems setVarsRun ticketLine gramsToSteps readLine linesOf lineNo setTicketsRun allBelow answer after compiledParts publicsOf equationAt sizeAt equationsSound slotsSound follow isUtf8 compileNo compile validatedNo gateNo compilePublics publicsSound partsOf checkNo isWitnessValidNo isEvaluation permuteNo soundParameters roundsOf rowsOf soundKinds unitConstants unitRows sameWords runRounds runRound addConstants raise timesMatrix addUnit mulUnit seventh dotUnits instanceToBytesNo instanceBytes headerBytes u32Bytes instanceFromBytes readInstance readFile readHeader readMagic readLabel readParts readPublics readQueries readEquations word part below witnessToBytesNo witnessBytes witnessFromBytes readWitness readSteps
 satisfied =
-    whole 1 slots queries equations fresh-accepted calls .gated [] publics scratch gate-accepted .files lentFile
+    whole 1 slots queries equations fresh-accepted calls .judged .gated [] publics scratch gate-accepted .files lentFile
     .checks refl refl (lentTrace (2 ∷ 5 ∷ 9 ∷ [])) refl refl 1 params refl 3 (omega arith) (omega arith)
     .yes .0 refl
 
@@ -144,7 +144,7 @@ satisfied =
 pub satisfied-held : SatA ((2 ∷ 5 ∷ []) ∷ [])
 unfolding ask _▸_ newRelationNo allocateVarsNo setVarNo setVarsNo addPermutationNo allocatePermutationNo addEquationNo pairNo setItems setVarsRun ticketLine gramsToSteps readLine linesOf lineNo setTicketsRun allBelow answer after compiledParts publicsOf equationAt sizeAt equationsSound slotsSound follow isUtf8 compileNo compile validatedNo gateNo compilePublics publicsSound partsOf checkNo isWitnessValidNo isEvaluation permuteNo soundParameters roundsOf rowsOf soundKinds unitConstants unitRows sameWords runRounds runRound addConstants raise timesMatrix addUnit mulUnit seventh dotUnits
 satisfied-held =
-    whole 1 slots queries equations fresh-accepted calls .gated [] publics scratch gate-accepted
+    whole 1 slots queries equations fresh-accepted calls .judged .gated [] publics scratch gate-accepted
     .checks 1 (2 ∷ 5 ∷ 9 ∷ []) (record { size = omega arith; room = omega arith; units = refl }) 1 params refl 3 (omega arith) (omega arith)
     .yes .0 refl
 
@@ -153,7 +153,7 @@ pub unsatisfied : SatA ((3 ∷ 640 ∷ []) ∷ []) → ⊥
 unfolding ask _▸_ newRelationNo allocateVarsNo setVarNo setVarsNo addPermutationNo allocatePermutationNo addEquationNo pairNo setItems setVarsRun ticketLine gramsToSteps readLine linesOf lineNo setTicketsRun allBelow answer after compiledParts publicsOf equationAt sizeAt equationsSound slotsSound follow isUtf8 compileNo compile validatedNo gateNo compilePublics publicsSound partsOf checkNo isWitnessValidNo isEvaluation permuteNo soundParameters roundsOf rowsOf soundKinds unitConstants unitRows sameWords runRounds runRound addConstants raise timesMatrix addUnit mulUnit seventh dotUnits instanceToBytesNo instanceBytes headerBytes u32Bytes instanceFromBytes readInstance readFile readHeader readMagic readLabel readParts readPublics readQueries readEquations word part below witnessToBytesNo witnessBytes witnessFromBytes readWitness readSteps
 unsatisfied s =
     let z : _≡_ {A = ℕ} 33 0 = accepted-no 33
-    (whole 1 slots queries equations fresh-accepted calls .gated [] publics scratch gate-accepted .files lentFile
+    (whole 1 slots queries equations fresh-accepted calls .judged .gated [] publics scratch gate-accepted .files lentFile
     .checks refl refl (lentTrace (3 ∷ 640 ∷ [])) refl refl 1 params refl 3 (omega arith) (omega arith)
     .yes .1 s) in
     omega arith

@@ -28,9 +28,8 @@ use Rattle.compile.specs.Gate.{gateLent, publicsFrom, publicsOf, compiledParts,
 use Rattle.held.proofs.Facts.{facts-allBelow, SoundSlot, facts-slotsSound}
 use Rattle.compile.proofs.Rising.{publicsOf-below}
 use Rattle.history.specs.Ledger.{Ledger}
-use Rattle.history.specs.Calls.{State}
+use Rattle.history.specs.Calls.{State, lengthsOf}
 use Rattle.history.specs.Left.{numberOf, publicCount, validatedLeft, compileLeft}
-use Rattle.history.specs.Demand.{lengthsOf}
 use Rattle.history.proofs.Bridge.{ledgerParts}
 use Rattle.history.proofs.Publics.{look-domain}
 use Rattle.history.proofs.Judged.{bound-is}

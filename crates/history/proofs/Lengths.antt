@@ -27,8 +27,7 @@ use Rattle.recording.proofs.Minted.{upFrom-length}
 use Rattle.permutation.proofs.Slots.{grown-length}
 use Rattle.tickets.specs.Lines.{linesOf, linePair, lineNo, setLines}
 use Rattle.tickets.specs.Tickets.{setTicketsRun}
-use Rattle.history.specs.Calls.{Call, Allocate, Set, SetList, Record, Mint, Equate, Tickets, State, after, final}
-use Rattle.history.specs.Demand.{lengthsOf}
+use Rattle.history.specs.Calls.{Call, Allocate, Set, SetList, Record, Mint, Equate, Tickets, State, after, final, lengthsOf}
 
 -- by a number: of one length either way
 kept : (k : ℕ) (new old : List ℕ) → (k ≡ 0 → length new ≡ length old) → length (onYes k new old) ≡ length old

@@ -28,8 +28,7 @@ use Rattle.held.proofs.Facts.{facts-allBelow}
 use Rattle.validated.proofs.Facts.{Valid, validated-facts}
 use Rattle.compile.proofs.Rising.{publicsOf-values}
 use Rattle.history.specs.Ledger.{Ledger}
-use Rattle.history.specs.Calls.{State}
-use Rattle.history.specs.Demand.{lengthsOf}
+use Rattle.history.specs.Calls.{State, lengthsOf}
 use Rattle.history.specs.Whole.{lentToGate, compiled, publicsMade}
 use Rattle.history.proofs.Bridge.{ledgerParts}
 use Rattle.history.proofs.Keeps.{Agrees}

@@ -4,16 +4,14 @@ use Prim.Native.Nat.{ℕ}
 use mathlib.Core.Path.{_≡_, refl, sym, ap, _∙_, subst}
 use mathlib.Core.List.{List}
 use lib.ListN.{length}
-use Rattle.limits.specs.Questions.{firstNo}
 use Rattle.limits.specs.Outcome.{outcomeOf, outcomeNumber}
 use Rattle.permutation.specs.Answers.{newRelation}
 use Rattle.instance.specs.declared.PermutationInstance.{PermutationInstance}
 use Rattle.compile.specs.Gate.{compileNo, compile}
 use Rattle.history.specs.Ledger.{Ledger}
-use Rattle.history.specs.Calls.{Call, State, firstLedger}
-use Rattle.history.specs.Left.{Lengths, compileLeft}
+use Rattle.history.specs.Calls.{Call, State, Lengths, lengthsOf, firstLedger}
 use Rattle.history.specs.Demand.{Accepted}
-use Rattle.history.specs.Whole.{lentToGate, compiled, publicsMade, Gated, begin, last, lastLedger, Whole}
+use Rattle.history.specs.Whole.{lentToGate, compiled, publicsMade, Gated, gateOf, Judged, begin, last, lastLedger, Whole}
 use Rattle.history.proofs.Keeps.{Agrees, fresh-agrees, keeps-all}
 use Rattle.history.proofs.Outcomes.{accepted-no}
 use Rattle.history.proofs.Told.{told-all}
@@ -45,6 +43,18 @@ gated-at w s l i label publics scratch gate =
     (instance-is s l own label publics scratch gate) (made-is s l own label publics scratch gate)
     (record { checks = held-checks s l own label publics scratch gate; files = filed s l own label publics scratch gate }))
 
+-- the gate of a relation in step with its ledger, and what follows it
+pub judged : (w : ℕ) (s : State) (l : Ledger) → Agrees w s l → Judged w (lengthsOf s) (s .queries) (s .equations) (gateOf s) l
+unfolding compile compileNo
+judged w s l i = record {
+  gates = λ label publics scratch. record {
+    by-questions = refl;
+    by-ledger = ap outcomeOf (compile-left w _ _ i label (length publics) (length scratch));
+  };
+  gated = λ label publics scratch a. gated-at w _ _ i label publics scratch (accepted-no _ a);
+  traced = λ t. traced w (i .least) (i .most) t;
+}
+
 module _ (w : ℕ) (slots queries equations : List ℕ) (accepted : Accepted (newRelation w slots .outcome)) (cs : List Call) where
   begins : Agrees w (begin w slots queries equations cs) firstLedger
   begins = fresh-agrees w slots queries equations (ap outcomeNumber accepted)
@@ -53,17 +63,11 @@ module _ (w : ℕ) (slots queries equations : List ℕ) (accepted : Accepted (ne
   agrees = keeps-all w cs (begin w slots queries equations cs) firstLedger begins
 
   pub whole : Whole w slots queries equations cs
-  unfolding compile compileNo
   whole = record {
     told = told-all w cs (begin w slots queries equations cs) firstLedger begins;
-    gates = λ label publics scratch. record {
-      by-questions = refl;
-      by-ledger =
-          ap outcomeOf
-          (compile-left w _ _ agrees label (length publics) (length scratch)
-          ∙ ap (λ (x : Lengths). firstNo (compileLeft x (lastLedger w slots queries equations cs) label (length publics) (length scratch)))
-          (lengths-all cs (begin w slots queries equations cs)));
-    };
-    gated = λ label publics scratch a. gated-at w _ _ agrees label publics scratch (accepted-no _ a);
-    traced = λ t. traced w (begins .least) (begins .most) t;
+    judged = subst
+        (λ (x : Lengths). Judged w x (last w slots queries equations cs .queries) (last w slots queries equations cs .equations)
+        (gateOf (last w slots queries equations cs)) (lastLedger w slots queries equations cs))
+        (lengths-all cs (begin w slots queries equations cs))
+        (judged w (last w slots queries equations cs) (lastLedger w slots queries equations cs) agrees);
   }

@@ -27,9 +27,9 @@ use Rattle.tickets.specs.Lines.{linesAsks}
 use Rattle.tickets.specs.Left.{setTicketsLeft}
 use Rattle.tickets.proofs.Laws.{lines-number, lines-left, setTickets-number}
 use Rattle.history.specs.Ledger.{Ledger}
-use Rattle.history.specs.Calls.{Call, Allocate, Set, SetList, Record, Mint, Equate, Tickets, State, asks, answer, after, firstOutcome, noted}
-use Rattle.history.specs.Left.{left}
-use Rattle.history.specs.Demand.{Accepted, lengthsOf, takesVars, Told, AllTold}
+use Rattle.history.specs.Calls.{Call, Allocate, Set, SetList, Record, Mint, Equate, Tickets, State, lengthsOf, asksWith, asks, answer, after, firstOutcome, noted}
+use Rattle.history.specs.Left.{leftWith, left}
+use Rattle.history.specs.Demand.{Accepted, takesVars, Told, AllTold}
 use Rattle.history.proofs.Lengths.{lengths-kept}
 use Rattle.history.proofs.Keeps.{Agrees, keeps}
 
@@ -44,7 +44,7 @@ first-no (first.Refused k) a = cc
 
 -- each call answers by the first no of its questions
 by-questions : (s : State) (c : Call) → answer s c .outcome ≡ outcomeOf (firstNo (asks s c))
-unfolding answer asks allocateVarsNo setVarNo pairNo setVarsNo setVarsRun addPermutationNo allocatePermutationNo addEquationNo
+unfolding answer asksWith allocateVarsNo setVarNo pairNo setVarsNo setVarsRun addPermutationNo allocatePermutationNo addEquationNo
 by-questions s (Allocate n) = first-outcome (allocateVarsNo (s .relation) (length (s .slots)) n) (s .relation .vars)
 by-questions s (Set p) = refl
 by-questions s (SetList vars values) =
@@ -70,7 +70,7 @@ module _ (w : ℕ) (s : State) (l : Ledger) (i : Agrees w s l) where
   rel = s .relation
 
   by-ledger : (c : Call) → answer s c .outcome ≡ outcomeOf (left w (lengthsOf s) l c)
-  unfolding answer left
+  unfolding answer leftWith
   by-ledger (Allocate n) =
       first-outcome (allocateVarsNo rel (length (s .slots)) n) (rel .vars) ∙ ap outcomeOf (allocateVars-left w _ _ _ _ _ _ _ _ i n)
   by-ledger (Set p) = ap outcomeOf (setVar-left w _ _ _ _ _ _ _ _ i p)

@@ -13,8 +13,9 @@ use Rattle.allocator.specs.Values.{joins}
 use Rattle.expr.specs.Equation.{Equation, equation}
 use Rattle.expr.specs.Weighted.{termsOf}
 use Rattle.expr.specs.declared.Weighted.{Weighted}
-use Rattle.permutation.specs.Relation.{allocateVarsAsks, setVarAsks, setVarsAsks}
-use Rattle.recording.specs.Relation.{addPermutationAsks, allocatePermutationAsks, addEquationAsks}
+use Rattle.permutation.specs.Sharing.{Sharing, alone}
+use Rattle.permutation.specs.Relation.{relationFront, allocateVarsFront, allocateVarsAsksWith, setVarAsksWith, setVarsFront}
+use Rattle.recording.specs.Relation.{addPermutationFront, addPermutationAsksWith, allocatePermutationFront, allocatePermutationAsksWith, addEquationFront, addEquationAsksWith}
 use Rattle.permutation.specs.Answers.{firstVar, newRelation, newSlots, allocateVars, allocateVarsSlots, setVar, setVarSlots, setVars, setVarsSlots}
 use Rattle.recording.specs.Answers.{addPermutation, addPermutationQueries, allocatePermutation, allocatePermutationSlots, allocatePermutationQueries, addEquation, addEquationEquations, upFrom}
 use Rattle.permutation.specs.declared.PermutationRelation.{PermutationRelation}
@@ -22,7 +23,7 @@ use Rattle.permutation.specs.declared.First.{First}
 use Rattle.permutation.specs.declared.First.the-variants as first
 use Rattle.permutation.specs.declared.SetVars.{SetVars}
 use Rattle.tickets.specs.Lines.{linesOf, linePair}
-use Rattle.tickets.specs.Tickets.{setTicketsAsks, setTickets, setTicketsSlots}
+use Rattle.tickets.specs.Tickets.{setTicketsAsksWith, setTickets, setTicketsSlots}
 use Rattle.tickets.specs.declared.SetTickets.{SetTickets}
 use Rattle.history.specs.Ledger.{Ledger}
 
@@ -48,18 +49,42 @@ abbrev pub state : PermutationRelation → (slots queries equations : List ℕ) 
 state relation slots queries equations =
     record { relation = relation; slots = slots; queries = queries; equations = equations }
 
+-- the lengths of the three stores; no call changes them
+pub record Lengths : Type 0 where
+  pub slots : ℕ
+  pub queries : ℕ
+  pub equations : ℕ
+
+-- those of a state
+abbrev pub lengthsOf : State → Lengths
+lengthsOf s = record { slots = length (s .slots); queries = length (s .queries); equations = length (s .equations) }
+
 -- ---- questions in order; a call answers the first that says no
--- of each call, on the state that it gets
-unfoldable pub asks : State → Call → List Question
-asks s (Allocate n) = allocateVarsAsks (s .relation) (length (s .slots)) n
-asks s (Set p) = setVarAsks (s .relation) (s .slots) p
-asks s (SetList vars values) =
-    setVarsAsks (s .relation) (length (s .slots)) vars values
+-- of each call, on the state that it gets, with what sharing puts in
+unfoldable pub asksWith : Sharing → State → Call → List Question
+asksWith h s (Allocate n) = allocateVarsAsksWith h (s .relation) (length (s .slots)) n
+asksWith h s (Set p) = setVarAsksWith h (s .relation) (s .slots) p
+asksWith h s (SetList vars values) =
+    setVarsFront h (s .relation) (length (s .slots)) vars values
     ++ (itemsAsks (pairAsks (s .relation .vars)) (λ p. p) (s .slots) (pairs vars values) ++ (question 9 (eqb (length vars) (length values)) ∷ []))
-asks s (Record input output) = addPermutationAsks (s .relation) (length (s .queries)) input output
-asks s (Mint input) = allocatePermutationAsks (s .relation) (length (s .slots)) (length (s .queries)) input
-asks s (Equate terms image) = addEquationAsks (s .relation) (length (s .equations)) (termsOf terms) image
-asks s (Tickets text) = setTicketsAsks (s .relation) (s .slots) text
+asksWith h s (Record input output) = addPermutationAsksWith h (s .relation) (length (s .queries)) input output
+asksWith h s (Mint input) = allocatePermutationAsksWith h (s .relation) (length (s .slots)) (length (s .queries)) input
+asksWith h s (Equate terms image) = addEquationAsksWith h (s .relation) (length (s .equations)) (termsOf terms) image
+asksWith h s (Tickets text) = setTicketsAsksWith h (s .relation) (s .slots) text
+
+-- of a relation alone
+abbrev pub asks : State → Call → List Question
+asks = asksWith alone
+
+-- the beginning of that list, up to the last question that sharing puts in: by the record and the lengths alone
+unfoldable pub frontAsks : Sharing → PermutationRelation → Lengths → Call → List Question
+frontAsks h rel lengths (Allocate n) = allocateVarsFront h rel (lengths .slots) n
+frontAsks h rel lengths (Set p) = relationFront h rel (lengths .slots)
+frontAsks h rel lengths (SetList vars values) = setVarsFront h rel (lengths .slots) vars values
+frontAsks h rel lengths (Record input output) = addPermutationFront h rel (lengths .queries) input output
+frontAsks h rel lengths (Mint input) = allocatePermutationFront h rel (lengths .slots) (lengths .queries) input
+frontAsks h rel lengths (Equate terms image) = addEquationFront h rel (lengths .equations)
+frontAsks h rel lengths (Tickets text) = relationFront h rel (lengths .slots)
 
 -- ---- answers: accepted or refused with the documents' number, the first new wire, and how many pairs or lines were accepted
 -- where a call has no such value it is 0

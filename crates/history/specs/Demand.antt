@@ -19,8 +19,8 @@ use Rattle.instance.specs.Parts.{Parts, pairVars}
 use Rattle.validity.specs.Check.{termsNo, equationNo, carried}
 use Rattle.history.specs.Ledger.{Ledger, known}
 use Rattle.history.specs.Sat.{Sat}
-use Rattle.history.specs.Calls.{Call, Allocate, Set, SetList, Record, Mint, Equate, Tickets, State, asks, answer, after, noted}
-use Rattle.history.specs.Left.{Lengths, left}
+use Rattle.history.specs.Calls.{Call, Allocate, Set, SetList, Record, Mint, Equate, Tickets, State, lengthsOf, asks, answer, after, noted}
+use Rattle.history.specs.Left.{left}
 
 -- ---- outcomes
 -- accepted: the outcome says so, and no number alone
@@ -34,10 +34,6 @@ pub record Answers (o : Outcome) (asked left : ℕ) : Type 0 where
   pub by-ledger : o ≡ outcomeOf left
 
 -- ---- along the list
--- the lengths of a state's three stores
-abbrev pub lengthsOf : State → Lengths
-lengthsOf s = record { slots = length (s .slots); queries = length (s .queries); equations = length (s .equations) }
-
 -- the calls that answer the number of the first new wire
 abbrev pub takesVars : Call → Bool
 takesVars (Allocate n) = true

@@ -13,6 +13,7 @@ use Rattle.words.specs.Pieces.{flat, wordsOf}
 use Rattle.utf8.specs.Utf8.{isUtf8}
 use Rattle.expr.specs.Equation.{equationsWords}
 use Rattle.expr.specs.Weighted.{termsOf}
+use Rattle.permutation.specs.Sharing.{nothing}
 use Rattle.permutation.specs.Left.{allocateVarsLeft, setVarLeft, setVarsLeft}
 use Rattle.recording.specs.Left.{addPermutationLeft, allocatePermutationLeft, addEquationLeft}
 use Rattle.tickets.specs.Left.{setTicketsLeft}
@@ -21,27 +22,25 @@ use Rattle.held.specs.Held.{labelAsks}
 use Rattle.validated.specs.Validated.{termwiseAsks}
 use Rattle.decoding.specs.Read.{Rooms}
 use Rattle.history.specs.Ledger.{Ledger, known}
-use Rattle.history.specs.Calls.{Call, Allocate, Set, SetList, Record, Mint, Equate, Tickets}
-
--- the lengths of the three stores; no call changes them
-pub record Lengths : Type 0 where
-  pub slots : ℕ
-  pub queries : ℕ
-  pub equations : ℕ
+use Rattle.history.specs.Calls.{Call, Allocate, Set, SetList, Record, Mint, Equate, Tickets, Lengths}
 
 -- ---- calls: 1 is never answered, nor 2 of the slots or a count
--- the number that a call answers, by ledger and lengths; 0 is yes
-unfoldable pub left : ℕ → Lengths → Ledger → Call → ℕ
-left w lengths l (Allocate n) = firstNo (allocateVarsLeft (l .count) (lengths .slots) n)
-left w lengths l (Set p) = firstNo (setVarLeft (l .count) (l .sets) p)
-left w lengths l (SetList vars values) = setVarsLeft (l .count) (l .sets) vars values
-left w lengths l (Record input output) =
+-- the number that a call answers, by ledger and lengths, with what comes after 5; 0 is yes
+unfoldable pub leftWith : (ℕ → List Question) → ℕ → Lengths → Ledger → Call → ℕ
+leftWith within w lengths l (Allocate n) = firstNo (allocateVarsLeft (within n) (l .count) (lengths .slots) n)
+leftWith within w lengths l (Set p) = firstNo (setVarLeft (l .count) (l .sets) p)
+leftWith within w lengths l (SetList vars values) = setVarsLeft (l .count) (l .sets) vars values
+leftWith within w lengths l (Record input output) =
     firstNo (addPermutationLeft w (length (l .queries)) (lengths .queries) input output)
-left w lengths l (Mint input) =
-    firstNo (allocatePermutationLeft w (l .count) (lengths .slots) (length (l .queries)) (lengths .queries) input)
-left w lengths l (Equate terms image) =
+leftWith within w lengths l (Mint input) =
+    firstNo (allocatePermutationLeft (within w) w (l .count) (lengths .slots) (length (l .queries)) (lengths .queries) input)
+leftWith within w lengths l (Equate terms image) =
     firstNo (addEquationLeft (l .equations) (lengths .equations) (termsOf terms) image)
-left w lengths l (Tickets text) = setTicketsLeft (l .count) (l .sets) text
+leftWith within w lengths l (Tickets text) = setTicketsLeft (l .count) (l .sets) text
+
+-- of a relation alone
+abbrev pub left : ℕ → Lengths → Ledger → Call → ℕ
+left = leftWith nothing
 
 -- ---- the gate
 -- of the n wires from i on, how many pass the test?

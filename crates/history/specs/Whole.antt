@@ -40,9 +40,9 @@ use Rattle.decoding.specs.declared.InstanceRead.{InstanceRead}
 use Rattle.decoding.specs.declared.WitnessRead.{WitnessRead}
 use Rattle.history.specs.Ledger.{Ledger}
 use Rattle.history.specs.Sat.{Evaluates}
-use Rattle.history.specs.Calls.{Call, State, fresh, firstLedger, log, final, ledgerOf}
+use Rattle.history.specs.Calls.{Call, State, Lengths, lengthsOf, fresh, firstLedger, log, final, ledgerOf}
 use Rattle.history.specs.Left.{compileLeft, instanceWriteLeft, instanceReadLeft, witnessWriteLeft, witnessReadLeft}
-use Rattle.history.specs.Demand.{Accepted, Answers, lengthsOf, AllTold, Checked}
+use Rattle.history.specs.Demand.{Accepted, Answers, AllTold, Checked}
 
 -- ---- the check
 -- a trace store that 2 and 11 let through: it holds the steps, and they are units
@@ -198,6 +198,35 @@ compiled s label publics scratch = compile (lentToGate s label publics scratch)
 abbrev pub publicsMade : State → (label publics scratch : List ℕ) → List ℕ
 publicsMade s label publics scratch = compilePublics (lentToGate s label publics scratch)
 
+-- a call of the gate: its questions, its answer, and the publics that it leaves
+pub record GateDone : Type 0 where
+  pub asked : List Question
+  pub answer : Compiled
+  pub publics : List ℕ
+
+-- of a relation alone, by what is lent beside the state
+abbrev pub gateOf : State → (label publics scratch : List ℕ) → GateDone
+gateOf s label publics scratch =
+    record {
+      asked = compiledAsks s label publics scratch;
+      answer = compiled s label publics scratch;
+      publics = publicsMade s label publics scratch;
+    }
+
+-- (2) to (4) of a relation's gate and what follows it, at its width: `lengths` are those of its stores, `queries` and
+-- `equations` as they are at the write, l is the ledger at the gate
+pub record Judged (w : ℕ) (lengths : Lengths) (queries equations : List ℕ) (gate : (label publics scratch : List ℕ) → GateDone) (l : Ledger)
+    : Type 0 where
+  -- (2) the gate
+  pub gates : (label publics scratch : List ℕ)
+      → Answers (gate label publics scratch .answer .outcome) (firstNo (gate label publics scratch .asked))
+      (firstNo (compileLeft lengths l label (length publics) (length scratch)))
+  -- (2) to (4) after a gate that accepts
+  pub gated : (label publics scratch : List ℕ) → Accepted (gate label publics scratch .answer .outcome)
+      → Gated w queries equations (gate label publics scratch .answer .instance) (gate label publics scratch .publics) label l
+  -- (2), (3) of a trace
+  pub traced : (t : TraceLent) → Traced w t
+
 -- ---- the whole
 module _ (w : ℕ) (slots queries equations : List ℕ) (cs : List Call) where
   -- what fresh leaves
@@ -216,13 +245,5 @@ module _ (w : ℕ) (slots queries equations : List ℕ) (cs : List Call) where
   pub record Whole : Type 0 where
     -- (1) along the list
     pub told : AllTold w begin firstLedger cs
-    -- (2) the gate, where the sizes of the three stores are what they were at first
-    pub gates : (label publics scratch : List ℕ)
-        → Answers (compiled last label publics scratch .outcome) (firstNo (compiledAsks last label publics scratch))
-        (firstNo (compileLeft (lengthsOf begin) lastLedger label (length publics) (length scratch)))
-    -- (2) to (4) after a gate that accepts
-    pub gated : (label publics scratch : List ℕ) → Accepted (compiled last label publics scratch .outcome)
-        → Gated w (last .queries) (last .equations) (compiled last label publics scratch .instance)
-        (publicsMade last label publics scratch) label lastLedger
-    -- (2), (3) of a trace
-    pub traced : (t : TraceLent) → Traced w t
+    -- (2) to (4), where the sizes of the three stores are what they were at first
+    pub judged : Judged w (lengthsOf begin) (last .queries) (last .equations) (gateOf last) lastLedger

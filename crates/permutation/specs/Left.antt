@@ -10,16 +10,16 @@ use lib.ListN.{length}
 use Rattle.limits.specs.Numbers.{maxCount}
 use Rattle.limits.specs.Questions.{pick, ask, _▸_, Question, firstNo, onYes}
 use Rattle.limits.specs.Asks.{storeAsks}
-use Rattle.allocator.specs.Slots.{Pair, growAsks, settingAsks, pairs}
+use Rattle.allocator.specs.Slots.{Pair, growAsksWith, settingAsks, pairs}
 use Rattle.allocator.specs.Values.{look, fits}
 use Rattle.allocator.specs.declared.VarValue.{VarValue}
 use Rattle.allocator.specs.declared.VarValue.the-variants as varValue
 use Rattle.permutation.specs.declared.IsAllocated.{IsAllocated}
 use Rattle.permutation.specs.declared.IsAllocated.the-variants as allocated
 
--- allocate: 5 and 6, where the wires would be too many
-abbrev pub allocateVarsLeft : ℕ → ℕ → ℕ → List Question
-allocateVarsLeft n slots a = growAsks n slots a
+-- allocate: 5 and 6, where the wires would be too many, and what is put in between
+abbrev pub allocateVarsLeft : List Question → ℕ → ℕ → ℕ → List Question
+allocateVarsLeft between n slots a = growAsksWith between n slots a
 
 -- the sets let a wire take a value: they give it none, or that one
 abbrev pub setsTake : List Pair → Pair → Bool

@@ -1,3 +1,4 @@
+pub mod Sharing
 pub mod Relation
 pub mod Numbers
 pub mod Answers

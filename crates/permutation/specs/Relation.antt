@@ -1,5 +1,6 @@
 -- What is asked of a relation's record and stores, and the questions of the calls on its wires, in document 01's
--- order, over the record and the lists that the lent stores hold. Assumes nothing.
+-- order, over the record and the lists that the lent stores hold. A call's list is in two parts: its front, up to the
+-- last question that sharing puts in, and the rest. Assumes nothing.
 use Prim.Native.Nat.{ℕ, _*_}
 use mathlib.Core.List.{List, [], _∷_, _++_}
 use lib.Dec.{ltb, leb}
@@ -8,7 +9,8 @@ use Rattle.limits.specs.Numbers.{maxCount}
 use Rattle.limits.specs.Questions.{Question, question, inTurn}
 use Rattle.limits.specs.Asks.{widthAsks, storeAsks, countAsks}
 use Rattle.words.specs.Pieces.{heldAsks}
-use Rattle.allocator.specs.Slots.{Pair, slotsAsks, growAsks, pairAsks}
+use Rattle.allocator.specs.Slots.{Pair, fitAsks, mostAsks, roomAsks, pairAsks}
+use Rattle.permutation.specs.Sharing.{Sharing, alone, whereCounted}
 use Rattle.permutation.specs.declared.PermutationRelation.{PermutationRelation}
 
 -- ---- 2: each count fits the store that is lent, counted by itself
@@ -22,51 +24,88 @@ equationsAsks rel len =
     storeAsks len ++ (question 2 (leb (rel .words) len) ∷ question 2 (leb (2 * rel .equations) len) ∷ [])
 
 -- ---- each call's questions, a group to a line
--- fresh: 1, 2, 6
-abbrev pub newRelationAsks : ℕ → ℕ → List Question
-newRelationAsks width len = inTurn (
+-- fresh, with what an opening puts in after 2: 1, 2, 6
+abbrev pub newRelationAsksWith : List Question → ℕ → ℕ → List Question
+newRelationAsksWith opening width len = inTurn (
     widthAsks width
     ∷ storeAsks len
+    ∷ opening
     ∷ (question 6 (leb 1 len) ∷ [])
     ∷ [])
 
--- every call that looks at the slots begins with 1 and 2
-abbrev pub relationAsks : PermutationRelation → ℕ → List Question
-relationAsks rel len = widthAsks (rel .width) ++ slotsAsks (rel .vars) len
+-- fresh: 1, 2, 6
+abbrev pub newRelationAsks : ℕ → ℕ → List Question
+newRelationAsks = newRelationAsksWith []
 
--- allocate: 1, 2, 5, 6
+-- every call that looks at the slots begins with 1 and 2
+abbrev pub relationAsksWith : Sharing → PermutationRelation → ℕ → List Question
+relationAsksWith h rel len = widthAsks (rel .width) ++ (storeAsks len ++ whereCounted h (fitAsks (rel .vars) len))
+
+-- of a relation alone
+abbrev pub relationAsks : PermutationRelation → ℕ → List Question
+relationAsks = relationAsksWith alone
+
+-- and with what follows 2: the front of set, tickets and value of a wire
+abbrev pub relationFront : Sharing → PermutationRelation → ℕ → List Question
+relationFront h rel len = relationAsksWith h rel len ++ h .opened
+
+-- allocate: 1, 2, 5 ..
+abbrev pub allocateVarsFront : Sharing → PermutationRelation → ℕ → ℕ → List Question
+allocateVarsFront h rel len n = relationFront h rel len ++ (mostAsks (rel .vars) n ++ h .within n)
+
+-- .. and 6
+abbrev pub allocateVarsAsksWith : Sharing → PermutationRelation → ℕ → ℕ → List Question
+allocateVarsAsksWith h rel len n = allocateVarsFront h rel len n ++ roomAsks (rel .vars) len n
+
+-- alone: 1, 2, 5, 6
 abbrev pub allocateVarsAsks : PermutationRelation → ℕ → ℕ → List Question
-allocateVarsAsks rel len n = inTurn (
-    relationAsks rel len
-    ∷ growAsks (rel .vars) len n
-    ∷ [])
+allocateVarsAsks = allocateVarsAsksWith alone
 
 -- set: 1, 2, 3, 4, 7, 8
+abbrev pub setVarAsksWith : Sharing → PermutationRelation → List ℕ → Pair → List Question
+setVarAsksWith h rel slots p = relationFront h rel (length slots) ++ pairAsks (rel .vars) slots p
+
+-- alone
 abbrev pub setVarAsks : PermutationRelation → List ℕ → Pair → List Question
-setVarAsks rel slots p = inTurn (
-    relationAsks rel (length slots)
-    ∷ pairAsks (rel .vars) slots p
-    ∷ [])
+setVarAsks = setVarAsksWith alone
 
 -- set list: 1, and 2 of the two lists too; what follows, 3, 4, 7, 8 pair by pair and then 9, is `setVarsRun`
-abbrev pub setVarsAsks : PermutationRelation → ℕ → List ℕ → List ℕ → List Question
-setVarsAsks rel len vars values = inTurn (
-    relationAsks rel len
+abbrev pub setVarsFront : Sharing → PermutationRelation → ℕ → List ℕ → List ℕ → List Question
+setVarsFront h rel len vars values = inTurn (
+    relationAsksWith h rel len
     ∷ storeAsks (length vars)
     ∷ storeAsks (length values)
+    ∷ h .opened
     ∷ [])
+
+-- alone
+abbrev pub setVarsAsks : PermutationRelation → ℕ → List ℕ → List ℕ → List Question
+setVarsAsks = setVarsFront alone
+
+-- 3 of one wire
+abbrev pub varAsks : ℕ → List Question
+varAsks var = question 3 (ltb var maxCount) ∷ []
 
 -- value of a wire on slots: 1, 2, 3
+abbrev pub valueOfAsksWith : Sharing → PermutationRelation → ℕ → ℕ → List Question
+valueOfAsksWith h rel len var = relationFront h rel len ++ varAsks var
+
+-- alone
 abbrev pub valueOfAsks : PermutationRelation → ℕ → ℕ → List Question
-valueOfAsks rel len var = inTurn (
-    relationAsks rel len
-    ∷ (question 3 (ltb var maxCount) ∷ [])
+valueOfAsks = valueOfAsksWith alone
+
+-- is it allocated: 1, 2 ..
+abbrev pub isAllocatedFront : Sharing → PermutationRelation → List Question
+isAllocatedFront h rel = inTurn (
+    widthAsks (rel .width)
+    ∷ whereCounted h (countAsks (rel .vars))
+    ∷ h .opened
     ∷ [])
 
--- is it allocated: 1, 2, 3
+-- .. and 3
+abbrev pub isAllocatedAsksWith : Sharing → PermutationRelation → ℕ → List Question
+isAllocatedAsksWith h rel var = isAllocatedFront h rel ++ varAsks var
+
+-- alone
 abbrev pub isAllocatedAsks : PermutationRelation → ℕ → List Question
-isAllocatedAsks rel var = inTurn (
-    widthAsks (rel .width)
-    ∷ countAsks (rel .vars)
-    ∷ (question 3 (ltb var maxCount) ∷ [])
-    ∷ [])
+isAllocatedAsks = isAllocatedAsksWith alone

@@ -10,7 +10,7 @@ use Rattle.limits.specs.Questions.{Question, question}
 use Rattle.limits.specs.Asks.{storeAsks}
 use Rattle.words.specs.Store.{allBelow}
 use Rattle.words.specs.Pieces.{wordsOf}
-use Rattle.allocator.specs.Slots.{growAsks}
+use Rattle.allocator.specs.Slots.{mostAsks, roomAsks}
 use Rattle.expr.specs.Equation.{Term, Equation, termVars, termWeights, equationSize, equationsWords}
 
 -- record: 2 of the store's and the lists' sizes, 9, 3, 10
@@ -25,14 +25,14 @@ addPermutationLeft width held len input output =
     ∷ question 10 (leb (wordsOf width (held + 1)) len)
     ∷ [])))
 
--- mint: 2 of the store's and the list's size, 9, 3, 5, 6, 10
-abbrev pub allocatePermutationLeft : ℕ → ℕ → ℕ → ℕ → ℕ → List ℕ → List Question
-allocatePermutationLeft width n slots held len input =
+-- mint: 2 of the store's and the list's size, 9, 3, 5, what is put in between, 6, 10
+abbrev pub allocatePermutationLeft : List Question → ℕ → ℕ → ℕ → ℕ → ℕ → List ℕ → List Question
+allocatePermutationLeft between width n slots held len input =
     storeAsks len
     ++ (storeAsks (length input)
     ++ (question 9 (eqb (length input) width)
     ∷ question 3 (allBelow maxCount input)
-    ∷ (growAsks n slots width ++ (question 10 (leb (wordsOf width (held + 1)) len) ∷ []))))
+    ∷ (mostAsks n width ++ (between ++ (roomAsks n slots width ++ (question 10 (leb (wordsOf width (held + 1)) len) ∷ []))))))
 
 -- equation: 2 of the store's size, 3, 4, 10
 abbrev pub addEquationLeft : List Equation → ℕ → List Term → ℕ → List Question

@@ -6,14 +6,19 @@ use Rattle.limits.specs.Questions.{Question, firstNo}
 use Rattle.limits.specs.Outcome.{outcomeOf}
 use Rattle.allocator.specs.Slots.{SetRun, runAfter}
 use Rattle.allocator.specs.Assign.{Runs}
-use Rattle.permutation.specs.Relation.{relationAsks}
+use Rattle.permutation.specs.Sharing.{Sharing, alone}
+use Rattle.permutation.specs.Relation.{relationAsks, relationFront}
 use Rattle.permutation.specs.declared.PermutationRelation.{PermutationRelation}
 use Rattle.tickets.specs.Lines.{linesAsks, setLines}
 use Rattle.tickets.specs.declared.SetTickets.{SetTickets}
 
 -- tickets: 1, 2, then 40, 3, 41, 7, 8 line by line
+abbrev pub setTicketsAsksWith : Sharing → PermutationRelation → List ℕ → List ℕ → List Question
+setTicketsAsksWith h rel slots text = relationFront h rel (length slots) ++ linesAsks (rel .vars) slots text
+
+-- alone
 abbrev pub setTicketsAsks : PermutationRelation → List ℕ → List ℕ → List Question
-setTicketsAsks rel slots text = relationAsks rel (length slots) ++ linesAsks (rel .vars) slots text
+setTicketsAsks = setTicketsAsksWith alone
 
 -- the number, how many lines were accepted, and the slots: nothing is tried where 1 or 2 says no
 unfoldable pub setTicketsRun : PermutationRelation → List ℕ → List ℕ → SetRun

@@ -1,8 +1,14 @@
 -- `recording::add_permutation_no` meets its contract: its questions in a row.
 -- Assumes nothing.
 use denote.Ref.{now}
+use mathlib.Core.List.{[], _∷_}
+use lib.ListN.{length}
+use Rattle.limits.specs.Numbers.{maxCount}
+use Rattle.limits.specs.Asks.{widthAsks, storeAsks, countAsks}
 use Rattle.limits.proofs.Questions.{chain-all}
-use Rattle.recording.specs.Relation.{addPermutationGroups}
+use Rattle.words.specs.Pieces.{halvesAsks}
+use Rattle.permutation.specs.Relation.{queriesAsks}
+use Rattle.recording.specs.Relation.{queryRoom}
 use Rattle.recording.specs.Numbers.{addPermutationNo}
 use borrow.Author.Needs.{needs}
 use Rattle.recording.proofs.add_permutation_no.Statement.{statement}
@@ -42,7 +48,15 @@ returns c =
       c .before .before .before .before .before .asked-held .ensures,
       c .before .before .before .before .before .before .asked-width .ensures,
     )
-    (chain-all (addPermutationGroups (a .rel) (a .len) (now (a .input)) (now (a .output))))
+    (chain-all
+    (widthAsks (a .rel .width)
+    ∷ queriesAsks (a .rel) (a .len)
+    ∷ countAsks (a .rel .vars)
+    ∷ storeAsks (length (now (a .input)))
+    ∷ storeAsks (length (now (a .output)))
+    ∷ halvesAsks (a .rel .width) 3 maxCount (now (a .input)) (now (a .output))
+    ∷ queryRoom (a .rel) (a .len)
+    ∷ []))
 
 pub add-permutation-no-spec : {M : Type 1} → statement M
 add-permutation-no-spec =

@@ -1,9 +1,15 @@
 -- `recording::allocate_permutation_no` meets its contract: its questions in a row.
 -- Assumes nothing.
 use denote.Ref.{now}
+use mathlib.Core.List.{[], _∷_}
+use lib.ListN.{length}
+use Rattle.limits.specs.Numbers.{maxCount}
+use Rattle.limits.specs.Asks.{storeAsks}
 use Rattle.limits.proofs.Questions.{chain-from}
-use Rattle.permutation.specs.Relation.{relationAsks}
-use Rattle.recording.specs.Relation.{allocatePermutationGroups}
+use Rattle.words.specs.Pieces.{halfAsks}
+use Rattle.allocator.specs.Slots.{growAsks}
+use Rattle.permutation.specs.Relation.{relationAsks, queriesAsks}
+use Rattle.recording.specs.Relation.{queryRoom}
 use Rattle.recording.specs.Numbers.{allocatePermutationNo}
 use borrow.Author.Needs.{needs}
 use Rattle.recording.proofs.allocate_permutation_no.Statement.{statement}
@@ -39,7 +45,13 @@ returns c =
       c .before .before .before .before .asked-held .ensures,
       c .before .before .before .before .before .asked-relation .ensures,
     )
-    (chain-from (relationAsks (a .rel) (a .slots)) (allocatePermutationGroups (a .rel) (a .slots) (a .room) (now (a .input))))
+    (chain-from (relationAsks (a .rel) (a .slots))
+    (queriesAsks (a .rel) (a .room)
+    ∷ storeAsks (length (now (a .input)))
+    ∷ halfAsks (a .rel .width) 3 maxCount (now (a .input))
+    ∷ growAsks (a .rel .vars) (a .slots) (a .rel .width)
+    ∷ queryRoom (a .rel) (a .room)
+    ∷ []))
 
 pub allocate-permutation-no-spec : {M : Type 1} → statement M
 allocate-permutation-no-spec =
