@@ -23,7 +23,7 @@ use Rattle.history.proofs.Traces.{traced}
 use Rattle.history.proofs.Files.{filed}
 
 -- of the instance and the publics that the gate made
-gated-as : (w : ℕ) (queries equations : List ℕ) (x y : PermutationInstance) (a b label : List ℕ) (l : Ledger) → x ≡ y → a ≡ b
+pub gated-as : (w : ℕ) (queries equations : List ℕ) (x y : PermutationInstance) (a b label : List ℕ) (l : Ledger) → x ≡ y → a ≡ b
     → Gated w queries equations y b label l → Gated w queries equations x a label l
 gated-as w queries equations x y a b label l e h g =
     subst (λ (v : PermutationInstance). Gated w queries equations v a label l) (sym e)

@@ -6,7 +6,7 @@ use mathlib.Core.Bool.{true}
 use mathlib.Core.List.{List, [], _∷_, _++_}
 use lib.Dec.{eqb}
 use lib.ListN.{length}
-use Rattle.limits.specs.Questions.{ask, _▸_, question, firstNo}
+use Rattle.limits.specs.Questions.{ask, _▸_, Question, question, firstNo}
 use Rattle.limits.proofs.Questions.{▸-zero, firstNo-append}
 use Rattle.allocator.specs.Slots.{pairs, pairAsks, pairNo, ran, setRun, itemsAsks}
 use Rattle.allocator.proofs.Run.{run-number, after-number}
@@ -15,6 +15,7 @@ use Rattle.limits.specs.declared.Outcome.the-variants as outcome
 use Rattle.permutation.specs.declared.PermutationRelation.{PermutationRelation}
 use Rattle.permutation.specs.declared.First.{First}
 use Rattle.permutation.specs.declared.First.the-variants as first
+use Rattle.permutation.specs.Sharing.{afterFive, nothing}
 use Rattle.permutation.specs.Relation.{setVarsAsks}
 use Rattle.permutation.specs.Numbers.{allocateVarsNo, setVarNo, setVarsNo}
 use Rattle.recording.specs.Numbers.{addPermutationNo, allocatePermutationNo, addEquationNo}
@@ -42,22 +43,26 @@ first-no : (f : First) → Accepted (firstOutcome f) → firstNumber f ≡ 0
 first-no (first.Var x) a = refl
 first-no (first.Refused k) a = cc
 
--- each call answers by the first no of its questions
-by-questions : (s : State) (c : Call) → answer s c .outcome ≡ outcomeOf (firstNo (asks s c))
-unfolding answer asksWith allocateVarsNo setVarNo pairNo setVarsNo setVarsRun addPermutationNo allocatePermutationNo addEquationNo
-by-questions s (Allocate n) = first-outcome (allocateVarsNo (s .relation) (length (s .slots)) n) (s .relation .vars)
-by-questions s (Set p) = refl
-by-questions s (SetList vars values) =
+-- a set list's number
+setVars-number : (s : State) (vars values : List ℕ) → setVarsRun (s .relation) (s .slots) vars values .number ≡ firstNo (asks s (SetList vars values))
+unfolding asksWith pairNo setVarsNo setVarsRun
+setVars-number s vars values =
     let n = s .relation .vars in
     let before = setVarsAsks (s .relation) (length (s .slots)) vars values in
     let these = itemsAsks (pairAsks n) (λ p. p) (s .slots) (pairs vars values) in
     let nine = question 9 (eqb (length vars) (length values)) ∷ [] in
     let r = setRun n (s .slots) (pairs vars values) in
-    ap outcomeOf
-    (after-number (firstNo before) (ran (r .number ▸ ask 9 (eqb (length vars) (length values))) (r .accepted) (r .slots)) (s .slots)
+    after-number (firstNo before) (ran (r .number ▸ ask 9 (eqb (length vars) (length values))) (r .accepted) (r .slots)) (s .slots)
     ∙ ap (λ (k : ℕ). firstNo before ▸ k)
     (ap₂ _▸_ (run-number (pairNo n) (λ p. p) (pairAsks n) (λ t p. refl) (s .slots) (pairs vars values)) (sym (▸-zero _)) ∙ sym (firstNo-append these nine))
-    ∙ sym (firstNo-append before (these ++ nine)))
+    ∙ sym (firstNo-append before (these ++ nine))
+
+-- each call answers by the first no of its questions
+pub by-questions : (s : State) (c : Call) → answer s c .outcome ≡ outcomeOf (firstNo (asks s c))
+unfolding answer asksWith allocateVarsNo setVarNo addPermutationNo allocatePermutationNo addEquationNo
+by-questions s (Allocate n) = first-outcome (allocateVarsNo (s .relation) (length (s .slots)) n) (s .relation .vars)
+by-questions s (Set p) = refl
+by-questions s (SetList vars values) = ap outcomeOf (setVars-number s vars values)
 by-questions s (Record input output) = refl
 by-questions s (Mint input) =
     first-outcome (allocatePermutationNo (s .relation) (length (s .slots)) (length (s .queries)) input) (s .relation .vars)
@@ -69,24 +74,23 @@ module _ (w : ℕ) (s : State) (l : Ledger) (i : Agrees w s l) where
   abbrev rel : PermutationRelation
   rel = s .relation
 
-  by-ledger : (c : Call) → answer s c .outcome ≡ outcomeOf (left w (lengthsOf s) l c)
-  unfolding answer leftWith
-  by-ledger (Allocate n) =
-      first-outcome (allocateVarsNo rel (length (s .slots)) n) (rel .vars) ∙ ap outcomeOf (allocateVars-left w _ _ _ _ _ _ _ _ i n)
-  by-ledger (Set p) = ap outcomeOf (setVar-left w _ _ _ _ _ _ _ _ i p)
-  by-ledger (SetList vars values) = ap outcomeOf (setVars-left w _ _ _ _ _ _ _ _ i vars values)
-  by-ledger (Record input output) = ap outcomeOf (addPermutation-left w _ _ _ _ _ _ _ _ i input output)
-  by-ledger (Mint input) =
-      first-outcome (allocatePermutationNo rel (length (s .slots)) (length (s .queries)) input) (rel .vars)
-      ∙ ap outcomeOf (allocatePermutation-left w _ _ _ _ _ _ _ _ i input)
-  by-ledger (Equate terms image) = ap outcomeOf (addEquation-left w _ _ _ _ _ _ _ _ i (termsOf terms) image)
-  by-ledger (Tickets text) =
-      ap outcomeOf
-      (setTickets-number rel (s .slots) text
-      ∙ after-relation w _ _ _ _ _ _ _ _ i (linesAsks (rel .vars) (s .slots) text)
+  -- with what comes after 5
+  pub number-left : (within : ℕ → List Question) (c : Call) → firstNo (asksWith (afterFive within) s c) ≡ leftWith within w (lengthsOf s) l c
+  unfolding asksWith leftWith setVarNo addPermutationNo addEquationNo
+  number-left within (Allocate n) = allocateVars-left w _ _ _ _ _ _ _ _ i within n
+  number-left within (Set p) = setVar-left w _ _ _ _ _ _ _ _ i p
+  number-left within (SetList vars values) = sym (setVars-number s vars values) ∙ setVars-left w _ _ _ _ _ _ _ _ i vars values
+  number-left within (Record input output) = addPermutation-left w _ _ _ _ _ _ _ _ i input output
+  number-left within (Mint input) = allocatePermutation-left w _ _ _ _ _ _ _ _ i within input
+  number-left within (Equate terms image) = addEquation-left w _ _ _ _ _ _ _ _ i (termsOf terms) image
+  number-left within (Tickets text) =
+      after-relation w _ _ _ _ _ _ _ _ i (linesAsks (rel .vars) (s .slots) text)
       ∙ sym (lines-number (rel .vars) (s .slots) text)
       ∙ lines-left (rel .vars) (s .slots) (l .sets) text (i .inSlots)
-      ∙ ap (λ (k : ℕ). setTicketsLeft k (l .sets) text) (i .count))
+      ∙ ap (λ (k : ℕ). setTicketsLeft k (l .sets) text) (i .count)
+
+  by-ledger : (c : Call) → answer s c .outcome ≡ outcomeOf (left w (lengthsOf s) l c)
+  by-ledger c = by-questions s c ∙ ap outcomeOf (number-left nothing c)
 
   first-is : (c : Call) → takesVars c ≡ true → Accepted (answer s c .outcome) → answer s c .first ≡ l .count
   unfolding answer
@@ -98,7 +102,7 @@ module _ (w : ℕ) (s : State) (l : Ledger) (i : Agrees w s l) where
   first-is (Equate terms image) t a = cc
   first-is (Tickets text) t a = cc
 
-  told : (c : Call) → Told w s l c
+  pub told : (c : Call) → Told w s l c
   told c = record {
     answers = record { by-questions = by-questions s c; by-ledger = by-ledger c };
     lengths = lengths-kept s c;

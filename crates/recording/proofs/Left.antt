@@ -15,13 +15,13 @@ use Rattle.words.specs.Store.{allBelow}
 use Rattle.words.specs.Pieces.{wordsOf, flat}
 use Rattle.words.proofs.Held.{begins-fits, flat-length}
 use Rattle.allocator.specs.Slots.{Pair, pairs, mostAsks, roomAsks, growAsksWith, pairAsks, pairNo}
-use Rattle.permutation.specs.Sharing.{afterFive, nothing}
+use Rattle.permutation.specs.Sharing.{afterFive}
 use Rattle.expr.specs.Equation.{Term, Equation, termVars, termWeights, equationSize, equationsWords}
 use Rattle.expr.proofs.Held.{two-each}
 use Rattle.permutation.specs.Relation.{relationAsks, queriesAsks, allocateVarsAsksWith}
 use Rattle.recording.specs.Relation.{queryRoom, allocatePermutationAsksWith}
-use Rattle.permutation.specs.Numbers.{allocateVarsNo, setVarNo, setVarsNo, valueOfNo, isAllocatedNo}
-use Rattle.recording.specs.Numbers.{addPermutationNo, allocatePermutationNo, addEquationNo}
+use Rattle.permutation.specs.Numbers.{setVarNo, setVarsNo, valueOfNo, isAllocatedNo}
+use Rattle.recording.specs.Numbers.{addPermutationNo, addEquationNo}
 use Rattle.permutation.specs.Answers.{valueOf, isAllocated, setVarsRun}
 use Rattle.recording.specs.State.{Holds}
 use Rattle.permutation.specs.Left.{allocateVarsLeft, setVarLeft, pairsLeft, setVarsLeft, valueLeft, isAllocatedLeft}
@@ -62,15 +62,11 @@ module _ (width : ℕ) (rel : PermutationRelation) (slots queries equations : Li
 
   -- ---- the calls on slots
   -- with what comes after 5
-  pub allocateVars-left-with : (within : ℕ → List Question) (a : ℕ)
+  pub allocateVars-left : (within : ℕ → List Question) (a : ℕ)
       → firstNo (allocateVarsAsksWith (afterFive within) rel (length slots) a) ≡ firstNo (allocateVarsLeft (within a) n (length slots) a)
-  allocateVars-left-with within a =
+  allocateVars-left within a =
       after-relation (growAsksWith (within a) (rel .vars) (length slots) a)
       ∙ ap (λ (k : ℕ). firstNo (growAsksWith (within a) k (length slots) a)) (o .count)
-
-  pub allocateVars-left : (a : ℕ) → allocateVarsNo rel (length slots) a ≡ firstNo (allocateVarsLeft [] n (length slots) a)
-  unfolding allocateVarsNo
-  allocateVars-left a = allocateVars-left-with nothing a
 
   pub setVar-left : (p : Pair) → setVarNo rel slots p ≡ firstNo (setVarLeft n sets p)
   unfolding setVarNo pairNo
@@ -108,10 +104,10 @@ module _ (width : ℕ) (rel : PermutationRelation) (slots queries equations : Li
       ∙ ap (λ (k : ℕ). ask 2 (leb (length queries) maxCount) ▸ k) (goes-on _ _ held-queries ∙ after-count _)
       ∙ ap₂ (λ (w h : ℕ). firstNo (addPermutationLeft w h (length queries) input output)) (o .widthIs) (o .inQueries .counts)
 
-  pub allocatePermutation-left-with : (within : ℕ → List Question) (input : List ℕ)
+  pub allocatePermutation-left : (within : ℕ → List Question) (input : List ℕ)
       → firstNo (allocatePermutationAsksWith (afterFive within) rel (length slots) (length queries) input)
       ≡ firstNo (allocatePermutationLeft (within width) width n (length slots) (length asked) (length queries) input)
-  allocatePermutation-left-with within input =
+  allocatePermutation-left within input =
       after-relation
       (queriesAsks rel (length queries) ++ (storeAsks (length input)
       ++ (question 9 (eqb (length input) (rel .width))
@@ -120,12 +116,6 @@ module _ (width : ℕ) (rel : PermutationRelation) (slots queries equations : Li
       ∙ ap (λ (k : ℕ). ask 2 (leb (length queries) maxCount) ▸ k) (goes-on _ _ held-queries)
       ∙ ap (λ (k : ℕ). firstNo (allocatePermutationLeft (within (rel .width)) (rel .width) k (length slots) (rel .queries) (length queries) input)) (o .count)
       ∙ ap₂ (λ (w h : ℕ). firstNo (allocatePermutationLeft (within w) w n (length slots) h (length queries) input)) (o .widthIs) (o .inQueries .counts)
-
-  pub allocatePermutation-left : (input : List ℕ)
-      → allocatePermutationNo rel (length slots) (length queries) input
-      ≡ firstNo (allocatePermutationLeft [] width n (length slots) (length asked) (length queries) input)
-  unfolding allocatePermutationNo
-  allocatePermutation-left input = allocatePermutation-left-with nothing input
 
   -- ---- the equations
   pub addEquation-left : (terms : List Term) (image : ℕ)
