@@ -67,9 +67,13 @@ moreVars rel n = relation (rel .width) (rel .vars + n) (rel .queries) (rel .equa
 abbrev pub newRelation : ℕ → List ℕ → Recorded
 newRelation width slots = recordedOf (newRelationNo width (length slots)) (relation width 1 0 0 0) (relation 0 0 0 0 0)
 
+-- the slots where it is accepted
+abbrev pub freshSlots : List ℕ → List ℕ
+freshSlots slots = set slots 0 0
+
 -- the slots afterwards
 abbrev pub newSlots : ℕ → List ℕ → List ℕ
-newSlots width slots = onYes (newRelationNo width (length slots)) (set slots 0 0) slots
+newSlots width slots = onYes (newRelationNo width (length slots)) (freshSlots slots) slots
 
 -- ---- allocate: the next n wires, all slots unassigned, answered by the wire count before the call
 -- the answer, with n wires more in the record

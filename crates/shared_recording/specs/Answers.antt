@@ -1,0 +1,72 @@
+-- The calls of relation r of an allocator that record: the number of the front of each call's questions, its answer, and
+-- the stores afterwards, in the way of `shared_vars/specs/Answers`. Assumes nothing.
+use Prim.Native.Nat.{ℕ, _+_}
+use mathlib.Core.List.{List}
+use lib.ListN.{length}
+use Rattle.limits.specs.Questions.{firstNo, onYes}
+use Rattle.expr.specs.Equation.{Term}
+use Rattle.recording.specs.Relation.{addPermutationFront, allocatePermutationFront, addEquationFront}
+use Rattle.recording.specs.Answers.{addPermutation, addPermutationQueries, allocatePermutation, allocatePermutationSlots, allocatePermutationQueries, addEquation, addEquationEquations}
+use Rattle.sharing.specs.Shares.{onAllocator, shares}
+use Rattle.sharing.specs.Answers.{allocatedOn, allocatedNot, recordedOn, recordedNot}
+use Rattle.sharing.specs.declared.VarAllocator.{VarAllocator}
+use Rattle.sharing.specs.declared.SharedRelation.{SharedRelation}
+use Rattle.sharing.specs.declared.AllocatedOn.{AllocatedOn}
+use Rattle.sharing.specs.declared.RecordedOn.{RecordedOn}
+
+module _ (a : VarAllocator) (r : ℕ) (m : SharedRelation) where
+  -- ---- numbers of fronts
+  -- record: 1, 2, 42
+  unfoldable pub addPermutationOnNo : (len : ℕ) → (input output : List ℕ) → ℕ
+  addPermutationOnNo len input output = firstNo (addPermutationFront (shares a r m) (onAllocator a m) len input output)
+
+  -- mint: 1, 2, 42, 9, 3, 5, 43
+  unfoldable pub allocatePermutationOnNo : (slots len : ℕ) → (input : List ℕ) → ℕ
+  allocatePermutationOnNo slots len input = firstNo (allocatePermutationFront (shares a r m) (onAllocator a m) slots len input)
+
+  -- equation: 1, 2, 42
+  unfoldable pub addEquationOnNo : (len : ℕ) → ℕ
+  addEquationOnNo len = firstNo (addEquationFront (shares a r m) (onAllocator a m) len)
+
+  -- ---- record
+  -- the answer
+  abbrev pub addPermutationOn : (queries input output : List ℕ) → RecordedOn
+  addPermutationOn queries input output =
+      let k = addPermutationOnNo (length queries) input output in
+      onYes k (recordedOn m (addPermutation (onAllocator a m) queries input output)) (recordedNot m k)
+
+  -- the queries afterwards
+  abbrev pub addPermutationOnQueries : (queries input output : List ℕ) → List ℕ
+  addPermutationOnQueries queries input output =
+      onYes (addPermutationOnNo (length queries) input output) (addPermutationQueries (onAllocator a m) queries input output) queries
+
+  -- ---- mint
+  -- the answer: the relation obtains as many wires more as it is wide
+  abbrev pub allocatePermutationOn : (slots queries input : List ℕ) → AllocatedOn
+  allocatePermutationOn slots queries input =
+      let k = allocatePermutationOnNo (length slots) (length queries) input in
+      onYes k (allocatedOn a m (allocatePermutation (onAllocator a m) slots queries input) (m .obtained + m .width)) (allocatedNot a m k)
+
+  -- the slots afterwards
+  abbrev pub allocatePermutationOnSlots : (slots queries input : List ℕ) → List ℕ
+  allocatePermutationOnSlots slots queries input =
+      onYes (allocatePermutationOnNo (length slots) (length queries) input)
+      (allocatePermutationSlots (onAllocator a m) slots queries input) slots
+
+  -- the queries afterwards
+  abbrev pub allocatePermutationOnQueries : (slots queries input : List ℕ) → List ℕ
+  allocatePermutationOnQueries slots queries input =
+      onYes (allocatePermutationOnNo (length slots) (length queries) input)
+      (allocatePermutationQueries (onAllocator a m) slots queries input) queries
+
+  -- ---- equation
+  -- the answer
+  abbrev pub addEquationOn : (equations : List ℕ) → List Term → ℕ → RecordedOn
+  addEquationOn equations terms image =
+      let k = addEquationOnNo (length equations) in
+      onYes k (recordedOn m (addEquation (onAllocator a m) equations terms image)) (recordedNot m k)
+
+  -- the equations afterwards
+  abbrev pub addEquationOnEquations : (equations : List ℕ) → List Term → ℕ → List ℕ
+  addEquationOnEquations equations terms image =
+      onYes (addEquationOnNo (length equations)) (addEquationEquations (onAllocator a m) equations terms image) equations

@@ -1,0 +1,55 @@
+-- Opening a relation on an allocator (the source's `with_allocator`): the first does to the slots what fresh does, later
+-- ones leave slots and wire count as they are. Assumes nothing.
+use Prim.Native.Nat.{ℕ, _+_}
+use mathlib.Core.List.{List, [], _∷_, _++_}
+use lib.Dec.{ltb, leb}
+use lib.ListN.{length}
+use Rattle.limits.specs.Questions.{Question, question, firstNo, inTurn, pick, onYes}
+use Rattle.limits.specs.Outcome.{outcomeOf}
+use Rattle.allocator.specs.Slots.{fitAsks}
+use Rattle.permutation.specs.Relation.{newRelationAsksWith}
+use Rattle.permutation.specs.Answers.{freshSlots}
+use Rattle.sharing.specs.Shares.{maxRelations, anyOpened}
+use Rattle.sharing.specs.declared.VarAllocator.{VarAllocator}
+use Rattle.sharing.specs.declared.SharedRelation.{SharedRelation}
+use Rattle.sharing.specs.declared.Opened.{Opened}
+
+-- what an opening puts in after the store's 2: of the wire count where a relation is opened, of the allocator, and 42, is
+-- there a number left?
+abbrev pub openingAsks : VarAllocator → ℕ → List Question
+openingAsks a len =
+    pick (anyOpened a) (fitAsks (a .vars) len) []
+    ++ (question 2 (leb (a .opened) maxRelations) ∷ question 42 (ltb (a .opened) maxRelations) ∷ [])
+
+-- 1, 2, 42, 6
+abbrev pub withAllocatorAsks : VarAllocator → ℕ → ℕ → List Question
+withAllocatorAsks a width len = newRelationAsksWith (openingAsks a len) width len
+
+-- the number
+unfoldable pub withAllocatorNo : VarAllocator → ℕ → ℕ → ℕ
+withAllocatorNo a width len = firstNo (withAllocatorAsks a width len)
+
+-- a relation's record as it is opened
+abbrev pub newShared : (width quota : ℕ) → SharedRelation
+newShared width quota = record { width = width; queries = 0; equations = 0; words = 0; quota = quota; obtained = 0 }
+
+-- the allocator afterwards: one relation more, and the first makes one wire
+abbrev pub oneOpened : VarAllocator → VarAllocator
+oneOpened a = record { vars = pick (anyOpened a) (a .vars) 1; opened = a .opened + 1 }
+
+-- the answer: the relation's number, which is how many were opened before, and the two records; refused, the allocator
+-- as it was and zeros
+abbrev pub withAllocator : VarAllocator → (width quota : ℕ) → List ℕ → Opened
+withAllocator a width quota slots =
+    let k = withAllocatorNo a width (length slots) in
+    record {
+      outcome = outcomeOf k;
+      index = onYes k (a .opened) 0;
+      allocator = onYes k (oneOpened a) a;
+      relation = onYes k (newShared width quota) (newShared 0 0);
+    }
+
+-- the slots afterwards
+abbrev pub withAllocatorSlots : VarAllocator → ℕ → List ℕ → List ℕ
+withAllocatorSlots a width slots =
+    onYes (withAllocatorNo a width (length slots)) (pick (anyOpened a) slots (freshSlots slots)) slots
