@@ -5,15 +5,15 @@
 // Both records go in and come back by value. Every open function answers on every input.
 
 ghost use mathlib.Core.Path.{_≡_};
-ghost use mathlib.Core.List.{[]};
+ghost use mathlib.Core.List.{[], _++_};
 ghost use Rattle.limits.specs.Outcome.{asIs};
 ghost use Rattle.limits.specs.Questions.{_▸_, firstNo, pick};
-ghost use Rattle.limits.specs.Asks.{countAsks};
-ghost use Rattle.allocator.specs.Slots.{fitAsks};
-ghost use Rattle.permutation.specs.Relation.{relationAsksWith};
-ghost use Rattle.sharing.specs.Shares.{anyOpened, onAllocator, shares, openedAsks, quotaAsks};
+ghost use Rattle.limits.specs.Asks.{storeAsks, countAsks};
+ghost use Rattle.allocator.specs.Slots.{fitAsks, mostAsks};
+ghost use Rattle.sharing.specs.Shares.{anyOpened, onAllocator, openedAsks, quotaAsks};
 ghost use Rattle.sharing.specs.Opening.{withAllocatorNo, newShared, withAllocator, withAllocatorSlots};
 ghost use Rattle.sharing.specs.Answers.{offAllocator, obtainedAfter, allocatedOn, recordedOn, Does};
+use limits::MAX_COUNT;
 use limits::Outcome;
 use permutation::Allocated;
 use permutation::First;
@@ -60,4 +60,183 @@ pub struct AllocatedOn {
 pub struct RecordedOn {
     pub outcome: Outcome,
     pub relation: SharedRelation,
+}
+
+// The relation as one that has its wires to itself would be: the wire count is the allocator's.
+pub fn on_allocator(allocator: VarAllocator, rel: SharedRelation) -> PermutationRelation
+    ensures { λ r. ⌜ r ≡ onAllocator allocator rel ⌝ }
+{
+    PermutationRelation {
+        width: rel.width,
+        vars: allocator.vars,
+        queries: rel.queries,
+        equations: rel.equations,
+        words: rel.words,
+    }
+}
+
+// Question 2 of the wire count, which isn't put while no relation is opened.
+pub fn asked_count_on(no: u32, allocator: VarAllocator) -> u32
+    ensures { λ r. ⌜ r ≡ no ▸ firstNo (pick (anyOpened allocator) (countAsks (allocator .vars)) []) ⌝ }
+{
+    let vars = allocator.vars;
+    if 0 < allocator.opened {
+        return limits::asked_count(no, vars);
+    }
+    no
+}
+
+// Question 2 of the slots, and of the wire count where a relation is opened.
+pub fn asked_slots_on(no: u32, allocator: VarAllocator, len: usize) -> u32
+    ensures { λ r. ⌜ r ≡ no ▸ firstNo (storeAsks len ++ pick (anyOpened allocator) (fitAsks (allocator .vars) len) []) ⌝ }
+{
+    let vars = allocator.vars;
+    if 0 < allocator.opened {
+        return allocator::asked_slots(no, vars, len);
+    }
+    limits::asked_store(no, len)
+}
+
+// Question 2 of the allocator, and 42: is relation `index` opened?
+pub fn asked_opened(no: u32, allocator: VarAllocator, index: u32) -> u32
+    ensures { λ r. ⌜ r ≡ no ▸ firstNo (openedAsks allocator index) ⌝ }
+{
+    let opened = allocator.opened;
+    let no = limits::asked(no, opened <= MAX_RELATIONS, 2);
+    limits::asked(no, index < opened, 42)
+}
+
+// Questions 5 and 43 of n wires more.
+pub fn asked_quota(no: u32, allocator: VarAllocator, rel: SharedRelation, n: u32) -> u32
+    ensures { λ r. ⌜ r ≡ no ▸ firstNo (mostAsks (allocator .vars) n ++ quotaAsks (rel .quota) (rel .obtained) n) ⌝ }
+{
+    let total = allocator.vars as usize + n as usize;
+    let more = rel.obtained as usize + n as usize;
+    let quota = rel.quota as usize;
+    let no = limits::asked(no, total <= MAX_COUNT as usize, 5);
+    limits::asked(no, more <= quota, 43)
+}
+
+// A relation's record after a call that came to this record and this many wires obtained.
+fn off_allocator(rel: SharedRelation, done: PermutationRelation, obtained: u32) -> SharedRelation
+    ensures { λ r. ⌜ r ≡ offAllocator rel done obtained ⌝ }
+{
+    SharedRelation {
+        width: done.width,
+        queries: done.queries,
+        equations: done.equations,
+        words: done.words,
+        quota: rel.quota,
+        obtained,
+    }
+}
+
+// What a relation obtained: `more` where wires were answered.
+fn obtained_after(first: First, more: u32, obtained: u32) -> u32
+    ensures { λ r. ⌜ r ≡ obtainedAfter first more obtained ⌝ }
+{
+    match first {
+        First::Var(_) => more,
+        First::Refused(_) => obtained,
+    }
+}
+
+// What a call came to that asked for wires: `more` is what the relation obtains with them.
+pub fn allocated_on(
+    allocator: VarAllocator,
+    rel: SharedRelation,
+    done: Allocated,
+    more: u32,
+) -> AllocatedOn
+    ensures { λ r. ⌜ r ≡ allocatedOn allocator rel done more ⌝ }
+{
+    let first = done.first;
+    let left = done.relation;
+    AllocatedOn {
+        first,
+        allocator: VarAllocator {
+            vars: left.vars,
+            opened: allocator.opened,
+        },
+        relation: off_allocator(rel, left, obtained_after(first, more, rel.obtained)),
+    }
+}
+
+// What a call came to that records.
+pub fn recorded_on(rel: SharedRelation, done: Recorded) -> RecordedOn
+    ensures { λ r. ⌜ r ≡ recordedOn rel done ⌝ }
+{
+    let outcome = done.outcome;
+    let left = done.relation;
+    RecordedOn {
+        outcome,
+        relation: off_allocator(rel, left, rel.obtained),
+    }
+}
+
+// The number of an opening.
+fn with_allocator_no(allocator: VarAllocator, width: u32, len: usize) -> u32
+    ensures { λ r. ⌜ r ≡ withAllocatorNo allocator width len ⌝ }
+{
+    let opened = allocator.opened;
+    let no = limits::asked_width(0, width);
+    let no = asked_slots_on(no, allocator, len);
+    let no = limits::asked(no, opened <= MAX_RELATIONS, 2);
+    let no = limits::asked(no, opened < MAX_RELATIONS, 42);
+    limits::asked(no, 1 <= len, 6)
+}
+
+// A relation's record as it is opened.
+fn new_shared(width: u32, quota: u32) -> SharedRelation
+    ensures { λ r. ⌜ r ≡ newShared width quota ⌝ }
+{
+    SharedRelation {
+        width,
+        queries: 0,
+        equations: 0,
+        words: 0,
+        quota,
+        obtained: 0,
+    }
+}
+
+// Open a relation (the source's `with_allocator`): its number is how many were opened before. The first makes wire 0,
+// which has the value 0. Questions 1, 2, 42, 6.
+pub fn with_allocator(
+    allocator: VarAllocator,
+    width: u32,
+    quota: u32,
+    slots: &mut [u32],
+) -> Opened
+    ensures { λ r. ⌜ Does asIs (withAllocator allocator width quota (now (slots .entry))) (withAllocatorSlots allocator width (now (slots .entry))) r (now (slots .exit)) ⌝ }
+{
+    let no = with_allocator_no(allocator, width, slots.len());
+    if no != 0 {
+        return Opened {
+            outcome: Outcome::Refused(no),
+            index: 0,
+            allocator,
+            relation: new_shared(0, 0),
+        };
+    }
+    let index = allocator.opened;
+    let vars = allocator.vars;
+    if 0 < index {
+        return Opened {
+            outcome: Outcome::Accepted,
+            index,
+            allocator: VarAllocator {
+                vars,
+                opened: index + 1,
+            },
+            relation: new_shared(width, quota),
+        };
+    }
+    slots[0] = 0;
+    Opened {
+        outcome: Outcome::Accepted,
+        index: 0,
+        allocator: VarAllocator { vars: 1, opened: 1 },
+        relation: new_shared(width, quota),
+    }
 }

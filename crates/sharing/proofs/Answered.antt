@@ -1,0 +1,109 @@
+-- What is asked of the wire count where a relation is opened, and what is answered and left by a number k that the code
+-- found, which is that of the definition: refused where it is not 0, accepted where it is. Assumes nothing.
+use Prim.Native.Nat.{ℕ, zero, suc, _+_, _≤_, _<_}
+use mathlib.Core.Path.{_≡_, refl, sym, ap, _∙_}
+use mathlib.Core.Bool.{Bool}
+use mathlib.Core.List.{List, [], _++_}
+use native.Mathlib.Omega.{arith}
+use borrow.Author.Tests.{leb-true, ltb-true, lt-ltb, le-ltb}
+use lib.Dec.{ltb}
+use lib.ListN.{length}
+use Rattle.limits.specs.Questions.{pick, _▸_, Question, firstNo, onYes}
+use Rattle.limits.specs.Asks.{storeAsks}
+use Rattle.limits.specs.declared.Outcome.the-variants as outcome
+use Rattle.limits.proofs.Questions.{▸-zero, Puts, here, there, puts-after, puts, puts-yes}
+use Rattle.limits.proofs.Answered.{outcome-refused, stays-by}
+use Rattle.allocator.specs.Slots.{fitAsks, slotsAsks}
+use Rattle.permutation.specs.Answers.{freshSlots}
+use Rattle.sharing.specs.Shares.{anyOpened}
+use Rattle.sharing.specs.Opening.{withAllocatorAsks, withAllocatorNo, newShared, oneOpened, withAllocator, withAllocatorSlots}
+use Rattle.sharing.specs.declared.VarAllocator.{VarAllocator}
+use Rattle.sharing.specs.declared.Opened.{Opened}
+
+-- ---- a call that its front refuses or lets through
+-- refused with the number, or as it was
+pub refused-by : {A : Type 0} (f : ℕ → A) (new : A) (n k : ℕ) → k ≡ n → (k ≡ 0 → ⊥) → f k ≡ onYes n new (f n)
+refused-by f new n zero e h = absurd (h refl)
+refused-by {A} f new n (suc k) e h = ap (λ (j : ℕ). onYes {A = A} j new (f j)) e
+
+-- let through
+pub through-by : {A : Type 0} (new old : A) (n k : ℕ) → k ≡ n → k ≡ 0 → new ≡ onYes n new old
+through-by new old n k e z = let q : n ≡ 0 = sym e ∙ z in rw q
+
+-- ---- the wire count is asked where a relation is opened
+module _ (n o : ℕ) where
+  pub counted : (qs : List Question) → 0 < o → n ▸ firstNo qs ≡ n ▸ firstNo (pick (ltb 0 o) qs [])
+  counted qs h = ap (λ (b : Bool). n ▸ firstNo (pick b qs [])) (sym (lt-ltb 0 o h))
+
+  pub not-counted : (qs : List Question) → o ≤ 0 → n ≡ n ▸ firstNo (pick (ltb 0 o) qs [])
+  not-counted qs h = sym (▸-zero n) ∙ ap (λ (b : Bool). n ▸ firstNo (pick b qs [])) (sym (le-ltb 0 o h))
+
+  pub slots-counted : (v len : ℕ) → 0 < o
+      → n ▸ firstNo (slotsAsks v len) ≡ n ▸ firstNo (storeAsks len ++ pick (ltb 0 o) (fitAsks v len) [])
+  slots-counted v len h = ap (λ (b : Bool). n ▸ firstNo (storeAsks len ++ pick b (fitAsks v len) [])) (sym (lt-ltb 0 o h))
+
+  pub slots-alone : (v len : ℕ) → o ≤ 0
+      → n ▸ firstNo (storeAsks len) ≡ n ▸ firstNo (storeAsks len ++ pick (ltb 0 o) (fitAsks v len) [])
+  slots-alone v len h = ap (λ (b : Bool). n ▸ firstNo (storeAsks len ++ pick b (fitAsks v len) [])) (sym (le-ltb 0 o h))
+
+-- ---- an opening
+-- a question that is put is put where others follow
+puts-before : {k : ℕ} {b : Bool} {ps : List Question} → Puts k b ps → (qs : List Question) → Puts k b (ps ++ qs)
+puts-before here qs = here
+puts-before (there p) qs = there (puts-before p qs)
+
+-- the store has a slot, and there is a number left
+pub record Opens (a : VarAllocator) (len : ℕ) : Type 0 where
+  pub room : 1 ≤ len
+  pub left : a .opened < 8
+
+pub opens-yes : (a : VarAllocator) (width len : ℕ) → withAllocatorNo a width len ≡ 0 → Opens a len
+unfolding withAllocatorNo
+opens-yes a width len e =
+    let says = puts-yes (withAllocatorAsks a width len) e in
+    record {
+      room = leb-true _ _ (says 6 _ tt (search puts depth 20));
+      left = ltb-true _ _ (says 42 _ tt (there (there (there (puts-before (puts-after (pick (anyOpened a) (fitAsks (a .vars) len) []) (there here)) _)))));
+    }
+
+module _ (a : VarAllocator) (width quota : ℕ) (slots : List ℕ) (k : ℕ) (e : k ≡ withAllocatorNo a width (length slots)) where
+  -- a refusal
+  pub opening-refused : (k ≡ 0 → ⊥)
+      → record { outcome = outcome.Refused k; index = 0; allocator = a; relation = newShared 0 0 } ≡ withAllocator a width quota slots
+  opening-refused h =
+      rw (sym e) (λ i. record {
+        outcome = outcome-refused k h i;
+        index = stays-by k (a .opened) 0 h i;
+        allocator = stays-by k (oneOpened a) a h i;
+        relation = stays-by k (newShared width quota) (newShared 0 0) h i;
+      })
+
+  pub slots-refused : (k ≡ 0 → ⊥) → slots ≡ withAllocatorSlots a width slots
+  slots-refused h = refused-by (λ j. slots) (pick (ltb 0 (a .opened)) slots (freshSlots slots)) _ k e h
+
+  module _ (z : k ≡ 0) where
+    accepted : withAllocatorNo a width (length slots) ≡ 0
+    accepted = sym e ∙ z
+
+    -- a later one
+    module _ (h : 0 < a .opened) where
+      pub opening-later :
+          record { outcome = outcome.Accepted; index = a .opened; allocator = record { vars = a .vars; opened = a .opened + 1 }; relation = newShared width quota }
+          ≡ withAllocator a width quota slots
+      opening-later = rw (accepted, lt-ltb 0 (a .opened) h)
+
+      pub slots-later : slots ≡ withAllocatorSlots a width slots
+      slots-later = rw (accepted, lt-ltb 0 (a .opened) h)
+
+    -- the first
+    module _ (h : a .opened ≤ 0) where
+      none : a .opened ≡ 0
+      none = omega (arith, h)
+
+      pub opening-first :
+          record { outcome = outcome.Accepted; index = 0; allocator = record { vars = 1; opened = 1 }; relation = newShared width quota }
+          ≡ withAllocator a width quota slots
+      opening-first = rw (accepted, le-ltb 0 (a .opened) h, none)
+
+      pub slots-first : freshSlots slots ≡ withAllocatorSlots a width slots
+      slots-first = rw (accepted, le-ltb 0 (a .opened) h)
