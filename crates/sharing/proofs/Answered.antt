@@ -10,6 +10,7 @@ use lib.Dec.{ltb}
 use lib.ListN.{length}
 use Rattle.limits.specs.Questions.{pick, _▸_, Question, firstNo, onYes}
 use Rattle.limits.specs.Asks.{storeAsks}
+use Rattle.limits.specs.Outcome.{asIs}
 use Rattle.limits.specs.declared.Outcome.the-variants as outcome
 use Rattle.limits.proofs.Questions.{▸-zero, Puts, here, there, puts-after, puts, puts-yes}
 use Rattle.limits.proofs.Answered.{outcome-refused, stays-by}
@@ -17,6 +18,7 @@ use Rattle.allocator.specs.Slots.{fitAsks, slotsAsks}
 use Rattle.permutation.specs.Answers.{freshSlots}
 use Rattle.sharing.specs.Shares.{anyOpened}
 use Rattle.sharing.specs.Opening.{withAllocatorAsks, withAllocatorNo, newShared, oneOpened, withAllocator, withAllocatorSlots}
+use Rattle.sharing.specs.Answers.{Does, DoesBoth}
 use Rattle.sharing.specs.declared.VarAllocator.{VarAllocator}
 use Rattle.sharing.specs.declared.Opened.{Opened}
 
@@ -29,6 +31,34 @@ refused-by {A} f new n (suc k) e h = ap (λ (j : ℕ). onYes {A = A} j new (f j)
 -- let through
 pub through-by : {A : Type 0} (new old : A) (n k : ℕ) → k ≡ n → k ≡ 0 → new ≡ onYes n new old
 through-by new old n k e z = let q : n ≡ 0 = sym e ∙ z in rw q
+
+-- the same of answer and stores together
+module _ {A : Type 0} (n k : ℕ) (e : k ≡ n) where
+  pub does-refused : (k ≡ 0 → ⊥) → (f : ℕ → A) (new : A) (s t : List ℕ) → Does asIs (onYes n new (f n)) (onYes n t s) (f k) s
+  does-refused h f new s t = record { answers = refused-by f new n k e h; leaves = refused-by (λ j. s) t n k e h }
+
+  pub does-through : k ≡ 0 → (new old : A) (s t : List ℕ) (r : A) (left : List ℕ) → r ≡ new → left ≡ t
+      → Does asIs (onYes n new old) (onYes n t s) r left
+  does-through z new old s t r left p q =
+      record { answers = p ∙ through-by new old n k e z; leaves = q ∙ through-by t s n k e z }
+
+  pub both-refused : (k ≡ 0 → ⊥) → (f : ℕ → A) (new : A) (s t u v : List ℕ)
+      → DoesBoth asIs (onYes n new (f n)) (onYes n t s) (onYes n v u) (f k) s u
+  both-refused h f new s t u v =
+      record {
+        answers = refused-by f new n k e h;
+        leaves = refused-by (λ j. s) t n k e h;
+        leaves-too = refused-by (λ j. u) v n k e h;
+      }
+
+  pub both-through : k ≡ 0 → (new old : A) (s t u v : List ℕ) (r : A) (left right : List ℕ) → r ≡ new → left ≡ t → right ≡ v
+      → DoesBoth asIs (onYes n new old) (onYes n t s) (onYes n v u) r left right
+  both-through z new old s t u v r left right p q w =
+      record {
+        answers = p ∙ through-by new old n k e z;
+        leaves = q ∙ through-by t s n k e z;
+        leaves-too = w ∙ through-by v u n k e z;
+      }
 
 -- ---- the wire count is asked where a relation is opened
 module _ (n o : ℕ) where
