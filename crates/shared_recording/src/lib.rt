@@ -1,0 +1,231 @@
+// The calls that record queries and equations in relation `index` of an allocator (document 02's R-2).
+//
+// Each call puts the front of its questions, up to the last that sharing puts in, and then does what the same call does
+// to a relation alone that has the shared wire count for its own. Every open function answers on every input.
+
+ghost use mathlib.Core.Path.{_≡_};
+ghost use Rattle.limits.specs.Outcome.{asIs};
+ghost use Rattle.limits.specs.Questions.{firstNo};
+ghost use Rattle.expr.specs.Weighted.{termsOf};
+ghost use Rattle.recording.specs.Relation.{mintSizes};
+ghost use Rattle.sharing.specs.Shares.{onAllocator, shares};
+ghost use Rattle.sharing.specs.Answers.{Does, DoesBoth};
+ghost use Rattle.shared_recording.specs.Answers.{addPermutationOnNo, allocatePermutationOnNo, addEquationOnNo, addPermutationOn, addPermutationOnQueries, allocatePermutationOn, allocatePermutationOnSlots, allocatePermutationOnQueries, addEquationOn, addEquationOnEquations, heldOn, equatedOn};
+use baby_bear::BabyBearUnit;
+use expr::Weighted;
+use limits::MAX_COUNT;
+use limits::Outcome;
+use permutation::First;
+use permutation::PermutationRelation;
+use permutation::Recorded;
+use sharing::AllocatedOn;
+use sharing::RecordedOn;
+use sharing::SharedRelation;
+use sharing::VarAllocator;
+
+// The number of a record call up to 42.
+fn add_permutation_on_no(
+    allocator: VarAllocator,
+    index: u32,
+    rel: SharedRelation,
+    len: usize,
+    input: &[u32],
+    output: &[u32],
+) -> u32
+    ensures { λ r. ⌜ r ≡ addPermutationOnNo allocator index rel len (now (input .entry)) (now (output .entry)) ⌝ }
+{
+    let width = rel.width;
+    let held = rel.queries;
+    let no = limits::asked_width(0, width);
+    let no = words::asked_held(no, width, held, len);
+    let no = sharing::asked_count_on(no, allocator);
+    let no = limits::asked_store(no, input.len());
+    let no = limits::asked_store(no, output.len());
+    sharing::asked_opened(no, allocator, index)
+}
+
+// Record a query of the relation from input to output wires, allocated or not. Questions 1, 2, 42, 9, 3, 10.
+pub fn add_permutation_on(
+    allocator: VarAllocator,
+    index: u32,
+    rel: SharedRelation,
+    queries: &mut [u32],
+    input: &[u32],
+    output: &[u32],
+) -> RecordedOn
+    ensures { λ r. ⌜ Does asIs (addPermutationOn allocator index rel (now (queries .entry)) (now (input .entry)) (now (output .entry)))
+        (addPermutationOnQueries allocator index rel (now (queries .entry)) (now (input .entry)) (now (output .entry))) r (now (queries .exit)) ⌝ }
+{
+    let no = add_permutation_on_no(allocator, index, rel, queries.len(), input, output);
+    if no != 0 {
+        return RecordedOn {
+            outcome: Outcome::Refused(no),
+            relation: rel,
+        };
+    }
+    let done = recording::add_permutation(
+        sharing::on_allocator(allocator, rel),
+        queries,
+        input,
+        output,
+    );
+    sharing::recorded_on(rel, done)
+}
+
+// Questions 1, 2 and 42 of a mint.
+fn mint_sizes_on(
+    allocator: VarAllocator,
+    index: u32,
+    rel: SharedRelation,
+    slots: usize,
+    room: usize,
+    input: &[u32],
+) -> u32
+    ensures { λ r. ⌜ r ≡ firstNo (mintSizes (shares allocator index rel) (onAllocator allocator rel) slots room (now (input .entry))) ⌝ }
+{
+    let width = rel.width;
+    let held = rel.queries;
+    let no = limits::asked_width(0, width);
+    let no = sharing::asked_slots_on(no, allocator, slots);
+    let no = words::asked_held(no, width, held, room);
+    let no = limits::asked_store(no, input.len());
+    sharing::asked_opened(no, allocator, index)
+}
+
+// The number of a mint up to 43.
+fn allocate_permutation_on_no(
+    allocator: VarAllocator,
+    index: u32,
+    rel: SharedRelation,
+    slots: usize,
+    room: usize,
+    input: &[u32],
+) -> u32
+    ensures { λ r. ⌜ r ≡ allocatePermutationOnNo allocator index rel slots room (now (input .entry)) ⌝ }
+{
+    let width = rel.width;
+    let no = mint_sizes_on(allocator, index, rel, slots, room, input);
+    let no = words::asked_half(no, width, 3, MAX_COUNT, input);
+    sharing::asked_quota(no, allocator, rel, width)
+}
+
+// Record a query of the relation from input wires to as many new ones, or do neither. Questions 1, 2, 42, 9, 3, 5, 43,
+// 6, 10.
+pub fn allocate_permutation_on(
+    allocator: VarAllocator,
+    index: u32,
+    rel: SharedRelation,
+    slots: &mut [u32],
+    queries: &mut [u32],
+    input: &[u32],
+) -> AllocatedOn
+    ensures { λ r. ⌜ DoesBoth asIs (allocatePermutationOn allocator index rel (now (slots .entry)) (now (queries .entry)) (now (input .entry)))
+        (allocatePermutationOnSlots allocator index rel (now (slots .entry)) (now (queries .entry)) (now (input .entry)))
+        (allocatePermutationOnQueries allocator index rel (now (slots .entry)) (now (queries .entry)) (now (input .entry)))
+        r (now (slots .exit)) (now (queries .exit)) ⌝ }
+{
+    let no = allocate_permutation_on_no(
+        allocator,
+        index,
+        rel,
+        slots.len(),
+        queries.len(),
+        input,
+    );
+    if no != 0 {
+        return AllocatedOn {
+            first: First::Refused(no),
+            allocator,
+            relation: rel,
+        };
+    }
+    let more = rel.obtained + rel.width;
+    let done = recording::allocate_permutation(
+        sharing::on_allocator(allocator, rel),
+        slots,
+        queries,
+        input,
+    );
+    sharing::allocated_on(allocator, rel, done, more)
+}
+
+// The number of an equation call up to 42.
+fn add_equation_on_no(
+    allocator: VarAllocator,
+    index: u32,
+    rel: SharedRelation,
+    len: usize,
+) -> u32
+    ensures { λ r. ⌜ r ≡ addEquationOnNo allocator index rel len ⌝ }
+{
+    let width = rel.width;
+    let held = rel.equations as usize;
+    let used = rel.words as usize;
+    let no = limits::asked_width(0, width);
+    let no = limits::asked_store(no, len);
+    let no = limits::asked(no, used <= len, 2);
+    let no = limits::asked(no, 2 * held <= len, 2);
+    let no = sharing::asked_count_on(no, allocator);
+    sharing::asked_opened(no, allocator, index)
+}
+
+// The relation with the shared count; where a question up to 42 says no, a record of zeros, with which an equation call
+// changes nothing.
+fn held_on(
+    allocator: VarAllocator,
+    index: u32,
+    rel: SharedRelation,
+    len: usize,
+) -> PermutationRelation
+    ensures { λ r. ⌜ r ≡ heldOn allocator index rel len ⌝ }
+{
+    let no = add_equation_on_no(allocator, index, rel, len);
+    if no != 0 {
+        return PermutationRelation {
+            width: 0,
+            vars: 0,
+            queries: 0,
+            equations: 0,
+            words: 0,
+        };
+    }
+    sharing::on_allocator(allocator, rel)
+}
+
+// What an equation call answers that came to this.
+fn equated_on(
+    allocator: VarAllocator,
+    index: u32,
+    rel: SharedRelation,
+    len: usize,
+    done: Recorded,
+) -> RecordedOn
+    ensures { λ r. ⌜ r ≡ equatedOn allocator index rel len done ⌝ }
+{
+    let no = add_equation_on_no(allocator, index, rel, len);
+    if no != 0 {
+        return RecordedOn {
+            outcome: Outcome::Refused(no),
+            relation: rel,
+        };
+    }
+    sharing::recorded_on(rel, done)
+}
+
+// Record an equation of the relation. Questions 1, 2, 42, 3, 4, 10.
+pub fn add_equation_on(
+    allocator: VarAllocator,
+    index: u32,
+    rel: SharedRelation,
+    equations: &mut [u32],
+    terms: &[Weighted],
+    image: BabyBearUnit,
+) -> RecordedOn
+    ensures { λ r. ⌜ Does asIs (addEquationOn allocator index rel (now (equations .entry)) (termsOf (now (terms .entry))) (image .0))
+        (addEquationOnEquations allocator index rel (now (equations .entry)) (termsOf (now (terms .entry))) (image .0)) r (now (equations .exit)) ⌝ }
+{
+    let len = equations.len();
+    let held = held_on(allocator, index, rel, len);
+    let done = recording::add_equation(held, equations, terms, image);
+    equated_on(allocator, index, rel, len, done)
+}
