@@ -47,7 +47,7 @@ fn put_publics(out: &mut [u32], slots: &[u32]) -> u32
 }
 
 // 2 of the gate's other stores, by their lengths, after the answer so far.
-fn asked_stores(
+pub fn asked_stores(
     no: u32,
     rel: PermutationRelation,
     label: usize,
@@ -124,7 +124,7 @@ fn prepared(
 }
 
 // A refused gate's answer.
-fn refused(no: u32) -> Compiled
+pub fn refused(no: u32) -> Compiled
     ensures { λ r. ⌜ r ≡ refusedBy no ⌝ }
 {
     Compiled {
