@@ -124,14 +124,7 @@ pub fn allocate_permutation_on(
         (allocatePermutationOnQueries allocator index rel (now (slots .entry)) (now (queries .entry)) (now (input .entry)))
         r (now (slots .exit)) (now (queries .exit)) ⌝ }
 {
-    let no = allocate_permutation_on_no(
-        allocator,
-        index,
-        rel,
-        slots.len(),
-        queries.len(),
-        input,
-    );
+    let no = allocate_permutation_on_no(allocator, index, rel, slots.len(), queries.len(), input);
     if no != 0 {
         return AllocatedOn {
             first: First::Refused(no),
@@ -150,12 +143,7 @@ pub fn allocate_permutation_on(
 }
 
 // The number of an equation call up to 42.
-fn add_equation_on_no(
-    allocator: VarAllocator,
-    index: u32,
-    rel: SharedRelation,
-    len: usize,
-) -> u32
+fn add_equation_on_no(allocator: VarAllocator, index: u32, rel: SharedRelation, len: usize) -> u32
     ensures { λ r. ⌜ r ≡ addEquationOnNo allocator index rel len ⌝ }
 {
     let width = rel.width;

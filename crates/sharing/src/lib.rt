@@ -202,12 +202,7 @@ fn new_shared(width: u32, quota: u32) -> SharedRelation
 
 // Open a relation (the source's `with_allocator`): its number is how many were opened before. The first makes wire 0,
 // which has the value 0. Questions 1, 2, 42, 6.
-pub fn with_allocator(
-    allocator: VarAllocator,
-    width: u32,
-    quota: u32,
-    slots: &mut [u32],
-) -> Opened
+pub fn with_allocator(allocator: VarAllocator, width: u32, quota: u32, slots: &mut [u32]) -> Opened
     ensures { λ r. ⌜ Does asIs (withAllocator allocator width quota (now (slots .entry))) (withAllocatorSlots allocator width (now (slots .entry))) r (now (slots .exit)) ⌝ }
 {
     let no = with_allocator_no(allocator, width, slots.len());

@@ -1,0 +1,186 @@
+-- The front of a call's questions: what sharing puts in, taken out again where it says yes. Then the questions come down to
+-- those of a relation alone. Assumes nothing.
+use Prim.Native.Nat.{ℕ}
+use mathlib.Core.Path.{_≡_, refl, sym, ap, _∙_}
+use mathlib.Core.Bool.{true}
+use mathlib.Core.List.{List, [], _∷_, _++_}
+use lib.Dec.{eqb}
+use lib.ListN.{length}
+use Rattle.limits.specs.Questions.{_▸_, Question, question, firstNo}
+use Rattle.limits.specs.Asks.{widthAsks, storeAsks, countAsks}
+use Rattle.limits.proofs.Questions.{both, join, ▸-zero, goes-on, firstNo-append}
+use Rattle.allocator.specs.Slots.{pairs, mostAsks, roomAsks, pairAsks, itemsAsks}
+use Rattle.expr.specs.Weighted.{termsOf}
+use Rattle.permutation.specs.Sharing.{Sharing, afterFive, alone, whereCounted}
+use Rattle.permutation.specs.Relation.{queriesAsks, equationsAsks, relationAsks, relationAsksWith, relationFront}
+use Rattle.permutation.specs.declared.PermutationRelation.{PermutationRelation}
+use Rattle.recording.specs.Relation.{addPermutationRest, mintSizes, mintAsks, allocatePermutationRest, addEquationRest}
+use Rattle.tickets.specs.Lines.{linesAsks}
+use Rattle.compile.specs.Gate.{GateLent, lentStoresAsks, lentSoundAsks, madeAsks, compileFront, compileAsksWith}
+use Rattle.history.specs.Calls.{Call, Allocate, Set, SetList, Record, Mint, Equate, Tickets, State, Lengths, lengthsOf, asksWith, frontAsks}
+use Rattle.shared_history.specs.Calls.{wiresOf}
+
+-- ---- lists of questions
+-- accepted: both parts are
+pub parts-yes : (xs ys : List Question) → firstNo (xs ++ ys) ≡ 0 → (firstNo xs ≡ 0) × (firstNo ys ≡ 0)
+parts-yes xs ys z = both _ _ (sym (firstNo-append xs ys) ∙ z)
+
+-- questions in the middle that say yes are taken out
+drop-mid : (xs o ys : List Question) → firstNo o ≡ 0 → firstNo (xs ++ (o ++ ys)) ≡ firstNo (xs ++ ys)
+drop-mid xs o ys z =
+    firstNo-append xs (o ++ ys)
+    ∙ ap (λ (k : ℕ). firstNo xs ▸ k) (firstNo-append o ys ∙ goes-on (firstNo o) (firstNo ys) z)
+    ∙ sym (firstNo-append xs ys)
+
+-- and where all of it is accepted
+pub mid-yes : (xs o ys : List Question) → firstNo (xs ++ (o ++ ys)) ≡ 0 → firstNo (xs ++ ys) ≡ 0
+mid-yes xs o ys z = sym (drop-mid xs o ys (parts-yes o ys (parts-yes xs (o ++ ys) z .1) .0)) ∙ z
+
+-- or at the end
+drop-end : (xs o : List Question) → firstNo o ≡ 0 → firstNo (xs ++ o) ≡ firstNo xs
+drop-end xs o z = firstNo-append xs o ∙ ap (λ (k : ℕ). firstNo xs ▸ k) z ∙ ▸-zero (firstNo xs)
+
+-- ---- sharing of a relation that is opened: the count is asked, and what follows 2 says yes
+abbrev pub sharedWith : List Question → (ℕ → List Question) → Sharing
+sharedWith o w = record { counted = true; opened = o; within = w }
+
+module _ (o : List Question) (w : ℕ → List Question) (z : firstNo o ≡ 0) where
+  -- it is taken out of each call's front
+  pub settled : (rel : PermutationRelation) (n : Lengths) (c : Call)
+      → firstNo (frontAsks (sharedWith o w) rel n c) ≡ firstNo (frontAsks (afterFive w) rel n c)
+  unfolding frontAsks
+  settled rel n (Allocate a) = drop-mid (relationAsks rel (n .slots)) o (mostAsks (rel .vars) a ++ w a) z
+  settled rel n (Set p) = drop-end (relationAsks rel (n .slots)) o z
+  settled rel n (SetList vars values) =
+      drop-mid (relationAsks rel (n .slots) ++ (storeAsks (length vars) ++ storeAsks (length values))) o [] z
+  settled rel n (Record input output) =
+      drop-mid
+      (widthAsks (rel .width) ++ (queriesAsks rel (n .queries) ++ (countAsks (rel .vars) ++ (storeAsks (length input) ++ storeAsks (length output))))) o [] z
+  settled rel n (Mint input) =
+      drop-mid (relationAsks rel (n .slots) ++ (queriesAsks rel (n .queries) ++ storeAsks (length input))) (o ++ []) (mintAsks rel input ++ w (rel .width))
+      (drop-end o [] refl ∙ z)
+  settled rel n (Equate terms image) = drop-mid (widthAsks (rel .width) ++ (equationsAsks rel (n .equations) ++ countAsks (rel .vars))) o [] z
+  settled rel n (Tickets text) = drop-end (relationAsks rel (n .slots)) o z
+
+-- what follows 5, taken out where it says yes
+front-yes : (w : ℕ → List Question) (rel : PermutationRelation) (n : Lengths) (c : Call)
+    → firstNo (frontAsks (afterFive w) rel n c) ≡ 0 → firstNo (frontAsks alone rel n c) ≡ 0
+unfolding frontAsks
+front-yes w rel n (Allocate a) z = parts-yes (relationAsks rel (n .slots) ++ mostAsks (rel .vars) a) (w a) z .0
+front-yes w rel n (Set p) z = z
+front-yes w rel n (SetList vars values) z = z
+front-yes w rel n (Record input output) z = z
+front-yes w rel n (Mint input) z = parts-yes (mintSizes alone rel (n .slots) (n .queries) input ++ mintAsks rel input) (w (rel .width)) z .0
+front-yes w rel n (Equate terms image) z = z
+front-yes w rel n (Tickets text) z = z
+
+-- ---- any sharing
+-- a front that says yes: what follows 2 does, and what follows 5 of the wires that the call asks for
+module _ (h : Sharing) (rel : PermutationRelation) (n : Lengths) where
+  pub opened-yes : (c : Call) → firstNo (frontAsks h rel n c) ≡ 0 → firstNo (h .opened) ≡ 0
+  unfolding frontAsks
+  opened-yes (Allocate a) z = parts-yes (relationAsksWith h rel (n .slots)) (h .opened) (parts-yes (relationFront h rel (n .slots)) (mostAsks (rel .vars) a ++ h .within a) z .0) .1
+  opened-yes (Set p) z = parts-yes (relationAsksWith h rel (n .slots)) (h .opened) z .1
+  opened-yes (SetList vars values) z =
+      parts-yes (h .opened) []
+      (parts-yes (storeAsks (length vars) ++ storeAsks (length values)) (h .opened ++ [])
+      (parts-yes (relationAsksWith h rel (n .slots)) (storeAsks (length vars) ++ (storeAsks (length values) ++ (h .opened ++ []))) z .1) .1) .0
+  opened-yes (Record input output) z =
+      parts-yes (h .opened) []
+      (parts-yes (storeAsks (length input) ++ storeAsks (length output)) (h .opened ++ [])
+      (parts-yes (whereCounted h (countAsks (rel .vars))) (storeAsks (length input) ++ (storeAsks (length output) ++ (h .opened ++ [])))
+      (parts-yes (widthAsks (rel .width) ++ queriesAsks rel (n .queries))
+      (whereCounted h (countAsks (rel .vars)) ++ (storeAsks (length input) ++ (storeAsks (length output) ++ (h .opened ++ [])))) z .1) .1) .1) .0
+  opened-yes (Mint input) z =
+      parts-yes (h .opened) []
+      (parts-yes (queriesAsks rel (n .queries) ++ storeAsks (length input)) (h .opened ++ [])
+      (parts-yes (relationAsksWith h rel (n .slots)) (queriesAsks rel (n .queries) ++ (storeAsks (length input) ++ (h .opened ++ [])))
+      (parts-yes (mintSizes h rel (n .slots) (n .queries) input) (mintAsks rel input ++ h .within (rel .width)) z .0) .1) .1) .0
+  opened-yes (Equate terms image) z =
+      parts-yes (h .opened) []
+      (parts-yes (whereCounted h (countAsks (rel .vars))) (h .opened ++ [])
+      (parts-yes (widthAsks (rel .width) ++ equationsAsks rel (n .equations)) (whereCounted h (countAsks (rel .vars)) ++ (h .opened ++ [])) z .1) .1) .0
+  opened-yes (Tickets text) z = parts-yes (relationAsksWith h rel (n .slots)) (h .opened) z .1
+
+-- of the wires that an allocate or a mint asks for
+pub allocate-within : (h : Sharing) (rel : PermutationRelation) (n : Lengths) (a : ℕ) → firstNo (frontAsks h rel n (Allocate a)) ≡ 0
+    → firstNo (h .within a) ≡ 0
+unfolding frontAsks
+allocate-within h rel n a z = parts-yes (mostAsks (rel .vars) a) (h .within a) (parts-yes (relationFront h rel (n .slots)) (mostAsks (rel .vars) a ++ h .within a) z .1) .1
+
+pub mint-within : (h : Sharing) (rel : PermutationRelation) (n : Lengths) (input : List ℕ) → firstNo (frontAsks h rel n (Mint input)) ≡ 0
+    → firstNo (h .within (rel .width)) ≡ 0
+unfolding frontAsks
+mint-within h rel n input z =
+    parts-yes (mintAsks rel input) (h .within (rel .width))
+    (parts-yes (mintSizes h rel (n .slots) (n .queries) input) (mintAsks rel input ++ h .within (rel .width)) z .1) .1
+
+-- a sharing that asks for the count
+counted-is : (h : Sharing) → h .counted ≡ true → h ≡ sharedWith (h .opened) (h .within)
+counted-is h e = λ j. record { counted = e j; opened = h .opened; within = h .within }
+
+-- where it says yes everywhere, a relation alone is asked nothing that says no
+pub alone-yes : (h : Sharing) → h .counted ≡ true → (rel : PermutationRelation) (n : Lengths) (c : Call)
+    → firstNo (frontAsks h rel n c) ≡ 0 → firstNo (frontAsks alone rel n c) ≡ 0
+alone-yes h e rel n c z =
+    front-yes (h .within) rel n c
+    (sym (settled (h .opened) (h .within) (opened-yes h rel n c z) rel n c)
+    ∙ sym (ap (λ (x : Sharing). firstNo (frontAsks x rel n c)) (counted-is h e)) ∙ z)
+
+-- ---- whole lists
+-- what comes after the front
+abbrev pub rest : State → Call → List Question
+rest s (Allocate n) = roomAsks (s .relation .vars) (length (s .slots)) n
+rest s (Set p) = pairAsks (s .relation .vars) (s .slots) p
+rest s (SetList vars values) =
+    itemsAsks (pairAsks (s .relation .vars)) (λ p. p) (s .slots) (pairs vars values) ++ (question 9 (eqb (length vars) (length values)) ∷ [])
+rest s (Record input output) = addPermutationRest (s .relation) (length (s .queries)) input output
+rest s (Mint input) = allocatePermutationRest (s .relation) (length (s .slots)) (length (s .queries))
+rest s (Equate terms image) = addEquationRest (s .relation) (length (s .equations)) (termsOf terms) image
+rest s (Tickets text) = linesAsks (s .relation .vars) (s .slots) text
+
+front-rest : (h : Sharing) (s : State) (c : Call) → asksWith h s c ≡ frontAsks h (s .relation) (lengthsOf s) c ++ rest s c
+unfolding asksWith frontAsks
+front-rest h s (Allocate n) = refl
+front-rest h s (Set p) = refl
+front-rest h s (SetList vars values) = refl
+front-rest h s (Record input output) = refl
+front-rest h s (Mint input) = refl
+front-rest h s (Equate terms image) = refl
+front-rest h s (Tickets text) = refl
+
+pub asks-front : (h : Sharing) (s : State) (c : Call)
+    → firstNo (asksWith h s c) ≡ firstNo (frontAsks h (s .relation) (lengthsOf s) c) ▸ firstNo (rest s c)
+asks-front h s c = ap firstNo (front-rest h s c) ∙ firstNo-append (frontAsks h (s .relation) (lengthsOf s) c) (rest s c)
+
+-- of a relation that is opened only what follows 5 is left of what sharing puts in
+pub asks-settled : (h : Sharing) → h .counted ≡ true → firstNo (h .opened) ≡ 0 → (s : State) (c : Call)
+    → firstNo (asksWith h s c) ≡ firstNo (asksWith (afterFive (h .within)) s c)
+asks-settled h e z s c =
+    asks-front h s c
+    ∙ ap (λ (k : ℕ). k ▸ firstNo (rest s c))
+    (ap (λ (x : Sharing). firstNo (frontAsks x (s .relation) (lengthsOf s) c)) (counted-is h e) ∙ settled (h .opened) (h .within) z (s .relation) (lengthsOf s) c)
+    ∙ sym (asks-front (afterFive (h .within)) s c)
+
+-- ---- the gate's
+pub gate-front : (h : Sharing) (l : GateLent) → firstNo (compileAsksWith h l) ≡ firstNo (compileFront h l) ▸ firstNo (lentSoundAsks l ++ madeAsks l)
+gate-front h l = firstNo-append (compileFront h l) (lentSoundAsks l ++ madeAsks l)
+
+-- where the count is asked, the front is that of a relation alone, and then what follows 2
+pub gate-opened : (h : Sharing) → h .counted ≡ true → (l : GateLent) → firstNo (compileFront h l) ≡ firstNo (compileFront alone l) ▸ firstNo (h .opened)
+gate-opened h e l =
+    let front = relationAsks (l .relation) (length (l .slots)) ++ lentStoresAsks l in
+    ap (λ (x : Sharing). firstNo (compileFront x l)) (counted-is h e)
+    ∙ firstNo-append front (h .opened ++ [])
+    ∙ ap (λ (k : ℕ). firstNo front ▸ k) (drop-end (h .opened) [] refl)
+
+-- so where that says yes, it is that of a relation alone
+pub gate-settled : (h : Sharing) → h .counted ≡ true → firstNo (h .opened) ≡ 0 → (l : GateLent) → firstNo (compileFront h l) ≡ firstNo (compileFront alone l)
+gate-settled h e z l = gate-opened h e l ∙ ap (λ (k : ℕ). firstNo (compileFront alone l) ▸ k) z ∙ ▸-zero _
+
+-- and where the front says yes, that does
+pub gate-opened-yes : (h : Sharing) (l : GateLent) → firstNo (compileFront h l) ≡ 0 → firstNo (h .opened) ≡ 0
+gate-opened-yes h l z =
+    let stores = lentStoresAsks l in
+    parts-yes (h .opened) []
+    (parts-yes stores (h .opened ++ []) (parts-yes (relationAsksWith h (l .relation) (length (l .slots))) (stores ++ (h .opened ++ [])) z .1) .1) .0

@@ -1,0 +1,88 @@
+-- The gate of a relation that is opened is that of the relation alone with the shared count for its own: 42 says yes, and
+-- what is asked before it is asked again with the same answer. That of a number that isn't opened goes no further than 42.
+-- And what the others do after a gate leaves the relation's record and stores, from which the bytes are made.
+-- Assumes nothing.
+use Prim.Native.Nat.{ℕ, zero, suc, _≤_, _<_}
+use mathlib.Core.Path.{_≡_, refl, sym, ap, ap₂, _∙_, subst}
+use mathlib.Core.List.{List, [], _∷_, _++_}
+use native.Mathlib.Omega.{arith}
+use lib.ListN.{length, getD, replicate, length-set, length-append, List·getD-append}
+use Rattle.limits.specs.Questions.{_▸_, firstNo, onYes}
+use Rattle.limits.specs.Outcome.{outcomeOf}
+use Rattle.limits.proofs.Questions.{accepted-says, firstNo-append, goes-on, stays}
+use Rattle.words.specs.Store.{All}
+use Rattle.permutation.specs.Sharing.{Sharing, alone}
+use Rattle.sharing.specs.Opening.{withAllocatorNo}
+use Rattle.instance.specs.Looks.{noInstance}
+use Rattle.compile.specs.Gate.{GateLent, publicsOf, instanceOf, publicsStore, lentSoundAsks, madeAsks, compileFront, compileAsksWith, compileAsks, compileNo, refusedBy, compile, compilePublics}
+use Rattle.compile.specs.declared.Compiled.{Compiled}
+use Rattle.shared_compile.specs.Gate.{compileOnNo, compileOn, compilePublicsOn}
+use Rattle.shared_history.specs.Calls.{OwnState, SharedState, SharedCall, Open, On, ownAt, frontNo, actedOn, sharedAfter, sharedFinal}
+use Rattle.shared_history.specs.Whole.{Other}
+use Rattle.shared_history.proofs.Lists.{getD-set-other}
+use Rattle.shared_history.proofs.Fronts.{gate-front, gate-settled}
+
+-- ---- the gate, by the number of its front
+-- what a number does where its beginning is asked first
+first-again : {A : Type 0} (f g : ℕ → A) (k n x : ℕ) → n ≡ k ▸ x → ((j : ℕ) → f (suc j) ≡ g (suc j)) → onYes k (f n) (g k) ≡ f n
+unfolding _▸_
+first-again f g zero n x q t = refl
+first-again f g (suc k) n x q t = sym (t k) ∙ ap f (sym q)
+
+module _ (h : Sharing) (l : GateLent) where
+  -- whatever sharing puts in: the answer is by the first no of all questions, provided that where the front says yes, it
+  -- does for a relation alone
+  pub outcome-on : (firstNo (compileFront h l) ≡ 0 → firstNo (compileFront alone l) ≡ 0) → compileOn h l .outcome ≡ outcomeOf (firstNo (compileAsksWith h l))
+  unfolding compileOn compileOnNo compile compileNo
+  outcome-on f = go (firstNo (compileFront h l)) refl ∙ ap outcomeOf (sym (gate-front h l))
+    where
+      go : (k : ℕ) → firstNo (compileFront h l) ≡ k
+          → onYes {A = Compiled} k (compile l) (refusedBy k) .outcome ≡ outcomeOf (firstNo (compileFront h l) ▸ firstNo (lentSoundAsks l ++ madeAsks l))
+      go zero z = ap outcomeOf (gate-front alone l ∙ goes-on _ _ (f z) ∙ sym (goes-on _ _ z))
+      go (suc k) z = ap outcomeOf (sym (stays (suc k) (firstNo (lentSoundAsks l ++ madeAsks l)) (λ e. absurd (omega arith))) ∙ ap (λ (x : ℕ). x ▸ firstNo (lentSoundAsks l ++ madeAsks l)) (sym z))
+
+  -- where sharing puts in nothing that says no
+  module _ (same : firstNo (compileFront h l) ≡ firstNo (compileFront alone l)) where
+    number-is : compileNo l ≡ compileOnNo h l ▸ firstNo (lentSoundAsks l ++ madeAsks l)
+    unfolding compileNo compileOnNo
+    number-is = gate-front alone l ∙ ap (λ (k : ℕ). k ▸ firstNo (lentSoundAsks l ++ madeAsks l)) (sym same)
+
+    pub asked-is : firstNo (compileAsksWith h l) ≡ firstNo (compileAsks l)
+    asked-is = gate-front h l ∙ ap (λ (k : ℕ). k ▸ firstNo (lentSoundAsks l ++ madeAsks l)) same ∙ sym (gate-front alone l)
+
+    pub compiled-is : compileOn h l ≡ compile l
+    unfolding compileOn compile
+    compiled-is =
+        first-again
+        (λ (j : ℕ). record { outcome = outcomeOf j; instance = onYes j (instanceOf (l .relation) (length (publicsOf (l .relation) (l .slots)))) noInstance })
+        refusedBy (compileOnNo h l) (compileNo l) _ number-is (λ j. refl)
+
+    pub publics-are : compilePublicsOn h l ≡ compilePublics l
+    unfolding compilePublicsOn compilePublics
+    publics-are =
+        first-again
+        (λ (j : ℕ). onYes j (publicsStore (l .publics) (publicsOf (l .relation) (l .slots))) (replicate (l .publics) 0))
+        (λ (j : ℕ). replicate (l .publics) 0) (compileOnNo h l) (compileNo l) _ number-is (λ j. refl)
+
+-- ---- the others go on
+kept : (r : ℕ) (stray : OwnState) (p : SharedState) → r < length (p .owns) → (d : SharedCall) → Other r d
+    → (r < length (sharedAfter p d .owns)) × (ownAt (sharedAfter p d) r stray ≡ ownAt p r stray)
+unfolding sharedAfter
+kept r stray p h (Open width quota queries equations) t = go (withAllocatorNo (p .allocator) width (length (p .slots))) _
+  where
+    go : (k : ℕ) (m : OwnState) → (r < length (onYes k (p .owns ++ (m ∷ [])) (p .owns))) × (getD (onYes k (p .owns ++ (m ∷ [])) (p .owns)) r stray ≡ ownAt p r stray)
+    go zero m = (omega (arith, length-append (p .owns) (m ∷ [])), List·getD-append (p .owns) (m ∷ []) stray r h)
+    go (suc k) m = (h, refl)
+kept r stray p h (On q any c) t = go (frontNo p q (ownAt p q any) c)
+  where
+    go : (k : ℕ) → (r < length (onYes k (actedOn p q (ownAt p q any) c) p .owns))
+        × (ownAt (onYes k (actedOn p q (ownAt p q any) c) p) r stray ≡ ownAt p r stray)
+    go zero = (subst (λ (n : ℕ). r < n) (sym (length-set (p .owns) q _)) h, getD-set-other (p .owns) q r _ stray t)
+    go (suc k) = (h, refl)
+
+pub kept-all : (r : ℕ) (stray : OwnState) (ds : List SharedCall) (p : SharedState) → r < length (p .owns) → All (Other r) ds
+    → ownAt (sharedFinal p ds) r stray ≡ ownAt p r stray
+kept-all r stray [] p h t = refl
+kept-all r stray (d ∷ ds) p h t =
+    let k = kept r stray p h d (t .0) in
+    kept-all r stray ds (sharedAfter p d) (k .0) (t .1) ∙ k .1

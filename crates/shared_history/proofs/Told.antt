@@ -1,0 +1,213 @@
+-- Along a list of openings and calls: each answers by the first no of its questions, which is the first no of those that
+-- ledger and lengths leave; no store changes its length; an accepted opening answers the next number, an accepted
+-- allocate or mint the ledger's count. Assumes nothing.
+use Prim.Native.Nat.{ℕ, zero, suc, _≤_, _<_}
+use mathlib.Core.Path.{_≡_, refl, sym, ap, ap₂, _∙_, subst}
+use mathlib.Core.Bool.{Bool, true, false}
+use mathlib.Core.List.{List, [], _∷_, _++_}
+use native.Mathlib.Omega.{arith}
+use borrow.Author.Tests.{ltb-true, ltb-false, lt-ltb, le-leb}
+use lib.Dec.{ltb, leb}
+use lib.ListN.{length, getD, set, length-set, length-append, List·getD-append}
+use Rattle.limits.specs.Numbers.{maxCount}
+use Rattle.limits.specs.Questions.{ask, _▸_, Question, question, firstNo, pick, onYes}
+use Rattle.limits.specs.Outcome.{outcomeOf}
+use Rattle.limits.specs.Asks.{widthAsks}
+use Rattle.limits.specs.declared.Outcome.the-variants as outcome
+use Rattle.limits.proofs.Questions.{ask-yes, goes-on, stays, zero-▸}
+use Rattle.permutation.specs.Sharing.{Sharing, afterFive, alone}
+use Rattle.allocator.specs.Slots.{fitAsks}
+use Rattle.permutation.specs.Relation.{newRelationAsksWith}
+use Rattle.permutation.specs.Answers.{freshSlots}
+use Rattle.sharing.specs.Shares.{maxRelations, anyOpened, onAllocator, openedAsks, quotaAsks, shares}
+use Rattle.sharing.specs.Opening.{withAllocatorNo, newShared}
+use Rattle.sharing.specs.declared.VarAllocator.{VarAllocator}
+use Rattle.history.specs.Calls.{Call, State, Lengths, lengthsOf, asksWith, asks, frontAsks, Answer, answer, after}
+use Rattle.history.specs.Left.{leftWith}
+use Rattle.history.specs.Demand.{Accepted, takesVars}
+use Rattle.history.proofs.Outcomes.{accepted-no, past-yes, past-fits, then}
+use Rattle.history.proofs.Lengths.{lengths-kept}
+use Rattle.history.proofs.Told.{by-questions, number-left, told}
+use Rattle.shared_history.specs.Calls.{OwnState, SharedState, SharedCall, Open, On, ownAt, seen, sharesOf, lengthsFor, taken, frontNo, refusedWith, sharedAsks, sharedAnswer, ownAfter, actedOn, sharedAfter, SharedLedger, ownLedgerAt, judgedOn, sharedNoted}
+use Rattle.shared_history.specs.Left.{allocatorBy, sharedLeft}
+use Rattle.shared_history.specs.Demand.{FirstIs, SharedTold, AllSharedTold}
+use Rattle.shared_history.proofs.Lists.{getD-past, set-keeps}
+use Rattle.shared_history.proofs.Fronts.{alone-yes, rest, asks-front, asks-settled}
+use Rattle.shared_history.proofs.Stands.{Stands, opened-in, own-at, agrees}
+use Rattle.shared_history.proofs.Keeps.{is-opened, keeps-call}
+
+-- ---- by questions, whatever the state
+-- a relation that is opened: the count is asked
+pub counted-is : (a : VarAllocator) (r : ℕ) → r < a .opened → anyOpened a ≡ true
+counted-is a r h = lt-ltb 0 (a .opened) (omega arith)
+
+-- the first no of two, where the first is this number
+onward : (k n : ℕ) → k ≡ n → (j : ℕ) → k ▸ j ≡ n ▸ j
+onward k n e j = ap (λ (x : ℕ). x ▸ j) e
+
+module _ (p : SharedState) (r : ℕ) (m : OwnState) (c : Call) where
+  -- let through: what a relation alone is asked comes down to the rest
+  through : frontNo p r m c ≡ 0 → firstNo (asks (seen p m) c) ≡ firstNo (rest (seen p m) c)
+  unfolding frontNo
+  through z =
+      asks-front alone (seen p m) c
+      ∙ goes-on _ _ (alone-yes (sharesOf p r m) (counted-is (p .allocator) r (is-opened p r m c z)) (onAllocator (p .allocator) (m .relation)) (lengthsOf (seen p m)) c z)
+
+  number-is : firstNo (asksWith (sharesOf p r m) (seen p m) c) ≡ frontNo p r m c ▸ firstNo (rest (seen p m) c)
+  unfolding frontNo
+  number-is = asks-front (sharesOf p r m) (seen p m) c
+
+  answered-on : onYes {A = Answer} (frontNo p r m c) (answer (seen p m) c) (refusedWith (frontNo p r m c)) .outcome
+      ≡ outcomeOf (firstNo (asksWith (sharesOf p r m) (seen p m) c))
+  answered-on = go (frontNo p r m c) refl ∙ ap outcomeOf (sym number-is)
+    where
+      go : (k : ℕ) → frontNo p r m c ≡ k
+          → onYes {A = Answer} k (answer (seen p m) c) (refusedWith k) .outcome ≡ outcomeOf (frontNo p r m c ▸ firstNo (rest (seen p m) c))
+      go zero z = by-questions (seen p m) c ∙ ap outcomeOf (through z ∙ sym (goes-on _ _ z))
+      go (suc k) z = ap outcomeOf (sym (stays (suc k) (firstNo (rest (seen p m) c)) (λ e. absurd (omega arith))) ∙ sym (onward _ _ z _))
+
+-- every opening and every call
+pub answered : (p : SharedState) (c : SharedCall) → sharedAnswer p c .outcome ≡ outcomeOf (firstNo (sharedAsks p c))
+unfolding sharedAnswer sharedAsks withAllocatorNo
+answered p (Open width quota queries equations) = refl
+answered p (On r stray c) = answered-on p r (ownAt p r stray) c
+
+-- ---- by the ledger
+module _ (p : SharedState) (l : SharedLedger) (st : Stands p l) where
+  -- the allocator is the ledger's
+  pub allocator-is : p .allocator ≡ allocatorBy l
+  allocator-is = λ j. record { vars = st .count j; opened = opened-in p l st j }
+
+  -- 2 of the allocator and 42, of a relation that is opened
+  pub opened-yes : (r : ℕ) → r < p .allocator .opened → firstNo (openedAsks (p .allocator) r) ≡ 0
+  opened-yes r h = past-yes 2 _ _ (le-leb (p .allocator .opened) 8 (st .few)) ∙ past-yes 42 _ _ (lt-ltb r (p .allocator .opened) h)
+
+  module _ (r : ℕ) (stray : OwnState) (c : Call) where
+    abbrev m : OwnState
+    m = ownAt p r stray
+
+    -- of a relation that is opened
+    left-opened : r < p .allocator .opened
+        → firstNo (asksWith (sharesOf p r m) (seen p m) c)
+        ≡ leftWith (quotaAsks (ownLedgerAt l r .quota) (ownLedgerAt l r .obtained)) (ownLedgerAt l r .width) (lengthsOf (seen p m)) (judgedOn l (ownLedgerAt l r)) c
+    left-opened h =
+        let e = ownLedgerAt l r in
+        let o = own-at p l st r h stray in
+        asks-settled (sharesOf p r m) (counted-is (p .allocator) r h) (opened-yes r h) (seen p m) c
+        ∙ number-left (e .width) (seen p m) (judgedOn l e) (agrees p l st m e o) (quotaAsks (m .relation .quota) (m .relation .obtained)) c
+        ∙ ap₂ (λ (q b : ℕ). leftWith (quotaAsks q b) (e .width) (lengthsOf (seen p m)) (judgedOn l e) c) (o .quotaIs) (o .obtainedIs)
+
+    -- of a number that isn't
+    front-by : (p .allocator .opened ≤ r) → firstNo (asksWith (sharesOf p r m) (seen p m) c)
+        ≡ firstNo (frontAsks (shares (allocatorBy l) r (stray .relation)) (onAllocator (allocatorBy l) (stray .relation)) (lengthsOf (seen p m)) c)
+    unfolding frontNo
+    front-by h =
+        let s = getD-past (p .owns) r stray (omega (arith, st .openedIs)) in
+        number-is p r m c
+        ∙ stays (frontNo p r m c) _ (λ z. absurd (omega (arith, is-opened p r m c z)))
+        ∙ ap₂ (λ (a : VarAllocator) (x : OwnState). firstNo (frontAsks (shares a r (x .relation)) (onAllocator a (x .relation)) (lengthsOf (seen p m)) c)) allocator-is s
+
+    left-on : sharedAnswer p (On r stray c) .outcome ≡ outcomeOf (sharedLeft (lengthsOf (seen p m)) l (On r stray c))
+    unfolding sharedLeft sharedAsks
+    left-on = answered p (On r stray c) ∙ ap outcomeOf (go (ltb r (length (l .owns))) refl)
+      where
+        go : (b : Bool) → ltb r (length (l .owns)) ≡ b
+            → firstNo (asksWith (sharesOf p r m) (seen p m) c)
+            ≡ pick b
+            (leftWith (quotaAsks (ownLedgerAt l r .quota) (ownLedgerAt l r .obtained)) (ownLedgerAt l r .width) (lengthsOf (seen p m)) (judgedOn l (ownLedgerAt l r)) c)
+            (firstNo (frontAsks (shares (allocatorBy l) r (stray .relation)) (onAllocator (allocatorBy l) (stray .relation)) (lengthsOf (seen p m)) c))
+        go true e = left-opened (omega (arith, ltb-true r (length (l .owns)) e, opened-in p l st))
+        go false e = front-by (omega (arith, ltb-false r (length (l .owns)) e, opened-in p l st))
+
+  -- an opening: 2 is settled, and 6
+  left-open : (width quota : ℕ) (queries equations : List ℕ)
+      → sharedAnswer p (Open width quota queries equations) .outcome
+      ≡ outcomeOf (firstNo (widthAsks width ++ (question 42 (ltb (length (l .owns)) maxRelations) ∷ [])))
+  unfolding sharedAsks
+  left-open width quota queries equations =
+      let a = p .allocator in
+      let n = length (p .slots) in
+      let o = st .inSlots in
+      let last = ap (λ (k : ℕ). ask 42 (ltb k 8)) (opened-in p l st) in
+      answered p (Open width quota queries equations)
+      ∙ ap outcomeOf
+      (ap (λ (b : Bool). firstNo (newRelationAsksWith (pick b (fitAsks (a .vars) n) [] ++ (question 2 (leb (a .opened) maxRelations) ∷ question 42 (ltb (a .opened) maxRelations) ∷ [])) width n))
+      (lt-ltb 0 (a .opened) (st .least))
+      ∙ then _ _ _ (then _ _ _
+      (past-fits 2 _ _ _ (o .most) ∙ past-fits 2 _ _ _ (o .least) ∙ past-fits 2 (a .vars) maxCount _ (omega (arith, o .room, o .most)) ∙ past-fits 2 _ _ _ (o .room)
+      ∙ past-fits 2 (a .opened) 8 _ (st .few)
+      ∙ ap₂ _▸_ last (past-fits 6 1 n _ (omega (arith, o .least, o .room))))))
+
+-- ---- lengths
+-- a relation's stores, beside a slot store of that length
+abbrev own-lengths : ℕ → OwnState → Lengths
+own-lengths n m = record { slots = n; queries = length (m .queries); equations = length (m .equations) }
+
+lengths-on : (p : SharedState) (r : ℕ) (stray : OwnState) (c : Call) → r < length (p .owns) → (k : ℕ) (d : OwnState)
+    → lengthsOf (seen (actedOn p r (ownAt p r stray) c) (ownAt (actedOn p r (ownAt p r stray) c) k d)) ≡ lengthsOf (seen p (ownAt p k d))
+lengths-on p r stray c h k d =
+    let s = seen p (ownAt p r stray) in
+    let t = after s c in
+    let e = lengths-kept s c in
+    ap (λ (n : ℕ). own-lengths n (ownAt (actedOn p r (ownAt p r stray) c) k d)) (λ j. e j .slots)
+    ∙ set-keeps (own-lengths (length (p .slots))) (p .owns) r k (ownAfter (ownAt p r stray) t (taken (s .relation .width) c (answer s c))) stray d h
+    (λ j. record { slots = length (p .slots); queries = e j .queries; equations = e j .equations })
+
+same-length : (k : ℕ) (b : Bool) (slots : List ℕ) → length (onYes k (pick b slots (freshSlots slots)) slots) ≡ length slots
+same-length zero true slots = refl
+same-length zero false slots = length-set slots 0 0
+same-length (suc k) b slots = refl
+
+one-more : (k : ℕ) (ms : List OwnState) (m : OwnState) (r : ℕ) (d : OwnState) → r < length ms → getD (onYes k (ms ++ (m ∷ [])) ms) r d ≡ getD ms r d
+one-more zero ms m r d h = List·getD-append ms (m ∷ []) d r h
+one-more (suc k) ms m r d h = refl
+
+module _ (p : SharedState) (l : SharedLedger) (st : Stands p l) where
+  lengths-same : (c : SharedCall) (r : ℕ) → r < p .allocator .opened → (d : OwnState)
+      → lengthsOf (seen (sharedAfter p c) (ownAt (sharedAfter p c) r d)) ≡ lengthsOf (seen p (ownAt p r d))
+  unfolding sharedAfter
+  lengths-same (Open width quota queries equations) r h d =
+      let k = withAllocatorNo (p .allocator) width (length (p .slots)) in
+      ap₂ own-lengths (same-length k (anyOpened (p .allocator)) (p .slots)) (one-more k (p .owns) _ r d (omega (arith, st .openedIs)))
+  lengths-same (On q stray c) r h d = go (frontNo p q (ownAt p q stray) c) refl
+    where
+      go : (k : ℕ) → frontNo p q (ownAt p q stray) c ≡ k
+          → lengthsOf (seen (onYes k (actedOn p q (ownAt p q stray) c) p) (ownAt (onYes k (actedOn p q (ownAt p q stray) c) p) r d)) ≡ lengthsOf (seen p (ownAt p r d))
+      go zero z = lengths-on p q stray c (omega (arith, is-opened p q (ownAt p q stray) c z, st .openedIs)) r d
+      go (suc k) z = refl
+
+  -- ---- what an accepted one answers
+  first-is : (c : SharedCall) → Accepted (sharedAnswer p c .outcome) → FirstIs p l c
+  unfolding sharedAnswer
+  first-is (Open width quota queries equations) = go (withAllocatorNo (p .allocator) width (length (p .slots)))
+    where
+      go : (k : ℕ) → Accepted (outcomeOf k) → onYes k (p .allocator .opened) 0 ≡ length (l .owns)
+      go zero a = opened-in p l st
+      go (suc k) a = cc
+  first-is (On r stray c) = go (frontNo p r (ownAt p r stray) c) refl
+    where
+      go : (k : ℕ) → frontNo p r (ownAt p r stray) c ≡ k
+          → Accepted (onYes {A = Answer} k (answer (seen p (ownAt p r stray)) c) (refusedWith k) .outcome) → takesVars c ≡ true
+          → onYes {A = Answer} k (answer (seen p (ownAt p r stray)) c) (refusedWith k) .first ≡ l .count
+      go zero z a t =
+          let m = ownAt p r stray in
+          let o = own-at p l st r (is-opened p r m c z) stray in
+          told _ (seen p m) (judgedOn l (ownLedgerAt l r)) (agrees p l st m (ownLedgerAt l r) o) c .first t a
+      go (suc k) z a t = cc
+
+  by-left : (c : SharedCall) → sharedAnswer p c .outcome ≡ outcomeOf (sharedLeft (lengthsFor p c) l c)
+  unfolding sharedLeft
+  by-left (Open width quota queries equations) = left-open p l st width quota queries equations
+  by-left (On r stray c) = left-on p l st r stray c
+
+-- every list
+pub told-calls : (cs : List SharedCall) (p : SharedState) (l : SharedLedger) → Stands p l → AllSharedTold p l cs
+told-calls [] p l st = tt
+told-calls (c ∷ cs) p l st = (
+  record {
+    answers = record { by-questions = answered p c; by-ledger = by-left p l st c };
+    lengths = lengths-same p l st c;
+    first = first-is p l st c;
+  },
+  told-calls cs (sharedAfter p c) (sharedNoted l c (sharedAnswer p c)) (keeps-call c p l st),
+)

@@ -1,0 +1,29 @@
+-- Which questions can still say no along a list of openings and calls: by the ledger and the lengths of what is lent
+-- alone. Assumes nothing.
+use Prim.Native.Nat.{ℕ}
+use mathlib.Core.List.{List, [], _∷_, _++_}
+use lib.Dec.{ltb}
+use lib.ListN.{length}
+use Rattle.limits.specs.Questions.{question, firstNo, pick}
+use Rattle.limits.specs.Asks.{widthAsks}
+use Rattle.sharing.specs.Shares.{maxRelations, onAllocator, quotaAsks, shares}
+use Rattle.sharing.specs.declared.VarAllocator.{VarAllocator}
+use Rattle.history.specs.Calls.{Lengths, frontAsks}
+use Rattle.history.specs.Left.{leftWith}
+use Rattle.shared_history.specs.Calls.{SharedCall, Open, On, SharedLedger, ownLedgerAt, judgedOn}
+
+-- the allocator by the ledger
+abbrev pub allocatorBy : SharedLedger → VarAllocator
+allocatorBy l = record { vars = l .count; opened = length (l .owns) }
+
+-- the number that a call answers, by ledger and lengths; 0 is yes. Of an opening 1 and 42 are left; of a relation's call
+-- what is left to a relation alone, and 43; of a call on a number that isn't opened all up to its 42
+unfoldable pub sharedLeft : Lengths → SharedLedger → SharedCall → ℕ
+sharedLeft lengths l (Open width quota queries equations) =
+    firstNo (widthAsks width ++ (question 42 (ltb (length (l .owns)) maxRelations) ∷ []))
+sharedLeft lengths l (On r stray c) =
+    let e = ownLedgerAt l r in
+    let a = allocatorBy l in
+    pick (ltb r (length (l .owns)))
+    (leftWith (quotaAsks (e .quota) (e .obtained)) (e .width) lengths (judgedOn l e) c)
+    (firstNo (frontAsks (shares a r (stray .relation)) (onAllocator a (stray .relation)) lengths c))

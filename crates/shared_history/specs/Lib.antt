@@ -1,0 +1,4 @@
+pub mod Calls
+pub mod Left
+pub mod Demand
+pub mod Whole
