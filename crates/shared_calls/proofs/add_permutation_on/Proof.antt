@@ -1,0 +1,22 @@
+-- `shared_calls::add_permutation_on` meets its contract: what `shared_recording::add_permutation_on` ensures is what the list has.
+-- Assumes nothing.
+use denote.Ref.{now}
+use Rattle.shared_calls.proofs.Laws.{recorded}
+use borrow.Author.Needs.{needs}
+use Rattle.shared_calls.proofs.add_permutation_on.Statement.{statement}
+use Rattle.shared_calls.proofs.add_permutation_on.Tie as tie
+
+add-permutation-on-requires : tie.Need-add-permutation-on-requires
+add-permutation-on-requires c κs = search needs
+
+same-length : tie.Need-same-length
+same-length c = search needs
+
+returns : tie.Need-returns
+returns c =
+    let a = c .before .before .before .before .before .before .before .args in
+    let made = c .before .before .add-permutation-on .ensures in
+    recorded (a .allocator) (a .index) (a .rel) (now (a .queries)) (now (a .input)) (now (a .output)) _ _ (made .answers) (made .leaves)
+
+pub add-permutation-on-spec : {M : Type 1} → statement M
+add-permutation-on-spec = tie.close (tie.spec add-permutation-on-requires same-length returns)

@@ -1,0 +1,64 @@
+-- What code says that makes one opening or one call of demand 3's list for relations on one allocator, and what the
+-- theorem says of calls made in turn. Assumes nothing.
+use Prim.Native.Nat.{ℕ}
+use mathlib.Core.Path.{_≡_}
+use mathlib.Core.List.{List, [], _∷_, _++_, map}
+use lib.ListN.{getD, set}
+use Rattle.limits.specs.Questions.{pick}
+use Rattle.limits.specs.Outcome.{isAccepted}
+use Rattle.limits.specs.declared.Outcome.the-variants.{Accepted}
+use Rattle.sharing.specs.declared.VarAllocator.{VarAllocator}
+use Rattle.sharing.specs.declared.SharedRelation.{SharedRelation}
+use Rattle.sharing.specs.declared.Opened.{Opened}
+use Rattle.history.specs.Calls.{Call, Answer}
+use Rattle.shared_history.specs.Calls.{OwnState, SharedState, SharedCall, Open, On, sharedAnswer, sharedAfter, SharedLedger, SharedEntry, sharedLedgerOf}
+use Rattle.shared_history.specs.Whole.{noneOpened, opening, beginLedger, sharedLast, sharedLedger, SharedWhole}
+
+-- this allocator, these slots, and what each relation has to itself
+abbrev pub sharedState : VarAllocator → (slots : List ℕ) → (owns : List OwnState) → SharedState
+sharedState a slots owns = record { allocator = a; slots = slots; owns = owns }
+
+-- this record, and these words in its stores
+abbrev pub own : SharedRelation → (queries equations : List ℕ) → OwnState
+own m queries equations = record { relation = m; queries = queries; equations = equations }
+
+-- ---- one call
+-- the call answers x and leaves q, as the theorem's list has it
+pub record SharedPerforms (p : SharedState) (c : SharedCall) (x : Answer) (q : SharedState) : Type 0 where
+  pub answers : sharedAnswer p c ≡ x
+  pub leaves : sharedAfter p c ≡ q
+
+-- a call on relation r, which has the record m and these stores, answers x and leaves the relation with another record
+-- and other stores: whatever the others have, and for a number that isn't opened too
+abbrev pub OnRelation : ℕ → Call → Answer
+    → (a : VarAllocator) (m : SharedRelation) (slots queries equations : List ℕ)
+    → (a : VarAllocator) (m : SharedRelation) (slots queries equations : List ℕ) → Type 0
+OnRelation r c x a m slots queries equations a′ m′ slots′ queries′ equations′ =
+    (owns : List OwnState) (stray : OwnState) → getD owns r stray ≡ own m queries equations
+    → SharedPerforms (sharedState a slots owns) (On r stray c) x (sharedState a′ slots′ (set owns r (own m′ queries′ equations′)))
+
+-- an opening: an accepted one adds the relation
+abbrev pub Opens : (width quota : ℕ) → Opened → (a : VarAllocator) (slots slots′ : List ℕ) → Type 0
+Opens width quota x a slots slots′ =
+    (owns : List OwnState) (queries equations : List ℕ)
+    → SharedPerforms (sharedState a slots owns) (Open width quota queries equations)
+    (record { outcome = x .outcome; first = x .index; accepted = 0 })
+    (sharedState (x .allocator) slots′ (pick (isAccepted (x .outcome)) (owns ++ (own (x .relation) queries equations ∷ [])) owns))
+
+-- ---- calls made in turn
+-- from p to q, each on what the one before it left, with what each answered
+abbrev pub SharedPerformed : SharedState → List SharedEntry → SharedState → Type 0
+SharedPerformed p [] q = p ≡ q
+SharedPerformed p (e ∷ es) q = (u : SharedState) × SharedPerforms p (e .called) (e .answered) u × SharedPerformed u es q
+
+-- the calls of the entries
+abbrev pub sharedCallsOf : List SharedEntry → List SharedCall
+sharedCallsOf es = map (λ (e : SharedEntry). e .called) es
+
+-- the theorem speaks of them: of these calls after a first opening, what they came to, and the ledger of what they
+-- answered
+pub record SharedRun (vars : ℕ) (slots : List ℕ) (width quota : ℕ) (queries equations : List ℕ) (es : List SharedEntry) (q : SharedState) : Type 0 where
+  pub whole : SharedWhole vars slots width quota queries equations (sharedCallsOf es)
+  pub last-is : sharedLast vars slots width quota queries equations (sharedCallsOf es) ≡ q
+  pub ledger-is : sharedLedger vars slots width quota queries equations (sharedCallsOf es)
+      ≡ sharedLedgerOf (beginLedger vars slots width quota queries equations (sharedCallsOf es)) es
