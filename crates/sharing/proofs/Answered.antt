@@ -12,7 +12,7 @@ use Rattle.limits.specs.Questions.{pick, _▸_, Question, firstNo, onYes}
 use Rattle.limits.specs.Asks.{storeAsks}
 use Rattle.limits.specs.Outcome.{asIs}
 use Rattle.limits.specs.declared.Outcome.the-variants as outcome
-use Rattle.limits.proofs.Questions.{▸-zero, Puts, here, there, puts-after, puts, puts-yes}
+use Rattle.limits.proofs.Questions.{▸-zero, here, there, puts-after, puts, puts-yes}
 use Rattle.limits.proofs.Answered.{outcome-refused, stays-by}
 use Rattle.allocator.specs.Slots.{fitAsks, slotsAsks}
 use Rattle.permutation.specs.Answers.{freshSlots}
@@ -21,6 +21,7 @@ use Rattle.sharing.specs.Opening.{withAllocatorAsks, withAllocatorNo, ne
 use Rattle.sharing.specs.Answers.{Does, DoesBoth}
 use Rattle.sharing.specs.declared.VarAllocator.{VarAllocator}
 use Rattle.sharing.specs.declared.Opened.{Opened}
+use Rattle.sharing.proofs.Numbers.{puts-before}
 
 -- ---- a call that its front refuses or lets through
 -- refused with the number, or as it was
@@ -77,11 +78,6 @@ module _ (n o : ℕ) where
   slots-alone v len h = ap (λ (b : Bool). n ▸ firstNo (storeAsks len ++ pick b (fitAsks v len) [])) (sym (le-ltb 0 o h))
 
 -- ---- an opening
--- a question that is put is put where others follow
-puts-before : {k : ℕ} {b : Bool} {ps : List Question} → Puts k b ps → (qs : List Question) → Puts k b (ps ++ qs)
-puts-before here qs = here
-puts-before (there p) qs = there (puts-before p qs)
-
 -- the store has a slot, and there is a number left
 pub record Opens (a : VarAllocator) (len : ℕ) : Type 0 where
   pub room : 1 ≤ len

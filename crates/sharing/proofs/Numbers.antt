@@ -1,0 +1,82 @@
+-- The number that a call of a relation on an allocator shows is the first no of its whole list of questions.
+--
+-- The call puts its front with what sharing puts in, and then the same call on a relation alone puts its front again.
+-- Sharing only puts questions in, but for those of the wire count, which are put where a relation is opened; and where
+-- 42 says yes one is. So where the front with sharing says yes everywhere, the front alone does too, and what is left is
+-- the rest of the list. Assumes nothing.
+use Prim.Native.Nat.{ℕ, zero, suc, _<_}
+use mathlib.Core.Path.{_≡_, refl, sym, ap, _∙_, subst}
+use mathlib.Core.Bool.{Bool, true}
+use mathlib.Core.List.{List, [], _∷_, _++_}
+use native.Mathlib.Omega.{arith}
+use borrow.Author.Tests.{ltb-true, lt-ltb}
+use lib.Dec.{ltb}
+use lib.ListN.{length}
+use Rattle.limits.specs.Questions.{_▸_, Question, firstNo, onYes}
+use Rattle.limits.specs.Outcome.{outcomeNumber}
+use Rattle.limits.proofs.Questions.{both, join, zero-▸, goes-on, stays, firstNo-append, Puts, here, there, puts-yes}
+use Rattle.limits.proofs.Answered.{outcome-number}
+use Rattle.permutation.specs.Sharing.{Sharing, alone}
+use Rattle.sharing.specs.Shares.{anyOpened, openedAsks, quotaAsks, shares}
+use Rattle.sharing.specs.Opening.{withAllocatorAsks, withAllocatorNo, withAllocator}
+use Rattle.sharing.specs.declared.VarAllocator.{VarAllocator}
+use Rattle.sharing.specs.declared.SharedRelation.{SharedRelation}
+
+-- ---- lists of questions
+-- a question that is put is put where others follow
+pub puts-before : {k : ℕ} {b : Bool} {ps : List Question} → Puts k b ps → (qs : List Question) → Puts k b (ps ++ qs)
+puts-before here qs = here
+puts-before (there p) qs = there (puts-before p qs)
+
+-- the first are among the second, in their order
+pub data Among : List Question → List Question → Type 0 where
+  none : Among [] []
+  kept : {q : Question} {ps qs : List Question} → Among ps qs → Among (q ∷ ps) (q ∷ qs)
+  put-in : {q : Question} {ps qs : List Question} → Among ps qs → Among ps (q ∷ qs)
+
+-- found by `search among depth 40`
+pub ruleset among = (none, kept, put-in)
+
+-- where all say yes, those do
+among-yes : {ps qs : List Question} → Among ps qs → firstNo qs ≡ 0 → firstNo ps ≡ 0
+among-yes none e = e
+among-yes (kept p) e = join _ _ (both _ _ e .0) (among-yes p (both _ _ e .1))
+among-yes (put-in p) e = among-yes p (both _ _ e .1)
+
+-- ---- a call's number
+by-front : {A : Type 0} (number : A → ℕ) (k rest : ℕ) (new old : A) → number old ≡ k → (k ≡ 0 → number new ≡ rest)
+    → number (onYes k new old) ≡ k ▸ rest
+by-front number zero rest new old o n = n refl ∙ sym (zero-▸ rest)
+by-front number (suc k) rest new old o n = o ∙ sym (stays (suc k) rest (λ z. absurd (omega (arith, z))))
+
+module _ (a : VarAllocator) (r : ℕ) (m : SharedRelation) where
+  -- what sharing puts in where the wire count is asked, or isn't
+  abbrev pub counting : Bool → Sharing
+  counting b = record { counted = b; opened = openedAsks a r; within = quotaAsks (m .quota) (m .obtained) }
+
+  -- 42 says yes: a relation is opened
+  some-opened : r < a .opened → anyOpened a ≡ true
+  some-opened h = lt-ltb 0 (a .opened) (omega (arith, h))
+
+  -- `front` is the front of a call's questions by what sharing puts in; 42 is one of them
+  module _ (front : Sharing → List Question) (asked : Puts 42 (ltb r (a .opened)) (front (shares a r m)))
+      (inserted : Among (front alone) (front (counting true))) where
+    front-alone : firstNo (front (shares a r m)) ≡ 0 → firstNo (front alone) ≡ 0
+    front-alone e =
+        let o = ltb-true r (a .opened) (puts-yes (front (shares a r m)) e 42 _ tt asked) in
+        among-yes inserted (subst (λ (b : Bool). firstNo (front (counting b)) ≡ 0) (some-opened o) e)
+
+    -- the number of an answer by the front: `new` is that of a relation alone, `old` the refusal
+    pub number-on : {A : Type 0} (number : A → ℕ) (rest : List Question) (new old : A)
+        → number new ≡ firstNo (front alone ++ rest) → number old ≡ firstNo (front (shares a r m))
+        → number (onYes (firstNo (front (shares a r m))) new old) ≡ firstNo (front (shares a r m) ++ rest)
+    number-on number rest new old n o =
+        by-front number (firstNo (front (shares a r m))) (firstNo rest) new old o
+        (λ e. n ∙ firstNo-append (front alone) rest ∙ goes-on (firstNo (front alone)) (firstNo rest) (front-alone e))
+        ∙ sym (firstNo-append (front (shares a r m)) rest)
+
+-- ---- an opening
+pub withAllocator-number : (a : VarAllocator) (width quota : ℕ) (slots : List ℕ)
+    → outcomeNumber (withAllocator a width quota slots .outcome) ≡ firstNo (withAllocatorAsks a width (length slots))
+unfolding withAllocatorNo
+withAllocator-number a width quota slots = outcome-number (withAllocatorNo a width (length slots))
