@@ -110,10 +110,11 @@ pub fn asked_opened(no: u32, allocator: VarAllocator, index: u32) -> u32
 pub fn asked_quota(no: u32, allocator: VarAllocator, rel: SharedRelation, n: u32) -> u32
     ensures { λ r. ⌜ r ≡ no ▸ firstNo (mostAsks (allocator .vars) n ++ quotaAsks (rel .quota) (rel .obtained) n) ⌝ }
 {
+    let most = MAX_COUNT as usize;
     let total = allocator.vars as usize + n as usize;
-    let more = rel.obtained as usize + n as usize;
     let quota = rel.quota as usize;
-    let no = limits::asked(no, total <= MAX_COUNT as usize, 5);
+    let more = rel.obtained as usize + n as usize;
+    let no = limits::asked(no, total <= most, 5);
     limits::asked(no, more <= quota, 43)
 }
 

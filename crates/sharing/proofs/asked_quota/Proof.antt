@@ -5,23 +5,23 @@ use borrow.Author.Needs.{needs}
 use Rattle.sharing.proofs.asked_quota.Statement.{statement}
 use Rattle.sharing.proofs.asked_quota.Tie as tie
 
+cast-most : tie.Need-cast-most
+cast-most c = search needs
+
 cast-total : tie.Need-cast-total
 cast-total c = search needs
 
 add-total : tie.Need-add-total
 add-total c = search needs
 
+cast-quota : tie.Need-cast-quota
+cast-quota c = search needs
+
 cast-more : tie.Need-cast-more
 cast-more c = search needs
 
 add-more : tie.Need-add-more
 add-more c = search needs
-
-cast-quota : tie.Need-cast-quota
-cast-quota c = search needs
-
-cast-asked : tie.Need-cast-asked
-cast-asked c = search needs
 
 asked-requires : tie.Need-asked-requires
 asked-requires c κs = search needs
@@ -36,12 +36,12 @@ pub asked-quota-spec : {M : Type 1} → statement M
 asked-quota-spec =
     tie.close
     (tie.spec
+    cast-most
     cast-total
     add-total
+    cast-quota
     cast-more
     add-more
-    cast-quota
-    cast-asked
     asked-requires
     asked-requires-2
     returns)

@@ -1,6 +1,6 @@
 -- `sharing::with_allocator` meets its contract: refused, a later one, or the first, which sets slot 0.
 -- Assumes nothing.
-use Prim.Native.Nat.{_+_}
+use Prim.Native.Nat.{_+_, _≤_, _<_}
 use native.Mathlib.Omega.{arith}
 use denote.Ref.{now}
 use mathlib.Core.Path.{sym, ap, _∙_}
@@ -46,11 +46,12 @@ returns-2 c =
     let s = now (a .slots) in
     let e = c .before .before .before .with-allocator-no .ensures in
     let z = c .before .before .if1 .left in
+    let some : 0 < a .allocator .opened = omega (arith, c .before .if2 .taken) in
     record {
       answers =
           ap (λ (m : SharedRelation). record { outcome = outcome.Accepted; index = a .allocator .opened; allocator = record { vars = a .allocator .vars; opened = a .allocator .opened + 1 }; relation = m }) (c .new-shared2 .ensures)
-          ∙ opening-later (a .allocator) (a .width) (a .quota) s _ e z (c .before .if2 .taken);
-      leaves = slots-later (a .allocator) (a .width) (a .quota) s _ e z (c .before .if2 .taken);
+          ∙ opening-later (a .allocator) (a .width) (a .quota) s _ e z some;
+      leaves = slots-later (a .allocator) (a .width) (a .quota) s _ e z some;
     }
 
 slice-write-slots : tie.Need-slice-write-slots
@@ -70,11 +71,12 @@ returns-3 c =
     let s = now (a .slots) in
     let e = c .before .before .before .with-allocator-no .ensures in
     let z = c .before .before .if1 .left in
+    let none : a .allocator .opened ≤ 0 = omega (arith, c .before .if2 .left) in
     record {
       answers =
           ap (λ (m : SharedRelation). record { outcome = outcome.Accepted; index = 0; allocator = record { vars = 1; opened = 1 }; relation = m }) (c .new-shared3 .ensures)
-          ∙ opening-first (a .allocator) (a .width) (a .quota) s _ e z (c .before .if2 .left);
-      leaves = slots-first (a .allocator) (a .width) (a .quota) s _ e z (c .before .if2 .left);
+          ∙ opening-first (a .allocator) (a .width) (a .quota) s _ e z none;
+      leaves = slots-first (a .allocator) (a .width) (a .quota) s _ e z none;
     }
 
 pub with-allocator-spec : {M : Type 1} → statement M
