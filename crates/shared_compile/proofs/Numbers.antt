@@ -2,7 +2,7 @@
 -- document 01's order. Assumes nothing.
 use Prim.Native.Nat.{ℕ}
 use mathlib.Core.Path.{_≡_, refl}
-use mathlib.Core.List.{List, [], _++_}
+use mathlib.Core.List.{[], _++_}
 use lib.ListN.{length}
 use Rattle.limits.specs.Questions.{pick, firstNo}
 use Rattle.limits.specs.Outcome.{outcomeNumber}

@@ -16,12 +16,12 @@ use Rattle.allocator.proofs.Run.{run-number, after-number}
 use Rattle.permutation.specs.Sharing.{Sharing}
 use Rattle.permutation.specs.Relation.{relationFront, allocateVarsFront, allocateVarsAsksWith, setVarAsksWith, setVarsFront, setVarsAsks, varAsks, valueOfAsksWith, isAllocatedFront, isAllocatedAsksWith}
 use Rattle.permutation.specs.Numbers.{allocateVarsNo, setVarNo, setVarsNo, valueOfNo, isAllocatedNo}
-use Rattle.permutation.specs.Answers.{firstNumber, isAllocatedNumber, allocateVars, setVar, setVarsRun, valueOf, isAllocated}
+use Rattle.permutation.specs.Answers.{firstNumber, isAllocatedNumber, setVarsRun}
 use Rattle.permutation.specs.declared.PermutationRelation.{PermutationRelation}
 use Rattle.permutation.proofs.Answered.{first-number}
 use Rattle.permutation.proofs.Looked.{value-number, isAllocated-number}
 use Rattle.tickets.specs.Lines.{linesAsks}
-use Rattle.tickets.specs.Tickets.{setTicketsAsksWith, setTicketsRun}
+use Rattle.tickets.specs.Tickets.{setTicketsAsksWith}
 use Rattle.tickets.proofs.Laws.{setTickets-number}
 use Rattle.sharing.specs.Shares.{anyOpened, onAllocator, shares}
 use Rattle.sharing.specs.declared.VarAllocator.{VarAllocator}

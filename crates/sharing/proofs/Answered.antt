@@ -20,7 +20,6 @@ use Rattle.sharing.specs.Shares.{anyOpened}
 use Rattle.sharing.specs.Opening.{withAllocatorAsks, withAllocatorNo, newShared, oneOpened, withAllocator, withAllocatorSlots}
 use Rattle.sharing.specs.Answers.{Does, DoesBoth}
 use Rattle.sharing.specs.declared.VarAllocator.{VarAllocator}
-use Rattle.sharing.specs.declared.Opened.{Opened}
 use Rattle.sharing.proofs.Numbers.{puts-before}
 
 -- ---- a call that its front refuses or lets through

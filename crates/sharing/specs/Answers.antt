@@ -1,6 +1,6 @@
 -- What a call of a relation on an allocator answers and leaves, from what the same call on a relation alone does: a call
 -- that the front of its questions lets through does that, with the records put back; else nothing. Assumes nothing.
-use Prim.Native.Nat.{ℕ, _+_}
+use Prim.Native.Nat.{ℕ}
 use mathlib.Core.Path.{_≡_}
 use mathlib.Core.List.{List}
 use Rattle.limits.specs.declared.Outcome.the-variants as outcome

@@ -4,7 +4,7 @@ use Prim.Native.Nat.{ℕ, _+_}
 use mathlib.Core.List.{List, [], _∷_, _++_}
 use lib.Dec.{ltb, leb}
 use lib.ListN.{length}
-use Rattle.limits.specs.Questions.{Question, question, firstNo, inTurn, pick, onYes}
+use Rattle.limits.specs.Questions.{Question, question, firstNo, pick, onYes}
 use Rattle.limits.specs.Outcome.{outcomeOf}
 use Rattle.allocator.specs.Slots.{fitAsks}
 use Rattle.permutation.specs.Relation.{newRelationAsksWith}

@@ -1,6 +1,6 @@
 -- `shared_recording::add_equation_on` meets its contract: a walk of its MIR, by hand, without a branch. What `held_on` gives goes to `add_equation` with a copy of what the terms' slice owns and the store, which goes there for good; what comes back goes to `equated_on`.
 -- Assumes nothing.
-use mathlib.Core.Path.{_≡_, refl, ap, _∙_}
+use mathlib.Core.Path.{_≡_, refl}
 use Prim.Native.Nat.{ℕ, _<_, _^_}
 use mathlib.Core.List.{List, [], _∷_}
 use lib.ListN.{length}

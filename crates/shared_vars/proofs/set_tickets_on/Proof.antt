@@ -7,7 +7,6 @@ use Rattle.limits.specs.declared.Outcome.{Outcome}
 use Rattle.limits.proofs.Answered.{outcome-refused}
 use Rattle.permutation.specs.declared.PermutationRelation.{PermutationRelation}
 use Rattle.tickets.specs.Tickets.{setTicketsRun, setTicketsOf}
-use Rattle.tickets.specs.declared.SetTickets.{SetTickets}
 use Rattle.shared_vars.specs.Answers.{relationOnNo, setTicketsOnRun}
 use Rattle.shared_vars.proofs.Answered.{runs-refused, runs-through}
 use borrow.Author.Needs.{needs}

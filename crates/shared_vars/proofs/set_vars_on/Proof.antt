@@ -7,8 +7,6 @@ use Rattle.limits.specs.declared.Outcome.{Outcome}
 use Rattle.limits.proofs.Answered.{outcome-refused}
 use Rattle.permutation.specs.Answers.{setVarsRun, setVarsOf}
 use Rattle.permutation.specs.declared.PermutationRelation.{PermutationRelation}
-use Rattle.permutation.specs.declared.SetVars.{SetVars}
-use Rattle.sharing.specs.Shares.{onAllocator}
 use Rattle.shared_vars.specs.Answers.{setVarsOnNo, setVarsOnRun}
 use Rattle.shared_vars.proofs.Answered.{runs-refused, runs-through}
 use borrow.Author.Needs.{needs}

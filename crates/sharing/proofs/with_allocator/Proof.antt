@@ -7,7 +7,6 @@ use mathlib.Core.Path.{sym, ap, _∙_}
 use lib.ListN.{length}
 use Rattle.limits.specs.declared.Outcome.the-variants as outcome
 use Rattle.sharing.specs.declared.SharedRelation.{SharedRelation}
-use Rattle.sharing.specs.declared.Opened.{Opened}
 use Rattle.sharing.proofs.Answered.{opens-yes, opening-refused, slots-refused, opening-later, slots-later, opening-first, slots-first}
 use borrow.Author.Needs.{needs}
 use Rattle.sharing.proofs.with_allocator.Statement.{statement}
