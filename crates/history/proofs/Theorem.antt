@@ -1,7 +1,7 @@
 -- The theorem: what an accepted fresh leaves, any list of calls after it, the gate, both byte forms written and
 -- read, and the check of what was read. Assumes nothing.
 use Prim.Native.Nat.{ℕ}
-use mathlib.Core.Path.{_≡_, refl, sym, ap, _∙_, subst}
+use mathlib.Core.Path.{_≡_, refl, sym, ap, subst}
 use mathlib.Core.List.{List}
 use lib.ListN.{length}
 use Rattle.limits.specs.Outcome.{outcomeOf, outcomeNumber}

@@ -1,27 +1,23 @@
 -- Along a list of calls: each answers by the first no of its questions, which is the first no of those that
 -- ledger and lengths leave; and an accepted allocate or mint answers the ledger's count. Assumes nothing.
-use Prim.Native.Nat.{ℕ, zero, suc, _+_}
-use mathlib.Core.Path.{_≡_, refl, sym, ap, ap₂, _∙_}
+use Prim.Native.Nat.{ℕ, zero, suc}
+use mathlib.Core.Path.{_≡_, refl, sym, ap, _∙_}
 use mathlib.Core.Bool.{true}
-use mathlib.Core.List.{List, [], _∷_, _++_}
-use lib.Dec.{eqb}
+use mathlib.Core.List.{List, [], _∷_}
 use lib.ListN.{length}
-use Rattle.limits.specs.Questions.{ask, _▸_, Question, question, firstNo}
-use Rattle.limits.proofs.Questions.{▸-zero, firstNo-append}
-use Rattle.allocator.specs.Slots.{pairs, pairAsks, pairNo, ran, setRun, itemsAsks}
-use Rattle.allocator.proofs.Run.{run-number, after-number}
+use Rattle.limits.specs.Questions.{Question, firstNo}
 use Rattle.expr.specs.Weighted.{termsOf}
 use Rattle.limits.specs.declared.Outcome.the-variants as outcome
 use Rattle.permutation.specs.declared.PermutationRelation.{PermutationRelation}
 use Rattle.permutation.specs.declared.First.{First}
 use Rattle.permutation.specs.declared.First.the-variants as first
 use Rattle.permutation.specs.Sharing.{afterFive, nothing}
-use Rattle.permutation.specs.Relation.{setVarsAsks}
-use Rattle.permutation.specs.Numbers.{allocateVarsNo, setVarNo, setVarsNo}
+use Rattle.permutation.specs.Numbers.{allocateVarsNo, setVarNo}
 use Rattle.recording.specs.Numbers.{addPermutationNo, allocatePermutationNo, addEquationNo}
 use Rattle.limits.specs.Outcome.{outcomeOf}
-use Rattle.permutation.specs.Answers.{firstOf, firstNumber, firstVar, allocateVars, setVarsRun}
+use Rattle.permutation.specs.Answers.{firstOf, firstNumber, firstVar, allocateVars}
 use Rattle.recording.specs.Answers.{allocatePermutation}
+use Rattle.permutation.proofs.Sets.{setVars-number}
 use Rattle.recording.proofs.Keeps.{allocateVars-first, allocatePermutation-first}
 use Rattle.recording.proofs.Left.{after-relation, allocateVars-left, setVar-left, setVars-left, addPermutation-left, allocatePermutation-left, addEquation-left}
 use Rattle.tickets.specs.Lines.{linesAsks}
@@ -43,26 +39,12 @@ first-no : (f : First) → Accepted (firstOutcome f) → firstNumber f ≡ 0
 first-no (first.Var x) a = refl
 first-no (first.Refused k) a = cc
 
--- a set list's number
-setVars-number : (s : State) (vars values : List ℕ) → setVarsRun (s .relation) (s .slots) vars values .number ≡ firstNo (asks s (SetList vars values))
-unfolding asksWith pairNo setVarsNo setVarsRun
-setVars-number s vars values =
-    let n = s .relation .vars in
-    let before = setVarsAsks (s .relation) (length (s .slots)) vars values in
-    let these = itemsAsks (pairAsks n) (λ p. p) (s .slots) (pairs vars values) in
-    let nine = question 9 (eqb (length vars) (length values)) ∷ [] in
-    let r = setRun n (s .slots) (pairs vars values) in
-    after-number (firstNo before) (ran (r .number ▸ ask 9 (eqb (length vars) (length values))) (r .accepted) (r .slots)) (s .slots)
-    ∙ ap (λ (k : ℕ). firstNo before ▸ k)
-    (ap₂ _▸_ (run-number (pairNo n) (λ p. p) (pairAsks n) (λ t p. refl) (s .slots) (pairs vars values)) (sym (▸-zero _)) ∙ sym (firstNo-append these nine))
-    ∙ sym (firstNo-append before (these ++ nine))
-
 -- each call answers by the first no of its questions
 pub by-questions : (s : State) (c : Call) → answer s c .outcome ≡ outcomeOf (firstNo (asks s c))
 unfolding answer asksWith allocateVarsNo setVarNo addPermutationNo allocatePermutationNo addEquationNo
 by-questions s (Allocate n) = first-outcome (allocateVarsNo (s .relation) (length (s .slots)) n) (s .relation .vars)
 by-questions s (Set p) = refl
-by-questions s (SetList vars values) = ap outcomeOf (setVars-number s vars values)
+by-questions s (SetList vars values) = ap outcomeOf (setVars-number (s .relation) (s .slots) vars values)
 by-questions s (Record input output) = refl
 by-questions s (Mint input) =
     first-outcome (allocatePermutationNo (s .relation) (length (s .slots)) (length (s .queries)) input) (s .relation .vars)
@@ -79,7 +61,7 @@ module _ (w : ℕ) (s : State) (l : Ledger) (i : Agrees w s l) where
   unfolding asksWith leftWith setVarNo addPermutationNo addEquationNo
   number-left within (Allocate n) = allocateVars-left w _ _ _ _ _ _ _ _ i within n
   number-left within (Set p) = setVar-left w _ _ _ _ _ _ _ _ i p
-  number-left within (SetList vars values) = sym (setVars-number s vars values) ∙ setVars-left w _ _ _ _ _ _ _ _ i vars values
+  number-left within (SetList vars values) = sym (setVars-number rel (s .slots) vars values) ∙ setVars-left w _ _ _ _ _ _ _ _ i vars values
   number-left within (Record input output) = addPermutation-left w _ _ _ _ _ _ _ _ i input output
   number-left within (Mint input) = allocatePermutation-left w _ _ _ _ _ _ _ _ i within input
   number-left within (Equate terms image) = addEquation-left w _ _ _ _ _ _ _ _ i (termsOf terms) image

@@ -2,19 +2,18 @@
 -- contracts cite; and the ledger, which is fed each call and its answer. Assumes nothing.
 use Prim.Native.Nat.{ℕ, _+_}
 use mathlib.Core.List.{List, [], _∷_, _++_, map}
-use lib.Dec.{eqb}
 use lib.ListN.{length, take}
 use Rattle.limits.specs.Questions.{Question, question, pick}
 use Rattle.limits.specs.Outcome.{isAccepted}
 use Rattle.limits.specs.declared.Outcome.{Outcome}
 use Rattle.limits.specs.declared.Outcome.the-variants as outcome
-use Rattle.allocator.specs.Slots.{Pair, pair, pairs, pairAsks, itemsAsks}
+use Rattle.allocator.specs.Slots.{Pair, pair, pairs}
 use Rattle.allocator.specs.Values.{joins}
 use Rattle.expr.specs.Equation.{Equation, equation}
 use Rattle.expr.specs.Weighted.{termsOf}
 use Rattle.expr.specs.declared.Weighted.{Weighted}
 use Rattle.permutation.specs.Sharing.{Sharing, alone}
-use Rattle.permutation.specs.Relation.{relationFront, allocateVarsFront, allocateVarsAsksWith, setVarAsksWith, setVarsFront}
+use Rattle.permutation.specs.Relation.{relationFront, allocateVarsFront, allocateVarsAsksWith, setVarAsksWith, setVarsFront, setVarsAsksWith}
 use Rattle.recording.specs.Relation.{addPermutationFront, addPermutationAsksWith, allocatePermutationFront, allocatePermutationAsksWith, addEquationFront, addEquationAsksWith}
 use Rattle.permutation.specs.Answers.{firstVar, newRelation, newSlots, allocateVars, allocateVarsSlots, setVar, setVarSlots, setVars, setVarsSlots}
 use Rattle.recording.specs.Answers.{addPermutation, addPermutationQueries, allocatePermutation, allocatePermutationSlots, allocatePermutationQueries, addEquation, addEquationEquations, upFrom}
@@ -64,9 +63,7 @@ lengthsOf s = record { slots = length (s .slots); queries = length (s .queries);
 unfoldable pub asksWith : Sharing → State → Call → List Question
 asksWith h s (Allocate n) = allocateVarsAsksWith h (s .relation) (length (s .slots)) n
 asksWith h s (Set p) = setVarAsksWith h (s .relation) (s .slots) p
-asksWith h s (SetList vars values) =
-    setVarsFront h (s .relation) (length (s .slots)) vars values
-    ++ (itemsAsks (pairAsks (s .relation .vars)) (λ p. p) (s .slots) (pairs vars values) ++ (question 9 (eqb (length vars) (length values)) ∷ []))
+asksWith h s (SetList vars values) = setVarsAsksWith h (s .relation) (s .slots) vars values
 asksWith h s (Record input output) = addPermutationAsksWith h (s .relation) (length (s .queries)) input output
 asksWith h s (Mint input) = allocatePermutationAsksWith h (s .relation) (length (s .slots)) (length (s .queries)) input
 asksWith h s (Equate terms image) = addEquationAsksWith h (s .relation) (length (s .equations)) (termsOf terms) image

@@ -7,7 +7,8 @@ use lib.ListN.{length}
 use Rattle.limits.specs.Numbers.{maxCount, maxWidth}
 use Rattle.limits.proofs.Questions.{both, firstNo-append, puts, puts-yes}
 use Rattle.allocator.specs.Slots.{Pair, pairAsks, pairNo}
-use Rattle.permutation.specs.Relation.{newRelationAsks, relationAsks, allocateVarsAsks, setVarsAsks, valueOfAsks}
+use Rattle.permutation.specs.Sharing.{alone}
+use Rattle.permutation.specs.Relation.{newRelationAsks, relationAsks, allocateVarsAsks, setVarsFront, valueOfAsks}
 use Rattle.permutation.specs.Numbers.{newRelationNo, allocateVarsNo, setVarNo, setVarsNo, valueOfNo}
 use Rattle.permutation.specs.declared.PermutationRelation.{PermutationRelation}
 
@@ -51,7 +52,7 @@ pub setVars-yes : (rel : PermutationRelation) (len : ℕ) (vars values : List �
     → length vars ≤ maxCount
 unfolding setVarsNo
 setVars-yes rel len vars values e =
-    leb-true _ _ (puts-yes (setVarsAsks rel len vars values) e 2 _ tt (search puts depth 20))
+    leb-true _ _ (puts-yes (setVarsFront alone rel len vars values) e 2 _ tt (search puts depth 20))
 
 -- ---- value: the slots hold the wires
 pub value-yes : (rel : PermutationRelation) (len var : ℕ) → valueOfNo rel len var ≡ 0 → rel .vars ≤ len

@@ -1,17 +1,18 @@
 -- A set and a set list on a relation: 1 and 2 come first, then what the allocator says of the pairs.
 -- Assumes nothing.
 use Prim.Native.Nat.{ℕ}
-use mathlib.Core.Path.{_≡_, sym, ap, _∙_}
-use mathlib.Core.List.{List}
+use mathlib.Core.Path.{_≡_, refl, sym, ap, ap₂, _∙_}
+use mathlib.Core.List.{List, [], _∷_, _++_}
 use lib.Dec.{eqb}
 use lib.ListN.{length, set}
-use Rattle.limits.specs.Questions.{ask, _▸_, firstNo, onYes}
-use Rattle.limits.proofs.Questions.{stays, goes-on, firstNo-append}
-use Rattle.allocator.specs.Slots.{Pair, pairAsks, pairNo, pairs, SetRun, ran, setRun}
+use Rattle.limits.specs.Questions.{ask, _▸_, question, firstNo, onYes}
+use Rattle.limits.proofs.Questions.{stays, goes-on, ▸-zero, firstNo-append}
+use Rattle.allocator.specs.Slots.{Pair, pairAsks, pairNo, pairs, itemsAsks, SetRun, ran, setRun}
 use Rattle.allocator.specs.Assign.{assignVarSlots, howFar, Runs}
 use Rattle.allocator.specs.declared.SetPairs.{SetPairs}
-use Rattle.allocator.proofs.Run.{stopped, items-refused, items-accepted}
-use Rattle.permutation.specs.Relation.{relationAsks}
+use Rattle.allocator.proofs.Run.{run-number, after-number, stopped, items-refused, items-accepted}
+use Rattle.permutation.specs.Sharing.{alone}
+use Rattle.permutation.specs.Relation.{relationAsks, setVarsFront, setVarsAsks}
 use Rattle.permutation.specs.Numbers.{setVarNo, setVarsNo}
 use Rattle.limits.specs.Outcome.{outcomeOf, asIs}
 use Rattle.permutation.specs.Answers.{setVarSlots, setVarsRun}
@@ -78,3 +79,18 @@ module _ (rel : PermutationRelation) (slots vars values : List ℕ) (k : ℕ) (e
     pub pairs-accepted : j ≡ 0 → SetsVars asIs rel slots vars values (tell Accepted (q .accepted)) slots₁
     unfolding setVarsRun
     pairs-accepted y = items-accepted tell (setVarsNo rel (length slots) vars values) k e slots both z j (q .accepted) slots₁ both-is y
+
+-- the number of the whole list, pairs and 9 included
+pub setVars-number : (rel : PermutationRelation) (slots vars values : List ℕ)
+    → setVarsRun rel slots vars values .number ≡ firstNo (setVarsAsks rel slots vars values)
+unfolding pairNo setVarsNo setVarsRun
+setVars-number rel slots vars values =
+    let n = rel .vars in
+    let front = setVarsFront alone rel (length slots) vars values in
+    let these = itemsAsks (pairAsks n) (λ p. p) slots (pairs vars values) in
+    let nine = question 9 (eqb (length vars) (length values)) ∷ [] in
+    let run = setRun n slots (pairs vars values) in
+    after-number (firstNo front) (ran (run .number ▸ ask 9 (eqb (length vars) (length values))) (run .accepted) (run .slots)) slots
+    ∙ ap (λ (k : ℕ). firstNo front ▸ k)
+    (ap₂ _▸_ (run-number (pairNo n) (λ p. p) (pairAsks n) (λ t p. refl) slots (pairs vars values)) (sym (▸-zero _)) ∙ sym (firstNo-append these nine))
+    ∙ sym (firstNo-append front (these ++ nine))

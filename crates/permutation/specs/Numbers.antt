@@ -3,7 +3,8 @@ use Prim.Native.Nat.{ℕ}
 use mathlib.Core.List.{List}
 use Rattle.limits.specs.Questions.{firstNo}
 use Rattle.allocator.specs.Slots.{Pair}
-use Rattle.permutation.specs.Relation.{newRelationAsks, allocateVarsAsks, setVarAsks, setVarsAsks, valueOfAsks, isAllocatedAsks}
+use Rattle.permutation.specs.Sharing.{alone}
+use Rattle.permutation.specs.Relation.{newRelationAsks, allocateVarsAsks, setVarAsks, setVarsFront, valueOfAsks, isAllocatedAsks}
 use Rattle.permutation.specs.declared.PermutationRelation.{PermutationRelation}
 
 -- of fresh
@@ -20,7 +21,7 @@ setVarNo rel slots p = firstNo (setVarAsks rel slots p)
 
 -- of the set list, what comes before the pairs
 unfoldable pub setVarsNo : PermutationRelation → ℕ → List ℕ → List ℕ → ℕ
-setVarsNo rel len vars values = firstNo (setVarsAsks rel len vars values)
+setVarsNo rel len vars values = firstNo (setVarsFront alone rel len vars values)
 
 -- of the value of a wire
 unfoldable pub valueOfNo : PermutationRelation → ℕ → ℕ → ℕ

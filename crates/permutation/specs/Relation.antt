@@ -3,13 +3,13 @@
 -- last question that sharing puts in, and the rest. Assumes nothing.
 use Prim.Native.Nat.{ℕ, _*_}
 use mathlib.Core.List.{List, [], _∷_, _++_}
-use lib.Dec.{ltb, leb}
+use lib.Dec.{eqb, ltb, leb}
 use lib.ListN.{length}
 use Rattle.limits.specs.Numbers.{maxCount}
 use Rattle.limits.specs.Questions.{Question, question, inTurn}
 use Rattle.limits.specs.Asks.{widthAsks, storeAsks, countAsks}
 use Rattle.words.specs.Pieces.{heldAsks}
-use Rattle.allocator.specs.Slots.{Pair, fitAsks, mostAsks, roomAsks, pairAsks}
+use Rattle.allocator.specs.Slots.{Pair, pairs, fitAsks, mostAsks, roomAsks, pairAsks, itemsAsks}
 use Rattle.permutation.specs.Sharing.{Sharing, alone, whereCounted}
 use Rattle.permutation.specs.declared.PermutationRelation.{PermutationRelation}
 
@@ -69,7 +69,7 @@ setVarAsksWith h rel slots p = relationFront h rel (length slots) ++ pairAsks (r
 abbrev pub setVarAsks : PermutationRelation → List ℕ → Pair → List Question
 setVarAsks = setVarAsksWith alone
 
--- set list: 1, and 2 of the two lists too; what follows, 3, 4, 7, 8 pair by pair and then 9, is `setVarsRun`
+-- set list: 1, and 2 of the two lists too ..
 abbrev pub setVarsFront : Sharing → PermutationRelation → ℕ → List ℕ → List ℕ → List Question
 setVarsFront h rel len vars values = inTurn (
     relationAsksWith h rel len
@@ -78,9 +78,15 @@ setVarsFront h rel len vars values = inTurn (
     ∷ h .opened
     ∷ [])
 
+-- .. then 3, 4, 7, 8 pair by pair, on the slots as the pairs before leave them, and 9
+abbrev pub setVarsAsksWith : Sharing → PermutationRelation → (slots vars values : List ℕ) → List Question
+setVarsAsksWith h rel slots vars values =
+    setVarsFront h rel (length slots) vars values
+    ++ (itemsAsks (pairAsks (rel .vars)) (λ p. p) slots (pairs vars values) ++ (question 9 (eqb (length vars) (length values)) ∷ []))
+
 -- alone
-abbrev pub setVarsAsks : PermutationRelation → ℕ → List ℕ → List ℕ → List Question
-setVarsAsks = setVarsFront alone
+abbrev pub setVarsAsks : PermutationRelation → (slots vars values : List ℕ) → List Question
+setVarsAsks = setVarsAsksWith alone
 
 -- 3 of one wire
 abbrev pub varAsks : ℕ → List Question

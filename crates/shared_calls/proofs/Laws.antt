@@ -4,13 +4,12 @@ use Prim.Native.Nat.{ℕ, zero, suc, _+_}
 use mathlib.Core.Path.{_≡_, refl, sym, ap, ap₂, _∙_}
 use mathlib.Core.List.{List, [], _∷_, _++_}
 use native.Mathlib.Omega.{arith}
-use lib.ListN.{length, getD, set}
+use lib.ListN.{length, set}
 use Rattle.limits.specs.Questions.{pick, onYes}
 use Rattle.limits.specs.Outcome.{outcomeOf, isAccepted}
 use Rattle.limits.specs.declared.Outcome.{Outcome}
 use Rattle.limits.specs.declared.Outcome.the-variants as outcome
-use Rattle.allocator.specs.Slots.{Pair, SetRun, runAfter}
-use Rattle.allocator.specs.Assign.{Runs}
+use Rattle.allocator.specs.Slots.{Pair, runAfter}
 use Rattle.expr.specs.Weighted.{termsOf}
 use Rattle.expr.specs.declared.Weighted.{Weighted}
 use Rattle.permutation.specs.Numbers.{allocateVarsNo}
@@ -32,9 +31,9 @@ use Rattle.sharing.specs.declared.RecordedOn.{RecordedOn}
 use Rattle.shared_vars.specs.Answers.{relationOnNo, allocateVarsOnNo, setVarsOnNo, allocateVarsOn, allocateVarsOnSlots, setVarOn, setVarOnSlots, setVarsOnRun, setTicketsOnRun}
 use Rattle.shared_recording.specs.Answers.{addPermutationOnNo, allocatePermutationOnNo, addEquationOnNo, addPermutationOn, addPermutationOnQueries, allocatePermutationOn, allocatePermutationOnSlots, allocatePermutationOnQueries, addEquationOn, addEquationOnEquations}
 use Rattle.history.specs.Calls.{Call, Allocate, Set, SetList, Record, Mint, Equate, Tickets, State, Answer, frontAsks, firstOutcome, ofOutcome, ofFirst, ofSetVars, ofSetTickets, answer, after}
-use Rattle.shared_history.specs.Calls.{OwnState, SharedState, Open, On, seen, taken, frontNo, refusedWith, actedOn, sharedAnswer, sharedAfter}
+use Rattle.shared_history.specs.Calls.{OwnState, seen, taken, frontNo, refusedWith, actedOn, sharedAnswer, sharedAfter}
 use Rattle.shared_history.proofs.Lists.{set-same}
-use Rattle.shared_calls.specs.Performs.{sharedState, own, SharedPerforms, OnRelation, Opens}
+use Rattle.shared_calls.specs.Performs.{sharedState, own, OnRelation, Opens}
 
 -- ---- an opening
 pub opens : (width quota : ℕ) (x : Opened) (a : VarAllocator) (slots slots′ : List ℕ)

@@ -6,13 +6,12 @@ use mathlib.Core.List.{List, [], _∷_, _++_, map}
 use lib.ListN.{getD, set}
 use Rattle.limits.specs.Questions.{pick}
 use Rattle.limits.specs.Outcome.{isAccepted}
-use Rattle.limits.specs.declared.Outcome.the-variants.{Accepted}
 use Rattle.sharing.specs.declared.VarAllocator.{VarAllocator}
 use Rattle.sharing.specs.declared.SharedRelation.{SharedRelation}
 use Rattle.sharing.specs.declared.Opened.{Opened}
 use Rattle.history.specs.Calls.{Call, Answer}
-use Rattle.shared_history.specs.Calls.{OwnState, SharedState, SharedCall, Open, On, sharedAnswer, sharedAfter, SharedLedger, SharedEntry, sharedLedgerOf}
-use Rattle.shared_history.specs.Whole.{noneOpened, opening, beginLedger, sharedLast, sharedLedger, SharedWhole}
+use Rattle.shared_history.specs.Calls.{OwnState, SharedState, SharedCall, Open, On, sharedAnswer, sharedAfter, SharedEntry, sharedLedgerOf}
+use Rattle.shared_history.specs.Whole.{opening, beginLedger, sharedLast, sharedLedger, SharedWhole}
 
 -- this allocator, these slots, and what each relation has to itself
 abbrev pub sharedState : VarAllocator → (slots : List ℕ) → (owns : List OwnState) → SharedState

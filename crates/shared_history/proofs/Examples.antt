@@ -8,21 +8,19 @@ use mathlib.Core.List.{List, [], _∷_, map}
 use native.Mathlib.Omega.{arith}
 use lib.ListN.{replicate}
 use Rattle.limits.specs.Questions.{ask, _▸_}
-use Rattle.limits.specs.declared.Outcome.{Outcome}
 use Rattle.limits.specs.declared.Outcome.the-variants.{Accepted, Refused}
 use Rattle.words.specs.Store.{allBelow}
 use Rattle.utf8.specs.Utf8.{follow, isUtf8}
 use Rattle.baby_bear.specs.Field.{addUnit, mulUnit, seventh, dotUnits}
-use Rattle.allocator.specs.Slots.{pair, pairNo, setItems}
-use Rattle.expr.specs.Equation.{Term, equation, equationAt, sizeAt}
+use Rattle.allocator.specs.Slots.{pair, pairNo}
+use Rattle.expr.specs.Equation.{equation, equationAt, sizeAt}
 use Rattle.expr.specs.declared.Weighted.{Weighted}
-use Rattle.permutation.specs.Numbers.{allocateVarsNo, setVarNo, setVarsNo}
-use Rattle.permutation.specs.Answers.{relation, setVarsRun}
+use Rattle.permutation.specs.Numbers.{allocateVarsNo, setVarNo}
+use Rattle.permutation.specs.Answers.{relation}
 use Rattle.recording.specs.Numbers.{addPermutationNo, allocatePermutationNo, addEquationNo}
 use Rattle.permute.specs.Permute.{addConstants, raise, timesMatrix, runRound, runRounds}
 use Rattle.permute.specs.Parameters.{roundsOf, rowsOf, parametersOf, soundKinds, unitConstants, unitRows, soundParameters, permuteNo, sameWords, isEvaluation}
 use Rattle.instance.specs.Parts.{partsOf}
-use Rattle.instance.specs.declared.PermutationInstance.{PermutationInstance}
 use Rattle.held.specs.Held.{equationsSound, publicsSound, slotsSound}
 use Rattle.validated.specs.Validated.{validatedNo, gateNo}
 use Rattle.compile.specs.Gate.{publicsOf, compiledParts, instanceOf, compileNo, compile, compilePublics}

@@ -1,24 +1,28 @@
 -- The front of a call's questions: what sharing puts in, taken out again where it says yes. Then the questions come down to
 -- those of a relation alone. Assumes nothing.
-use Prim.Native.Nat.{ℕ}
+use Prim.Native.Nat.{ℕ, suc, _<_}
 use mathlib.Core.Path.{_≡_, refl, sym, ap, _∙_}
 use mathlib.Core.Bool.{true}
 use mathlib.Core.List.{List, [], _∷_, _++_}
-use lib.Dec.{eqb}
+use lib.Dec.{eqb, ltb}
 use lib.ListN.{length}
-use Rattle.limits.specs.Questions.{_▸_, Question, question, firstNo}
+use Rattle.limits.specs.Questions.{pick, _▸_, Question, question, firstNo, onYes}
+use Rattle.limits.specs.Outcome.{outcomeOf}
 use Rattle.limits.specs.Asks.{widthAsks, storeAsks, countAsks}
-use Rattle.limits.proofs.Questions.{both, join, ▸-zero, goes-on, firstNo-append}
-use Rattle.allocator.specs.Slots.{pairs, mostAsks, roomAsks, pairAsks, itemsAsks}
+use Rattle.limits.proofs.Questions.{both, ▸-zero, goes-on, firstNo-append, Puts, here, there, puts-after}
+use Rattle.allocator.specs.Slots.{pairs, fitAsks, mostAsks, roomAsks, pairAsks, itemsAsks}
 use Rattle.expr.specs.Weighted.{termsOf}
-use Rattle.permutation.specs.Sharing.{Sharing, afterFive, alone, whereCounted}
-use Rattle.permutation.specs.Relation.{queriesAsks, equationsAsks, relationAsks, relationAsksWith, relationFront}
+use Rattle.permutation.specs.Sharing.{Sharing, afterFive, alone}
+use Rattle.permutation.specs.Relation.{queriesAsks, equationsAsks, relationAsks, relationFront}
 use Rattle.permutation.specs.declared.PermutationRelation.{PermutationRelation}
 use Rattle.recording.specs.Relation.{addPermutationRest, mintSizes, mintAsks, allocatePermutationRest, addEquationRest}
 use Rattle.tickets.specs.Lines.{linesAsks}
 use Rattle.compile.specs.Gate.{GateLent, lentStoresAsks, lentSoundAsks, madeAsks, compileFront, compileAsksWith}
-use Rattle.history.specs.Calls.{Call, Allocate, Set, SetList, Record, Mint, Equate, Tickets, State, Lengths, lengthsOf, asksWith, frontAsks}
-use Rattle.shared_history.specs.Calls.{wiresOf}
+use Rattle.sharing.specs.Shares.{anyOpened, shares}
+use Rattle.sharing.specs.declared.VarAllocator.{VarAllocator}
+use Rattle.sharing.specs.declared.SharedRelation.{SharedRelation}
+use Rattle.sharing.proofs.Numbers.{Among, among, puts-before, counting, is-opened, shown-on}
+use Rattle.history.specs.Calls.{Call, Allocate, Set, SetList, Record, Mint, Equate, Tickets, State, Lengths, lengthsOf, Answer, asksWith, frontAsks}
 
 -- ---- lists of questions
 -- accepted: both parts are
@@ -62,45 +66,40 @@ module _ (o : List Question) (w : ℕ → List Question) (z : firstNo o ≡ 0) w
   settled rel n (Equate terms image) = drop-mid (widthAsks (rel .width) ++ (equationsAsks rel (n .equations) ++ countAsks (rel .vars))) o [] z
   settled rel n (Tickets text) = drop-end (relationAsks rel (n .slots)) o z
 
--- what follows 5, taken out where it says yes
-front-yes : (w : ℕ → List Question) (rel : PermutationRelation) (n : Lengths) (c : Call)
-    → firstNo (frontAsks (afterFive w) rel n c) ≡ 0 → firstNo (frontAsks alone rel n c) ≡ 0
-unfolding frontAsks
-front-yes w rel n (Allocate a) z = parts-yes (relationAsks rel (n .slots) ++ mostAsks (rel .vars) a) (w a) z .0
-front-yes w rel n (Set p) z = z
-front-yes w rel n (SetList vars values) z = z
-front-yes w rel n (Record input output) z = z
-front-yes w rel n (Mint input) z = parts-yes (mintSizes alone rel (n .slots) (n .queries) input ++ mintAsks rel input) (w (rel .width)) z .0
-front-yes w rel n (Equate terms image) z = z
-front-yes w rel n (Tickets text) z = z
+-- ---- the front that a call of relation r puts
+module _ (a : VarAllocator) (r : ℕ) (m : SharedRelation) (rel : PermutationRelation) (n : Lengths) where
+  -- what is asked of the wire count, with the slots and without
+  abbrev fit : List Question
+  fit = pick (anyOpened a) (fitAsks (rel .vars) (n .slots)) []
 
--- ---- any sharing
--- a front that says yes: what follows 2 does, and what follows 5 of the wires that the call asks for
-module _ (h : Sharing) (rel : PermutationRelation) (n : Lengths) where
-  pub opened-yes : (c : Call) → firstNo (frontAsks h rel n c) ≡ 0 → firstNo (h .opened) ≡ 0
+  abbrev count : List Question
+  count = pick (anyOpened a) (countAsks (rel .vars)) []
+
+  -- 42 is among its questions
+  asked : (c : Call) → Puts 42 (ltb r (a .opened)) (frontAsks (shares a r m) rel n c)
   unfolding frontAsks
-  opened-yes (Allocate a) z = parts-yes (relationAsksWith h rel (n .slots)) (h .opened) (parts-yes (relationFront h rel (n .slots)) (mostAsks (rel .vars) a ++ h .within a) z .0) .1
-  opened-yes (Set p) z = parts-yes (relationAsksWith h rel (n .slots)) (h .opened) z .1
-  opened-yes (SetList vars values) z =
-      parts-yes (h .opened) []
-      (parts-yes (storeAsks (length vars) ++ storeAsks (length values)) (h .opened ++ [])
-      (parts-yes (relationAsksWith h rel (n .slots)) (storeAsks (length vars) ++ (storeAsks (length values) ++ (h .opened ++ []))) z .1) .1) .0
-  opened-yes (Record input output) z =
-      parts-yes (h .opened) []
-      (parts-yes (storeAsks (length input) ++ storeAsks (length output)) (h .opened ++ [])
-      (parts-yes (whereCounted h (countAsks (rel .vars))) (storeAsks (length input) ++ (storeAsks (length output) ++ (h .opened ++ [])))
-      (parts-yes (widthAsks (rel .width) ++ queriesAsks rel (n .queries))
-      (whereCounted h (countAsks (rel .vars)) ++ (storeAsks (length input) ++ (storeAsks (length output) ++ (h .opened ++ [])))) z .1) .1) .1) .0
-  opened-yes (Mint input) z =
-      parts-yes (h .opened) []
-      (parts-yes (queriesAsks rel (n .queries) ++ storeAsks (length input)) (h .opened ++ [])
-      (parts-yes (relationAsksWith h rel (n .slots)) (queriesAsks rel (n .queries) ++ (storeAsks (length input) ++ (h .opened ++ [])))
-      (parts-yes (mintSizes h rel (n .slots) (n .queries) input) (mintAsks rel input ++ h .within (rel .width)) z .0) .1) .1) .0
-  opened-yes (Equate terms image) z =
-      parts-yes (h .opened) []
-      (parts-yes (whereCounted h (countAsks (rel .vars))) (h .opened ++ [])
-      (parts-yes (widthAsks (rel .width) ++ equationsAsks rel (n .equations)) (whereCounted h (countAsks (rel .vars)) ++ (h .opened ++ [])) z .1) .1) .0
-  opened-yes (Tickets text) z = parts-yes (relationAsksWith h rel (n .slots)) (h .opened) z .1
+  asked (Allocate x) = there (there (there (puts-before (puts-after fit (there here)) _)))
+  asked (Set p) = there (there (there (puts-after fit (there here))))
+  asked (SetList vars values) = there (there (there (puts-after fit (there (there (there here))))))
+  asked (Record input output) = there (there (there (there (puts-after count (there (there (there here)))))))
+  asked (Mint input) = there (there (there (puts-before (puts-after fit (there (there (there (there here))))) _)))
+  asked (Equate terms image) = there (there (there (there (there (puts-after count (there here))))))
+  asked (Tickets text) = there (there (there (puts-after fit (there here))))
+
+  -- and sharing only puts questions in
+  inserted : (c : Call) → Among (frontAsks alone rel n c) (frontAsks (counting a r m true) rel n c)
+  unfolding frontAsks
+  inserted (Allocate x) = search among depth 40
+  inserted (Set p) = search among depth 40
+  inserted (SetList vars values) = search among depth 40
+  inserted (Record input output) = search among depth 40
+  inserted (Mint input) = search among depth 40
+  inserted (Equate terms image) = search among depth 40
+  inserted (Tickets text) = search among depth 40
+
+  -- let through: the relation is opened
+  pub front-opened : (c : Call) → firstNo (frontAsks (shares a r m) rel n c) ≡ 0 → r < a .opened
+  front-opened c = is-opened a r m (λ (h : Sharing). frontAsks h rel n c) (asked c) (inserted c)
 
 -- of the wires that an allocate or a mint asks for
 pub allocate-within : (h : Sharing) (rel : PermutationRelation) (n : Lengths) (a : ℕ) → firstNo (frontAsks h rel n (Allocate a)) ≡ 0
@@ -118,14 +117,6 @@ mint-within h rel n input z =
 -- a sharing that asks for the count
 counted-is : (h : Sharing) → h .counted ≡ true → h ≡ sharedWith (h .opened) (h .within)
 counted-is h e = λ j. record { counted = e j; opened = h .opened; within = h .within }
-
--- where it says yes everywhere, a relation alone is asked nothing that says no
-pub alone-yes : (h : Sharing) → h .counted ≡ true → (rel : PermutationRelation) (n : Lengths) (c : Call)
-    → firstNo (frontAsks h rel n c) ≡ 0 → firstNo (frontAsks alone rel n c) ≡ 0
-alone-yes h e rel n c z =
-    front-yes (h .within) rel n c
-    (sym (settled (h .opened) (h .within) (opened-yes h rel n c z) rel n c)
-    ∙ sym (ap (λ (x : Sharing). firstNo (frontAsks x rel n c)) (counted-is h e)) ∙ z)
 
 -- ---- whole lists
 -- what comes after the front
@@ -148,6 +139,16 @@ front-rest h s (Record input output) = refl
 front-rest h s (Mint input) = refl
 front-rest h s (Equate terms image) = refl
 front-rest h s (Tickets text) = refl
+
+-- the outcome by the front: of an answer on a relation alone, or of the refusal
+pub outcome-on : (a : VarAllocator) (r : ℕ) (m : SharedRelation) (s : State) (c : Call) (new old : Answer)
+    → new .outcome ≡ outcomeOf (firstNo (asksWith alone s c))
+    → ((j : ℕ) → firstNo (frontAsks (shares a r m) (s .relation) (lengthsOf s) c) ≡ suc j → old .outcome ≡ outcomeOf (suc j))
+    → onYes (firstNo (frontAsks (shares a r m) (s .relation) (lengthsOf s) c)) new old .outcome ≡ outcomeOf (firstNo (asksWith (shares a r m) s c))
+outcome-on a r m s c new old e o =
+    shown-on a r m (λ (h : Sharing). frontAsks h (s .relation) (lengthsOf s) c) (asked a r m (s .relation) (lengthsOf s) c) (inserted a r m (s .relation) (lengthsOf s) c)
+    (λ (x : Answer). x .outcome) outcomeOf (rest s c) new old (e ∙ ap (λ (qs : List Question). outcomeOf (firstNo qs)) (front-rest alone s c)) o
+    ∙ ap (λ (qs : List Question). outcomeOf (firstNo qs)) (sym (front-rest (shares a r m) s c))
 
 pub asks-front : (h : Sharing) (s : State) (c : Call)
     → firstNo (asksWith h s c) ≡ firstNo (frontAsks h (s .relation) (lengthsOf s) c) ▸ firstNo (rest s c)
@@ -177,10 +178,3 @@ gate-opened h e l =
 -- so where that says yes, it is that of a relation alone
 pub gate-settled : (h : Sharing) → h .counted ≡ true → firstNo (h .opened) ≡ 0 → (l : GateLent) → firstNo (compileFront h l) ≡ firstNo (compileFront alone l)
 gate-settled h e z l = gate-opened h e l ∙ ap (λ (k : ℕ). firstNo (compileFront alone l) ▸ k) z ∙ ▸-zero _
-
--- and where the front says yes, that does
-pub gate-opened-yes : (h : Sharing) (l : GateLent) → firstNo (compileFront h l) ≡ 0 → firstNo (h .opened) ≡ 0
-gate-opened-yes h l z =
-    let stores = lentStoresAsks l in
-    parts-yes (h .opened) []
-    (parts-yes stores (h .opened ++ []) (parts-yes (relationAsksWith h (l .relation) (length (l .slots))) (stores ++ (h .opened ++ [])) z .1) .1) .0

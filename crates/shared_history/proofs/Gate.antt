@@ -2,25 +2,23 @@
 -- what is asked before it is asked again with the same answer. That of a number that isn't opened goes no further than 42.
 -- And what the others do after a gate leaves the relation's record and stores, from which the bytes are made.
 -- Assumes nothing.
-use Prim.Native.Nat.{ℕ, zero, suc, _≤_, _<_}
-use mathlib.Core.Path.{_≡_, refl, sym, ap, ap₂, _∙_, subst}
+use Prim.Native.Nat.{ℕ, zero, suc, _<_}
+use mathlib.Core.Path.{_≡_, refl, sym, ap, _∙_, subst}
 use mathlib.Core.List.{List, [], _∷_, _++_}
 use native.Mathlib.Omega.{arith}
 use lib.ListN.{length, getD, replicate, length-set, length-append, List·getD-append}
 use Rattle.limits.specs.Questions.{_▸_, firstNo, onYes}
 use Rattle.limits.specs.Outcome.{outcomeOf}
-use Rattle.limits.proofs.Questions.{accepted-says, firstNo-append, goes-on, stays}
 use Rattle.words.specs.Store.{All}
 use Rattle.permutation.specs.Sharing.{Sharing, alone}
 use Rattle.sharing.specs.Opening.{withAllocatorNo}
 use Rattle.instance.specs.Looks.{noInstance}
 use Rattle.compile.specs.Gate.{GateLent, publicsOf, instanceOf, publicsStore, lentSoundAsks, madeAsks, compileFront, compileAsksWith, compileAsks, compileNo, refusedBy, compile, compilePublics}
-use Rattle.compile.specs.declared.Compiled.{Compiled}
 use Rattle.shared_compile.specs.Gate.{compileOnNo, compileOn, compilePublicsOn}
 use Rattle.shared_history.specs.Calls.{OwnState, SharedState, SharedCall, Open, On, ownAt, frontNo, actedOn, sharedAfter, sharedFinal}
 use Rattle.shared_history.specs.Whole.{Other}
 use Rattle.shared_history.proofs.Lists.{getD-set-other}
-use Rattle.shared_history.proofs.Fronts.{gate-front, gate-settled}
+use Rattle.shared_history.proofs.Fronts.{gate-front}
 
 -- ---- the gate, by the number of its front
 -- what a number does where its beginning is asked first
@@ -30,17 +28,6 @@ first-again f g zero n x q t = refl
 first-again f g (suc k) n x q t = sym (t k) ∙ ap f (sym q)
 
 module _ (h : Sharing) (l : GateLent) where
-  -- whatever sharing puts in: the answer is by the first no of all questions, provided that where the front says yes, it
-  -- does for a relation alone
-  pub outcome-on : (firstNo (compileFront h l) ≡ 0 → firstNo (compileFront alone l) ≡ 0) → compileOn h l .outcome ≡ outcomeOf (firstNo (compileAsksWith h l))
-  unfolding compileOn compileOnNo compile compileNo
-  outcome-on f = go (firstNo (compileFront h l)) refl ∙ ap outcomeOf (sym (gate-front h l))
-    where
-      go : (k : ℕ) → firstNo (compileFront h l) ≡ k
-          → onYes {A = Compiled} k (compile l) (refusedBy k) .outcome ≡ outcomeOf (firstNo (compileFront h l) ▸ firstNo (lentSoundAsks l ++ madeAsks l))
-      go zero z = ap outcomeOf (gate-front alone l ∙ goes-on _ _ (f z) ∙ sym (goes-on _ _ z))
-      go (suc k) z = ap outcomeOf (sym (stays (suc k) (firstNo (lentSoundAsks l ++ madeAsks l)) (λ e. absurd (omega arith))) ∙ ap (λ (x : ℕ). x ▸ firstNo (lentSoundAsks l ++ madeAsks l)) (sym z))
-
   -- where sharing puts in nothing that says no
   module _ (same : firstNo (compileFront h l) ≡ firstNo (compileFront alone l)) where
     number-is : compileNo l ≡ compileOnNo h l ▸ firstNo (lentSoundAsks l ++ madeAsks l)

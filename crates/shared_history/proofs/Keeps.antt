@@ -3,7 +3,7 @@
 -- others keep theirs. Assumes nothing.
 use Prim.Native.Nat.{ℕ, zero, suc, _+_, _≤_, _<_}
 use mathlib.Core.Path.{_≡_, refl, sym, ap, ap₂, _∙_, subst}
-use mathlib.Core.Bool.{Bool, true, false}
+use mathlib.Core.Bool.{Bool, true}
 use mathlib.Core.List.{List, [], _∷_, _++_}
 use native.Mathlib.Omega.{arith}
 use borrow.Author.Tests.{ltb-true, leb-true, lt-ltb}
@@ -17,21 +17,19 @@ use Rattle.limits.specs.declared.Outcome.the-variants as outcome
 use Rattle.limits.proofs.Questions.{accepted-says}
 use Rattle.allocator.specs.Slots.{pair, fitAsks}
 use Rattle.permutation.specs.Numbers.{newRelationNo}
-use Rattle.permutation.specs.Relation.{newRelationAsks}
 use Rattle.permutation.specs.Answers.{relation, freshSlots}
 use Rattle.recording.specs.State.{Holds}
 use Rattle.recording.proofs.Keeps.{new-holds}
-use Rattle.sharing.specs.Shares.{maxRelations, anyOpened, openedAsks, quotaAsks, onAllocator}
-use Rattle.sharing.specs.Opening.{openingAsks, withAllocatorNo, withAllocatorAsks, newShared, oneOpened}
-use Rattle.sharing.specs.declared.VarAllocator.{VarAllocator}
+use Rattle.sharing.specs.Shares.{maxRelations, anyOpened, quotaAsks, onAllocator}
+use Rattle.sharing.specs.Opening.{openingAsks, withAllocatorNo, newShared, oneOpened}
 use Rattle.history.specs.Ledger.{Ledger}
-use Rattle.history.specs.Calls.{Call, Allocate, Set, SetList, Record, Mint, Equate, Tickets, State, lengthsOf, Answer, onAccepted, answer, after, noted}
+use Rattle.history.specs.Calls.{Call, Allocate, Set, SetList, Record, Mint, Equate, Tickets, lengthsOf, Answer, answer, after, noted}
 use Rattle.history.specs.Demand.{Accepted}
 use Rattle.history.proofs.Outcomes.{accepted-no}
-use Rattle.history.proofs.Keeps.{Agrees, keeps}
+use Rattle.history.proofs.Keeps.{keeps}
 use Rattle.shared_history.specs.Calls.{OwnState, SharedState, SharedCall, Open, On, ownAt, seen, sharesOf, wiresOf, taken, frontNo, refusedWith, sharedAnswer, ownAfter, actedOn, sharedAfter, OwnLedger, SharedLedger, newOwnLedger, firstShared, ownLedgerAt, judgedOn, ownLedgerAfter, sharedNoted, sharedFinal, sharedLog, sharedLedgerOf}
-use Rattle.shared_history.proofs.Lists.{set-same, Both, both-set, both-more}
-use Rattle.shared_history.proofs.Fronts.{parts-yes, mid-yes, opened-yes, allocate-within, mint-within}
+use Rattle.shared_history.proofs.Lists.{set-same, both-set, both-more}
+use Rattle.shared_history.proofs.Fronts.{parts-yes, mid-yes, front-opened, allocate-within, mint-within}
 use Rattle.shared_history.proofs.Stands.{Own, Stands, own-at, agrees, obtained-set, obtained-new}
 
 -- ---- the ledger
@@ -80,11 +78,9 @@ noted-none l r stray c k =
 -- ---- a relation's call
 module _ (p : SharedState) (r : ℕ) (m : OwnState) where
   -- let through: 42 says yes
-  pub is-opened : (c : Call) → frontNo p r m c ≡ 0 → r < p .allocator .opened
+  pub through-opened : (c : Call) → frontNo p r m c ≡ 0 → r < p .allocator .opened
   unfolding frontNo
-  is-opened c z =
-      ltb-true _ _ (accepted-says (openedAsks (p .allocator) r) tt
-      (opened-yes (sharesOf p r m) (onAllocator (p .allocator) (m .relation)) (lengthsOf (seen p m)) c z) 1)
+  through-opened c z = front-opened (p .allocator) r (m .relation) (onAllocator (p .allocator) (m .relation)) (lengthsOf (seen p m)) c z
 
   -- and 43
   within-quota : (n : ℕ) → firstNo (quotaAsks (m .relation .quota) (m .relation .obtained) n) ≡ 0 → m .relation .obtained + n ≤ m .relation .quota
@@ -120,7 +116,7 @@ module _ (p : SharedState) (l : SharedLedger) (st : Stands p l) (r : ℕ) (stray
   acted-stands : frontNo p r m c ≡ 0 → Stands (actedOn p r m c) (sharedNoted l (On r stray c) a)
   unfolding sharedNoted
   acted-stands z =
-      let h = is-opened p r m c z in
+      let h = through-opened p r m c z in
       let o = own-at p l st r h stray in
       let i = keeps (e .width) (seen p m) (judgedOn l e) (agrees p l st m e o) c in
       let n = taken (m .relation .width) c a in

@@ -3,22 +3,21 @@
 use Prim.Native.Nat.{ℕ, _≤_, _<_}
 use mathlib.Core.Path.{_≡_, sym, ap, _∙_, subst}
 use mathlib.Core.List.{List}
-use mathlib.Core.Bool.{Bool, true}
 use native.Mathlib.Omega.{arith}
-use borrow.Author.Tests.{ltb-true, lt-ltb, le-ltb}
+use borrow.Author.Tests.{lt-ltb, le-ltb}
 use lib.ListN.{length}
 use lib.Dec.{ltb}
 use Rattle.limits.specs.Questions.{_▸_, firstNo}
 use Rattle.limits.specs.Outcome.{outcomeOf}
-use Rattle.limits.specs.declared.Outcome.{Outcome}
-use Rattle.limits.proofs.Questions.{accepted-says, ask-no, goes-on, stays, ▸-zero}
+use Rattle.limits.proofs.Questions.{ask-no, goes-on, stays, ▸-zero}
 use Rattle.words.specs.Store.{All}
-use Rattle.permutation.specs.Sharing.{alone}
-use Rattle.sharing.specs.Shares.{onAllocator, openedAsks, shares}
+use Rattle.permutation.specs.Sharing.{Sharing, alone}
+use Rattle.sharing.specs.Shares.{onAllocator, shares}
 use Rattle.sharing.specs.declared.VarAllocator.{VarAllocator}
 use Rattle.compile.specs.Gate.{GateLent, gateLent, compileFront}
+use Rattle.sharing.proofs.Numbers.{some-opened, is-opened}
+use Rattle.shared_compile.proofs.Numbers.{gate-asked, gate-inserted, compileOn-outcome}
 use Rattle.compile.specs.declared.Compiled.{Compiled}
-use Rattle.history.specs.Ledger.{Ledger}
 use Rattle.history.specs.Calls.{lengthsOf}
 use Rattle.history.specs.Demand.{Accepted}
 use Rattle.history.specs.Whole.{lentToGate, compiled, Gated, Judged}
@@ -27,11 +26,11 @@ use Rattle.history.proofs.Theorem as base
 use Rattle.shared_history.specs.Calls.{OwnState, SharedState, SharedCall, ownAt, seen, sharesOf, sharedAnswer, SharedLedger, ownLedgerAt, judgedOn, sharedFinal}
 use Rattle.shared_history.specs.Left.{allocatorBy}
 use Rattle.shared_history.specs.Whole.{Other, gateOn, lentBy, Unopened, noneOpened, opening, sharedLast, sharedLedger, SharedWhole}
-use Rattle.shared_history.proofs.Fronts.{gate-front, gate-opened, gate-settled, gate-opened-yes}
+use Rattle.shared_history.proofs.Fronts.{gate-front, gate-opened, gate-settled}
 use Rattle.shared_history.proofs.Stands.{Stands, opened-in, own-at, agrees, counted}
 use Rattle.shared_history.proofs.Keeps.{begins, keeps-calls}
-use Rattle.shared_history.proofs.Gate.{outcome-on, asked-is, compiled-is, publics-are, kept-all}
-use Rattle.shared_history.proofs.Told.{counted-is, allocator-is, opened-yes, told-calls}
+use Rattle.shared_history.proofs.Gate.{asked-is, compiled-is, publics-are, kept-all}
+use Rattle.shared_history.proofs.Told.{allocator-is, opened-yes, told-calls}
 
 -- ---- a relation that is opened
 module _ (p : SharedState) (l : SharedLedger) (st : Stands p l) (r : ℕ) (h : r < p .allocator .opened) (stray : OwnState) where
@@ -40,7 +39,7 @@ module _ (p : SharedState) (l : SharedLedger) (st : Stands p l) (r : ℕ) (h : r
 
   -- its gate is that of a relation alone
   same-front : (g : GateLent) → firstNo (compileFront (sharesOf p r own) g) ≡ firstNo (compileFront alone g)
-  same-front g = gate-settled (sharesOf p r own) (counted-is (p .allocator) r h) (opened-yes p l st r h) g
+  same-front g = gate-settled (sharesOf p r own) (some-opened (p .allocator) r (own .relation) h) (opened-yes p l st r h) g
 
   same-gate : (label publics scratch : List ℕ) → gateOn p r own label publics scratch .answer ≡ compiled (seen p own) label publics scratch
   same-gate label publics scratch = compiled-is (sharesOf p r own) (lentToGate (seen p own) label publics scratch) (same-front (lentToGate (seen p own) label publics scratch))
@@ -77,15 +76,11 @@ module _ (p : SharedState) (r : ℕ) (m : OwnState) (label publics scratch : Lis
   abbrev lent : GateLent
   lent = lentToGate (seen p m) label publics scratch
 
-  -- a front that says yes: the relation is opened
+  -- let through: the relation is opened
   gate-is-opened : firstNo (compileFront (sharesOf p r m) lent) ≡ 0 → r < p .allocator .opened
-  gate-is-opened z = ltb-true _ _ (accepted-says (openedAsks (p .allocator) r) tt (gate-opened-yes (sharesOf p r m) lent z) 1)
-
-  -- by questions, whatever the state
-  gate-answered : gateOn p r m label publics scratch .answer .outcome ≡ outcomeOf (firstNo (gateOn p r m label publics scratch .asked))
-  gate-answered =
-      outcome-on (sharesOf p r m) lent
-      (λ z. sym (gate-settled (sharesOf p r m) (counted-is (p .allocator) r (gate-is-opened z)) (gate-opened-yes (sharesOf p r m) lent z) lent) ∙ z)
+  gate-is-opened =
+      is-opened (p .allocator) r (m .relation) (λ (h : Sharing). compileFront h lent)
+      (gate-asked (p .allocator) r (m .relation) lent) (gate-inserted (p .allocator) r (m .relation) lent)
 
 module _ (p : SharedState) (l : SharedLedger) (st : Stands p l) (r : ℕ) (n : p .allocator .opened ≤ r) (m : OwnState) (label publics scratch : List ℕ) where
   abbrev lent-by : GateLent
@@ -100,7 +95,7 @@ module _ (p : SharedState) (l : SharedLedger) (st : Stands p l) (r : ℕ) (n : p
   gate-by : gateOn p r m label publics scratch .answer .outcome ≡ outcomeOf (firstNo (compileFront (shares (allocatorBy l) r (m .relation)) lent-by))
   gate-by =
       let ask = lentToGate (seen p m) label publics scratch in
-      gate-answered p r m label publics scratch
+      compileOn-outcome (p .allocator) r (m .relation) ask
       ∙ ap outcomeOf
       (gate-front (sharesOf p r m) ask
       ∙ stays _ _ (λ z. absurd (omega (arith, gate-is-opened p r m label publics scratch z)))
@@ -119,7 +114,7 @@ module _ (p : SharedState) (l : SharedLedger) (st : Stands p l) (r : ℕ) (n : p
   unopened-is : Unopened p l r m label publics scratch
   unopened-is =
       record {
-        answers = record { by-questions = gate-answered p r m label publics scratch; by-ledger = gate-by };
+        answers = record { by-questions = compileOn-outcome (p .allocator) r (m .relation) (lentToGate (seen p m) label publics scratch); by-ledger = gate-by };
         number = λ z. gate-by ∙ ap outcomeOf (refused-42 z);
       }
 

@@ -2,69 +2,51 @@
 -- ledger and lengths leave; no store changes its length; an accepted opening answers the next number, an accepted
 -- allocate or mint the ledger's count. Assumes nothing.
 use Prim.Native.Nat.{ℕ, zero, suc, _≤_, _<_}
-use mathlib.Core.Path.{_≡_, refl, sym, ap, ap₂, _∙_, subst}
+use mathlib.Core.Path.{_≡_, refl, ap, ap₂, _∙_}
 use mathlib.Core.Bool.{Bool, true, false}
 use mathlib.Core.List.{List, [], _∷_, _++_}
 use native.Mathlib.Omega.{arith}
 use borrow.Author.Tests.{ltb-true, ltb-false, lt-ltb, le-leb}
 use lib.Dec.{ltb, leb}
-use lib.ListN.{length, getD, set, length-set, length-append, List·getD-append}
+use lib.ListN.{length, getD, length-set, List·getD-append}
 use Rattle.limits.specs.Numbers.{maxCount}
-use Rattle.limits.specs.Questions.{ask, _▸_, Question, question, firstNo, pick, onYes}
+use Rattle.limits.specs.Questions.{ask, _▸_, question, firstNo, pick, onYes}
 use Rattle.limits.specs.Outcome.{outcomeOf}
 use Rattle.limits.specs.Asks.{widthAsks}
 use Rattle.limits.specs.declared.Outcome.the-variants as outcome
-use Rattle.limits.proofs.Questions.{ask-yes, goes-on, stays, zero-▸}
-use Rattle.permutation.specs.Sharing.{Sharing, afterFive, alone}
+use Rattle.limits.proofs.Questions.{stays}
 use Rattle.allocator.specs.Slots.{fitAsks}
 use Rattle.permutation.specs.Relation.{newRelationAsksWith}
 use Rattle.permutation.specs.Answers.{freshSlots}
 use Rattle.sharing.specs.Shares.{maxRelations, anyOpened, onAllocator, openedAsks, quotaAsks, shares}
-use Rattle.sharing.specs.Opening.{withAllocatorNo, newShared}
+use Rattle.sharing.specs.Opening.{withAllocatorNo}
 use Rattle.sharing.specs.declared.VarAllocator.{VarAllocator}
-use Rattle.history.specs.Calls.{Call, State, Lengths, lengthsOf, asksWith, asks, frontAsks, Answer, answer, after}
+use Rattle.sharing.proofs.Numbers.{some-opened}
+use Rattle.history.specs.Calls.{Call, Lengths, lengthsOf, asksWith, frontAsks, Answer, answer, after}
 use Rattle.history.specs.Left.{leftWith}
 use Rattle.history.specs.Demand.{Accepted, takesVars}
-use Rattle.history.proofs.Outcomes.{accepted-no, past-yes, past-fits, then}
+use Rattle.history.proofs.Outcomes.{past-yes, past-fits, then}
 use Rattle.history.proofs.Lengths.{lengths-kept}
 use Rattle.history.proofs.Told.{by-questions, number-left, told}
 use Rattle.shared_history.specs.Calls.{OwnState, SharedState, SharedCall, Open, On, ownAt, seen, sharesOf, lengthsFor, taken, frontNo, refusedWith, sharedAsks, sharedAnswer, ownAfter, actedOn, sharedAfter, SharedLedger, ownLedgerAt, judgedOn, sharedNoted}
 use Rattle.shared_history.specs.Left.{allocatorBy, sharedLeft}
-use Rattle.shared_history.specs.Demand.{FirstIs, SharedTold, AllSharedTold}
+use Rattle.shared_history.specs.Demand.{FirstIs, AllSharedTold}
 use Rattle.shared_history.proofs.Lists.{getD-past, set-keeps}
-use Rattle.shared_history.proofs.Fronts.{alone-yes, rest, asks-front, asks-settled}
+use Rattle.shared_history.proofs.Fronts.{rest, outcome-on, asks-front, asks-settled}
 use Rattle.shared_history.proofs.Stands.{Stands, opened-in, own-at, agrees}
-use Rattle.shared_history.proofs.Keeps.{is-opened, keeps-call}
+use Rattle.shared_history.proofs.Keeps.{through-opened, keeps-call}
 
 -- ---- by questions, whatever the state
--- a relation that is opened: the count is asked
-pub counted-is : (a : VarAllocator) (r : ℕ) → r < a .opened → anyOpened a ≡ true
-counted-is a r h = lt-ltb 0 (a .opened) (omega arith)
-
--- the first no of two, where the first is this number
-onward : (k n : ℕ) → k ≡ n → (j : ℕ) → k ▸ j ≡ n ▸ j
-onward k n e j = ap (λ (x : ℕ). x ▸ j) e
-
 module _ (p : SharedState) (r : ℕ) (m : OwnState) (c : Call) where
-  -- let through: what a relation alone is asked comes down to the rest
-  through : frontNo p r m c ≡ 0 → firstNo (asks (seen p m) c) ≡ firstNo (rest (seen p m) c)
+  answered-on : onYes {A = Answer} (frontNo p r m c) (answer (seen p m) c) (refusedWith (frontNo p r m c)) .outcome
+      ≡ outcomeOf (firstNo (asksWith (sharesOf p r m) (seen p m) c))
   unfolding frontNo
-  through z =
-      asks-front alone (seen p m) c
-      ∙ goes-on _ _ (alone-yes (sharesOf p r m) (counted-is (p .allocator) r (is-opened p r m c z)) (onAllocator (p .allocator) (m .relation)) (lengthsOf (seen p m)) c z)
+  answered-on =
+      outcome-on (p .allocator) r (m .relation) (seen p m) c (answer (seen p m) c) (refusedWith (frontNo p r m c)) (by-questions (seen p m) c) (λ j e. ap outcome.Refused e)
 
   number-is : firstNo (asksWith (sharesOf p r m) (seen p m) c) ≡ frontNo p r m c ▸ firstNo (rest (seen p m) c)
   unfolding frontNo
   number-is = asks-front (sharesOf p r m) (seen p m) c
-
-  answered-on : onYes {A = Answer} (frontNo p r m c) (answer (seen p m) c) (refusedWith (frontNo p r m c)) .outcome
-      ≡ outcomeOf (firstNo (asksWith (sharesOf p r m) (seen p m) c))
-  answered-on = go (frontNo p r m c) refl ∙ ap outcomeOf (sym number-is)
-    where
-      go : (k : ℕ) → frontNo p r m c ≡ k
-          → onYes {A = Answer} k (answer (seen p m) c) (refusedWith k) .outcome ≡ outcomeOf (frontNo p r m c ▸ firstNo (rest (seen p m) c))
-      go zero z = by-questions (seen p m) c ∙ ap outcomeOf (through z ∙ sym (goes-on _ _ z))
-      go (suc k) z = ap outcomeOf (sym (stays (suc k) (firstNo (rest (seen p m) c)) (λ e. absurd (omega arith))) ∙ sym (onward _ _ z _))
 
 -- every opening and every call
 pub answered : (p : SharedState) (c : SharedCall) → sharedAnswer p c .outcome ≡ outcomeOf (firstNo (sharedAsks p c))
@@ -93,7 +75,7 @@ module _ (p : SharedState) (l : SharedLedger) (st : Stands p l) where
     left-opened h =
         let e = ownLedgerAt l r in
         let o = own-at p l st r h stray in
-        asks-settled (sharesOf p r m) (counted-is (p .allocator) r h) (opened-yes r h) (seen p m) c
+        asks-settled (sharesOf p r m) (some-opened (p .allocator) r (m .relation) h) (opened-yes r h) (seen p m) c
         ∙ number-left (e .width) (seen p m) (judgedOn l e) (agrees p l st m e o) (quotaAsks (m .relation .quota) (m .relation .obtained)) c
         ∙ ap₂ (λ (q b : ℕ). leftWith (quotaAsks q b) (e .width) (lengthsOf (seen p m)) (judgedOn l e) c) (o .quotaIs) (o .obtainedIs)
 
@@ -104,7 +86,7 @@ module _ (p : SharedState) (l : SharedLedger) (st : Stands p l) where
     front-by h =
         let s = getD-past (p .owns) r stray (omega (arith, st .openedIs)) in
         number-is p r m c
-        ∙ stays (frontNo p r m c) _ (λ z. absurd (omega (arith, is-opened p r m c z)))
+        ∙ stays (frontNo p r m c) _ (λ z. absurd (omega (arith, through-opened p r m c z)))
         ∙ ap₂ (λ (a : VarAllocator) (x : OwnState). firstNo (frontAsks (shares a r (x .relation)) (onAllocator a (x .relation)) (lengthsOf (seen p m)) c)) allocator-is s
 
     left-on : sharedAnswer p (On r stray c) .outcome ≡ outcomeOf (sharedLeft (lengthsOf (seen p m)) l (On r stray c))
@@ -173,7 +155,7 @@ module _ (p : SharedState) (l : SharedLedger) (st : Stands p l) where
     where
       go : (k : ℕ) → frontNo p q (ownAt p q stray) c ≡ k
           → lengthsOf (seen (onYes k (actedOn p q (ownAt p q stray) c) p) (ownAt (onYes k (actedOn p q (ownAt p q stray) c) p) r d)) ≡ lengthsOf (seen p (ownAt p r d))
-      go zero z = lengths-on p q stray c (omega (arith, is-opened p q (ownAt p q stray) c z, st .openedIs)) r d
+      go zero z = lengths-on p q stray c (omega (arith, through-opened p q (ownAt p q stray) c z, st .openedIs)) r d
       go (suc k) z = refl
 
   -- ---- what an accepted one answers
@@ -191,7 +173,7 @@ module _ (p : SharedState) (l : SharedLedger) (st : Stands p l) where
           → onYes {A = Answer} k (answer (seen p (ownAt p r stray)) c) (refusedWith k) .first ≡ l .count
       go zero z a t =
           let m = ownAt p r stray in
-          let o = own-at p l st r (is-opened p r m c z) stray in
+          let o = own-at p l st r (through-opened p r m c z) stray in
           told _ (seen p m) (judgedOn l (ownLedgerAt l r)) (agrees p l st m (ownLedgerAt l r) o) c .first t a
       go (suc k) z a t = cc
 

@@ -1,7 +1,7 @@
 -- Which questions can still say no along a list of openings and calls: by the ledger and the lengths of what is lent
 -- alone. Assumes nothing.
 use Prim.Native.Nat.{ℕ}
-use mathlib.Core.List.{List, [], _∷_, _++_}
+use mathlib.Core.List.{[], _∷_, _++_}
 use lib.Dec.{ltb}
 use lib.ListN.{length}
 use Rattle.limits.specs.Questions.{question, firstNo, pick}

@@ -1,24 +1,23 @@
 -- The number that each call on the wires of relation r of an allocator shows is the first no of its whole list of
 -- questions, in document 01's order. Assumes nothing.
 use Prim.Native.Nat.{ℕ}
-use mathlib.Core.Path.{_≡_, refl, sym, ap, ap₂, _∙_}
-use mathlib.Core.List.{List, [], _∷_, _++_}
-use lib.Dec.{eqb}
+use mathlib.Core.Path.{_≡_, refl}
+use mathlib.Core.List.{List, []}
 use lib.ListN.{length}
-use Rattle.limits.specs.Questions.{pick, ask, _▸_, Question, question, firstNo}
+use Rattle.limits.specs.Questions.{pick, Question, firstNo}
 use Rattle.limits.specs.Asks.{countAsks}
 use Rattle.limits.specs.Outcome.{outcomeNumber}
-use Rattle.limits.proofs.Questions.{▸-zero, firstNo-append, here, there, puts-after}
+use Rattle.limits.proofs.Questions.{here, there, puts-after}
 use Rattle.limits.proofs.Answered.{outcome-number}
-use Rattle.allocator.specs.Slots.{Pair, pairs, fitAsks, roomAsks, pairAsks, pairNo, SetRun, ran, setRun, itemsAsks}
+use Rattle.allocator.specs.Slots.{Pair, fitAsks, roomAsks, pairAsks, SetRun}
 use Rattle.allocator.specs.VarValue.{valueNumber}
-use Rattle.allocator.proofs.Run.{run-number, after-number}
 use Rattle.permutation.specs.Sharing.{Sharing}
-use Rattle.permutation.specs.Relation.{relationFront, allocateVarsFront, allocateVarsAsksWith, setVarAsksWith, setVarsFront, setVarsAsks, varAsks, valueOfAsksWith, isAllocatedFront, isAllocatedAsksWith}
-use Rattle.permutation.specs.Numbers.{allocateVarsNo, setVarNo, setVarsNo, valueOfNo, isAllocatedNo}
-use Rattle.permutation.specs.Answers.{firstNumber, isAllocatedNumber, setVarsRun}
+use Rattle.permutation.specs.Relation.{relationFront, allocateVarsFront, allocateVarsAsksWith, setVarAsksWith, setVarsFront, setVarsAsksWith, varAsks, valueOfAsksWith, isAllocatedFront, isAllocatedAsksWith}
+use Rattle.permutation.specs.Numbers.{allocateVarsNo, setVarNo, valueOfNo, isAllocatedNo}
+use Rattle.permutation.specs.Answers.{firstNumber, isAllocatedNumber}
 use Rattle.permutation.specs.declared.PermutationRelation.{PermutationRelation}
 use Rattle.permutation.proofs.Answered.{first-number}
+use Rattle.permutation.proofs.Sets.{setVars-number}
 use Rattle.permutation.proofs.Looked.{value-number, isAllocated-number}
 use Rattle.tickets.specs.Lines.{linesAsks}
 use Rattle.tickets.specs.Tickets.{setTicketsAsksWith}
@@ -29,25 +28,6 @@ use Rattle.sharing.specs.declared.SharedRelation.{SharedRelation}
 use Rattle.sharing.specs.declared.AllocatedOn.{AllocatedOn}
 use Rattle.sharing.proofs.Numbers.{among, puts-before, number-on}
 use Rattle.shared_vars.specs.Answers.{relationOnNo, allocateVarsOnNo, setVarsOnNo, isAllocatedOnNo, allocateVarsOn, setVarOn, setVarsOnRun, setTicketsOnRun, valueOfOn, isAllocatedOn}
-
--- a set list's questions after its front: 3, 4, 7, 8 pair by pair, then 9
-abbrev pub pairsAsks : PermutationRelation → (slots vars values : List ℕ) → List Question
-pairsAsks rel slots vars values =
-    itemsAsks (pairAsks (rel .vars)) (λ p. p) slots (pairs vars values) ++ (question 9 (eqb (length vars) (length values)) ∷ [])
-
--- of a relation alone
-setVars-number : (rel : PermutationRelation) (slots vars values : List ℕ)
-    → setVarsRun rel slots vars values .number ≡ firstNo (setVarsAsks rel (length slots) vars values ++ pairsAsks rel slots vars values)
-unfolding setVarsNo setVarsRun pairNo
-setVars-number rel slots vars values =
-    let front = setVarsAsks rel (length slots) vars values in
-    let these = itemsAsks (pairAsks (rel .vars)) (λ p. p) slots (pairs vars values) in
-    let nine = question 9 (eqb (length vars) (length values)) ∷ [] in
-    let run = setRun (rel .vars) slots (pairs vars values) in
-    after-number (firstNo front) (ran (run .number ▸ ask 9 (eqb (length vars) (length values))) (run .accepted) (run .slots)) slots
-    ∙ ap (λ (k : ℕ). firstNo front ▸ k)
-    (ap₂ _▸_ (run-number (pairNo (rel .vars)) (λ p. p) (pairAsks (rel .vars)) (λ s p. refl) slots (pairs vars values)) (sym (▸-zero _)) ∙ sym (firstNo-append these nine))
-    ∙ sym (firstNo-append front (these ++ nine))
 
 module _ (a : VarAllocator) (r : ℕ) (m : SharedRelation) where
   abbrev x : PermutationRelation
@@ -80,12 +60,12 @@ module _ (a : VarAllocator) (r : ℕ) (m : SharedRelation) where
 
   -- set list
   pub setVarsOn-number : (slots vars values : List ℕ)
-      → setVarsOnRun a r m slots vars values .number ≡ firstNo (setVarsFront h x (length slots) vars values ++ pairsAsks x slots vars values)
+      → setVarsOnRun a r m slots vars values .number ≡ firstNo (setVarsAsksWith h x slots vars values)
   unfolding setVarsOnNo setVarsOnRun
   setVarsOn-number slots vars values =
       number-on a r m (λ (g : Sharing). setVarsFront g x (length slots) vars values)
       (there (there (there (puts-after (fit (length slots)) (there (there (there here))))))) (search among depth 40)
-      (λ (q : SetRun). q .number) (pairsAsks x slots vars values) _ _ (setVars-number x slots vars values) refl
+      (λ (q : SetRun). q .number) _ _ _ (setVars-number x slots vars values) refl
 
   -- tickets
   pub setTicketsOn-number : (slots text : List ℕ) → setTicketsOnRun a r m slots text .number ≡ firstNo (setTicketsAsksWith h x slots text)

@@ -5,7 +5,7 @@
 -- 42 says yes one is. So where the front with sharing says yes everywhere, the front alone does too, and what is left is
 -- the rest of the list. Assumes nothing.
 use Prim.Native.Nat.{ℕ, zero, suc, _<_}
-use mathlib.Core.Path.{_≡_, refl, sym, _∙_, subst}
+use mathlib.Core.Path.{_≡_, refl, sym, ap, _∙_, subst}
 use mathlib.Core.Bool.{Bool, true}
 use mathlib.Core.List.{List, [], _∷_, _++_}
 use native.Mathlib.Omega.{arith}
@@ -43,37 +43,46 @@ among-yes none e = e
 among-yes (kept p) e = join _ _ (both _ _ e .0) (among-yes p (both _ _ e .1))
 among-yes (put-in p) e = among-yes p (both _ _ e .1)
 
--- ---- a call's number
-by-front : {A : Type 0} (number : A → ℕ) (k rest : ℕ) (new old : A) → number old ≡ k → (k ≡ 0 → number new ≡ rest)
-    → number (onYes k new old) ≡ k ▸ rest
-by-front number zero rest new old o n = n refl ∙ sym (zero-▸ rest)
-by-front number (suc k) rest new old o n = o ∙ sym (stays (suc k) rest (λ z. absurd (omega (arith, z))))
+-- ---- what a call's answer shows, by the number of its front: `shows` takes it from the answer, `of` makes it of a number
+by-front : {A B : Type 0} (shows : A → B) (of : ℕ → B) (k rest : ℕ) (new old : A)
+    → ((j : ℕ) → k ≡ suc j → shows old ≡ of (suc j)) → (k ≡ 0 → shows new ≡ of rest) → shows (onYes k new old) ≡ of (k ▸ rest)
+by-front shows of zero rest new old o n = n refl ∙ ap of (sym (zero-▸ rest))
+by-front shows of (suc k) rest new old o n = o k refl ∙ ap of (sym (stays (suc k) rest (λ z. absurd (omega (arith, z)))))
 
 module _ (a : VarAllocator) (r : ℕ) (m : SharedRelation) where
   -- what sharing puts in where the wire count is asked, or isn't
   abbrev pub counting : Bool → Sharing
   counting b = record { counted = b; opened = openedAsks a r; within = quotaAsks (m .quota) (m .obtained) }
 
-  -- 42 says yes: a relation is opened
-  some-opened : r < a .opened → anyOpened a ≡ true
+  -- relation r is opened: so one is
+  pub some-opened : r < a .opened → anyOpened a ≡ true
   some-opened h = lt-ltb 0 (a .opened) (omega (arith, h))
 
   -- `front` is the front of a call's questions by what sharing puts in; 42 is one of them
   module _ (front : Sharing → List Question) (asked : Puts 42 (ltb r (a .opened)) (front (shares a r m)))
       (inserted : Among (front alone) (front (counting true))) where
-    front-alone : firstNo (front (shares a r m)) ≡ 0 → firstNo (front alone) ≡ 0
-    front-alone e =
-        let o = ltb-true r (a .opened) (puts-yes (front (shares a r m)) e 42 _ tt asked) in
-        among-yes inserted (subst (λ (b : Bool). firstNo (front (counting b)) ≡ 0) (some-opened o) e)
+    -- where it says yes everywhere, relation r is opened
+    pub is-opened : firstNo (front (shares a r m)) ≡ 0 → r < a .opened
+    is-opened e = ltb-true r (a .opened) (puts-yes (front (shares a r m)) e 42 _ tt asked)
 
-    -- the number of an answer by the front: `new` is that of a relation alone, `old` the refusal
+    -- and a relation alone is let through
+    pub front-alone : firstNo (front (shares a r m)) ≡ 0 → firstNo (front alone) ≡ 0
+    front-alone e = among-yes inserted (subst (λ (b : Bool). firstNo (front (counting b)) ≡ 0) (some-opened (is-opened e)) e)
+
+    -- what an answer shows by the front: `new` is that of a relation alone, `old` the refusal
+    pub shown-on : {A B : Type 0} (shows : A → B) (of : ℕ → B) (rest : List Question) (new old : A)
+        → shows new ≡ of (firstNo (front alone ++ rest)) → ((j : ℕ) → firstNo (front (shares a r m)) ≡ suc j → shows old ≡ of (suc j))
+        → shows (onYes (firstNo (front (shares a r m))) new old) ≡ of (firstNo (front (shares a r m) ++ rest))
+    shown-on shows of rest new old n o =
+        by-front shows of (firstNo (front (shares a r m))) (firstNo rest) new old o
+        (λ e. n ∙ ap of (firstNo-append (front alone) rest ∙ goes-on (firstNo (front alone)) (firstNo rest) (front-alone e)))
+        ∙ ap of (sym (firstNo-append (front (shares a r m)) rest))
+
+    -- its number
     pub number-on : {A : Type 0} (number : A → ℕ) (rest : List Question) (new old : A)
         → number new ≡ firstNo (front alone ++ rest) → number old ≡ firstNo (front (shares a r m))
         → number (onYes (firstNo (front (shares a r m))) new old) ≡ firstNo (front (shares a r m) ++ rest)
-    number-on number rest new old n o =
-        by-front number (firstNo (front (shares a r m))) (firstNo rest) new old o
-        (λ e. n ∙ firstNo-append (front alone) rest ∙ goes-on (firstNo (front alone)) (firstNo rest) (front-alone e))
-        ∙ sym (firstNo-append (front (shares a r m)) rest)
+    number-on number rest new old n o = shown-on number (λ k. k) rest new old n (λ j e. o ∙ e)
 
 -- ---- an opening
 pub withAllocator-number : (a : VarAllocator) (width quota : ℕ) (slots : List ℕ)
