@@ -3,3 +3,4 @@ pub mod Relation
 pub mod Trace
 pub mod Gate
 pub mod Sfri
+pub mod Shared

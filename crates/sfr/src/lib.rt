@@ -21,6 +21,7 @@ mod check;
 mod gate;
 mod relation;
 mod sfri;
+mod shared;
 mod trace;
 
 // A word that was read: number 0 and the place after it, or 20, value 0 and the place that was given.
