@@ -21,7 +21,7 @@
  * The questions:
  *    1  Is w from 1 to 24?
  *    2  Is each lent word store (every lent list of u32 is one) at most 2^30 words and the label below 2^32 bytes,
- *       and do the counts fit the stores, with 1 to 2^30 wires in a relation's record?
+ *       and do the counts fit the stores, with 1 to 2^30 wires in a relation's record? Are at most 8 relations opened?
  *    3  Is every wire below 2^30?
  *    4  Is every unit below p? (3 and 4 are put to what is handed in; what stores hold falls under 11.)
  *    5  Would there be at most 2^30 wires?
@@ -49,6 +49,8 @@
  *   36  Is the wire below the wire count?
  *   40  Is the ticket line in its form, and not cut short at the text's end?
  *   41  Is its step count below p?
+ *   42  Is a relation of this number opened? Of an opening: are fewer than 8?
+ *   43  Does the quota hold what the relation obtained and the new wires?
  *
  * The same functions stand for Rust in rust/, behind slices. */
 #ifndef SFR_H
@@ -221,6 +223,109 @@ sfr_value sfr_value_of(sfr_relation rel, const uint32_t *slots, size_t slots_len
 /* Is the wire allocated? Questions 1, 2 of the wire count, 3. Nothing is lent. */
 sfr_flag sfr_is_allocated(sfr_relation rel, uint32_t var);
 
+/* ---- Relations on one allocator. ----
+ *
+ * Up to 8 relations, of any widths, over one slot store and one wire count. They are numbered from 0 as they are opened.
+ * Each has queries and equations of its own, and a quota: how many wires it may allocate and mint. A wire that one of
+ * them sets is set for all. A call is handed the allocator, the relation's number and the relation's record, as the last
+ * calls gave them back; it is the call of the same name above, with the allocator's wire count as the relation's. Where
+ * nothing is opened, 2 isn't asked of the wire count, which may be anything. */
+
+/* What they share, handed in and back by value: the wire count, and how many relations are opened. All zeros before the
+ * first opening. */
+typedef struct {
+    uint32_t vars;
+    uint32_t opened;
+} sfr_var_allocator;
+
+/* A relation's own record, handed in and back by value: that of a single relation without the wire count, its quota, and
+ * how many wires it obtained. */
+typedef struct {
+    uint32_t width;
+    uint32_t queries;
+    uint32_t equations;
+    uint32_t words;
+    uint32_t quota;
+    uint32_t obtained;
+} sfr_shared_relation;
+
+/* `first` is the number of the relation that is opened, or the first wire that an allocation or a mint answers; 0 elsewhere
+ * and after a refusal. A refused call gives back both records as they were given, a refused opening the allocator, and a
+ * relation's record of zeros. */
+typedef struct {
+    uint32_t number;
+    uint32_t first;
+    sfr_var_allocator allocator;
+    sfr_shared_relation relation;
+} sfr_shared_answer;
+
+/* Opens a relation of that width and quota, and answers its number: how many were opened before. The first opening does to
+ * slots and wire count what sfr_new_relation does, a later one leaves both. The quota may be any number.
+ * Questions 1, 2, 42, 6. Lent: slots, at least one word, and a word per wire. A refusal leaves them as they were. */
+sfr_shared_answer sfr_with_allocator(sfr_var_allocator allocator, uint32_t width, uint32_t quota,
+                                     uint32_t *slots, size_t slots_len);
+
+/* Allocate: the next n wires, whose slots become F, counted among those that the relation obtained; answers the first, the
+ * wire count before the call. n may be 0.
+ * Questions 1, 2, 42, 5, 43, 6. Lent: slots, a word per wire with the new ones. A refusal leaves slots and records as they
+ * were. */
+sfr_shared_answer sfr_allocate_vars_on(sfr_var_allocator allocator, uint32_t index, sfr_shared_relation rel,
+                                       uint32_t *slots, size_t slots_len, uint32_t n);
+
+/* Set: a wire's value, whoever allocated it; the same value again is accepted.
+ * Questions 1, 2, 42, 3, 4, 7, 8. Lent: slots, a word per wire. A refusal leaves them as they were. */
+uint32_t sfr_set_var_on(sfr_var_allocator allocator, uint32_t index, sfr_shared_relation rel,
+                        uint32_t *slots, size_t slots_len, uint32_t var, uint32_t value);
+
+/* Set list: the pairs in order, up to the shorter list's length.
+ * Questions 1, 2, 42; then 3, 4, 7, 8 pair by pair; after the common pairs 9. Lent: slots, a word per wire; vars and
+ * values, only read. A refusal leaves the accepted pairs set, and else all as it was. */
+sfr_tally sfr_set_vars_on(sfr_var_allocator allocator, uint32_t index, sfr_shared_relation rel,
+                          uint32_t *slots, size_t slots_len,
+                          const uint32_t *vars, size_t vars_len,
+                          const uint32_t *values, size_t values_len);
+
+/* Tickets: a wire set by each line of the text, in order; a line is as for sfr_set_tickets.
+ * Questions 1, 2, 42; then 40, 3, 41, 7, 8 line by line. Lent: slots, a word per wire; text, of any length, only read. A
+ * refusal leaves the accepted lines set, and else all as it was. */
+sfr_ticket_tally sfr_set_tickets_on(sfr_var_allocator allocator, uint32_t index, sfr_shared_relation rel,
+                                    uint32_t *slots, size_t slots_len,
+                                    const uint8_t *text, size_t text_len);
+
+/* Record: a query of inputs and outputs; unallocated wires are taken.
+ * Questions 1, 2, 42, 9, 3, 10. Lent: the relation's queries, 2w words for each with the new one; input and output,
+ * exactly w words each, only read. A refusal leaves queries and records as they were. */
+sfr_shared_answer sfr_add_permutation_on(sfr_var_allocator allocator, uint32_t index, sfr_shared_relation rel,
+                                         uint32_t *queries, size_t queries_len,
+                                         const uint32_t *input, size_t input_len,
+                                         const uint32_t *output, size_t output_len);
+
+/* Mint: allocates w outputs, answered as by sfr_allocate_vars_on, and records the query, or does neither: a refused mint
+ * takes nothing from the quota.
+ * Questions 1, 2, 42, 9, 3, 5, 43, 6, 10. Lent: slots, a word per wire with the w new ones; the relation's queries, 2w words
+ * for each with the new one; input, exactly w words, only read. A refusal leaves slots, queries and records as they
+ * were. */
+sfr_shared_answer sfr_allocate_permutation_on(sfr_var_allocator allocator, uint32_t index, sfr_shared_relation rel,
+                                              uint32_t *slots, size_t slots_len,
+                                              uint32_t *queries, size_t queries_len,
+                                              const uint32_t *input, size_t input_len);
+
+/* Equation: weight times value, summed over the terms, is the image. Kept in order, repeats and zero weights too.
+ * Questions 1, 2, 42, 3 over all wires, 4 over all weights and the image, 10. Lent: the relation's equations, the used
+ * words and 2 + 2t more for t terms; terms, only read. A refusal leaves equations and records as they were. */
+sfr_shared_answer sfr_add_equation_on(sfr_var_allocator allocator, uint32_t index, sfr_shared_relation rel,
+                                      uint32_t *equations, size_t equations_len,
+                                      const sfr_weighted *terms, size_t terms_len,
+                                      uint32_t image);
+
+/* Value of a wire: its slot; none where that is F or the wire isn't allocated.
+ * Questions 1, 2, 42, 3. Lent: slots, a word per wire, only read. */
+sfr_value sfr_value_of_on(sfr_var_allocator allocator, uint32_t index, sfr_shared_relation rel,
+                          const uint32_t *slots, size_t slots_len, uint32_t var);
+
+/* Is the wire allocated, by whichever relation? Questions 1, 2 of the wire count, 42, 3. Nothing is lent. */
+sfr_flag sfr_is_allocated_on(sfr_var_allocator allocator, uint32_t index, sfr_shared_relation rel, uint32_t var);
+
 /* ---- Permutations by their parameters (document 01's sheet), and traces. ---- */
 
 /* A trace's record, handed in and back by value; a new trace has 0 steps. */
@@ -322,6 +427,19 @@ sfr_instance_answer sfr_compile(sfr_relation rel,
                                 const uint32_t *equations, size_t equations_len,
                                 uint32_t *publics, size_t publics_len,
                                 uint32_t *scratch, size_t scratch_len);
+
+/* The gate of a relation on a shared allocator: as sfr_compile, with all wires and everybody's sets, and the relation's own
+ * queries and equations. The instance is the relation's own: later calls don't change it.
+ * Questions 1, 2, 42, 11, 10, 16, 12, 13; then term by term 14, 15. Lent: label, slots, and the relation's queries and
+ * equations, as the calls left them, only read; publics, 2 words per assigned wire, which become the pairs and then 0 to
+ * their end; scratch, a word per wire. A refusal leaves publics and scratch all 0. */
+sfr_instance_answer sfr_compile_on(sfr_var_allocator allocator, uint32_t index, sfr_shared_relation rel,
+                                   const uint8_t *label, size_t label_len,
+                                   const uint32_t *slots, size_t slots_len,
+                                   const uint32_t *queries, size_t queries_len,
+                                   const uint32_t *equations, size_t equations_len,
+                                   uint32_t *publics, size_t publics_len,
+                                   uint32_t *scratch, size_t scratch_len);
 
 /* Writes an instance, gated or not, as SFRI: 33 bytes, the label's, 8 per public, 8w per query, 4 per used word.
  * Questions 1, 2, 11, 10. Lent: label and the three stores, only read; out, as many bytes as are written. A refusal

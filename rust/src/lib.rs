@@ -36,6 +36,7 @@ mod leaves;
 mod records;
 mod refused;
 mod relation;
+mod shared;
 mod sys;
 mod trace;
 
@@ -44,6 +45,7 @@ pub use leaves::*;
 pub use records::*;
 pub use refused::*;
 pub use relation::*;
+pub use shared::*;
 pub use trace::*;
 
 /// p, the field's size: a unit is below it.
@@ -57,3 +59,6 @@ pub const MAX_COUNT: u32 = 1 << 30;
 
 /// The widths are 1 to this.
 pub const MAX_WIDTH: u32 = 24;
+
+/// So many relations may be opened on one allocator.
+pub const MAX_OPENED: u32 = 8;

@@ -114,6 +114,52 @@ pub struct Flag {
     pub yes: bool,
 }
 
+/// What relations on one allocator share, handed in and back by value: all zeros before the first
+/// opening.
+#[repr(C)]
+#[derive(Clone, Copy, Debug, Default, PartialEq, Eq)]
+pub struct VarAllocator {
+    /// How many wires are allocated; anything where nothing is opened.
+    pub vars_count: u32,
+    /// How many relations are opened.
+    pub opened: u32,
+}
+
+/// The own record of a relation on a shared allocator, handed in and back by value.
+#[repr(C)]
+#[derive(Clone, Copy, Debug, Default, PartialEq, Eq)]
+pub struct SharedRelation {
+    /// w.
+    pub width: u32,
+    /// How many queries are recorded.
+    pub queries: u32,
+    /// How many equations are stated.
+    pub equations: u32,
+    /// How many words of the equation store they use.
+    pub words: u32,
+    /// How many wires it may allocate and mint.
+    pub quota: u32,
+    /// How many wires it obtained.
+    pub obtained: u32,
+}
+
+/// The answer of a call that returns the records of a relation on a shared allocator.
+#[repr(C)]
+#[derive(Clone, Copy, Debug, PartialEq, Eq)]
+#[must_use]
+pub struct SharedAnswer {
+    /// 0, or the first question that said no.
+    pub number: u32,
+    /// The number of the relation that is opened, or the first wire that an allocation or a mint
+    /// answers; 0 elsewhere and after a refusal.
+    pub first: u32,
+    /// The allocator to go on with; after a refusal the one given.
+    pub allocator: VarAllocator,
+    /// The record to go on with. A refused call gives back the one it was given, a refused
+    /// [`with_allocator`](crate::with_allocator) one of zeros.
+    pub relation: SharedRelation,
+}
+
 /// A trace's record, handed in and back by value.
 #[repr(C)]
 #[derive(Clone, Copy, Debug, Default, PartialEq, Eq)]
@@ -229,6 +275,19 @@ impl RelationAnswer {
     /// The first wire allocated or minted, and the record to go on with.
     pub fn allocated(self) -> Result<(u32, Relation), Refused> {
         accepted(self.number).map(|()| (self.first, self.relation))
+    }
+}
+
+impl SharedAnswer {
+    /// The records to go on with.
+    pub fn accepted(self) -> Result<(VarAllocator, SharedRelation), Refused> {
+        accepted(self.number).map(|()| (self.allocator, self.relation))
+    }
+
+    /// The number of the relation that is opened or the first wire allocated or minted, and the
+    /// records to go on with.
+    pub fn first(self) -> Result<(u32, VarAllocator, SharedRelation), Refused> {
+        accepted(self.number).map(|()| (self.first, self.allocator, self.relation))
     }
 }
 

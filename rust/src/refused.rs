@@ -26,7 +26,7 @@ impl Refused {
     pub fn question(self) -> &'static str {
         match self.number() {
             1 => "is w from 1 to 24?",
-            2 => "is each lent word store at most 2^30 words and the label below 2^32 bytes, and do the counts fit the stores, with 1 to 2^30 wires in a relation's record?",
+            2 => "is each lent word store at most 2^30 words and the label below 2^32 bytes, and do the counts fit the stores, with 1 to 2^30 wires in a relation's record, and at most 8 relations opened?",
             3 => "is every wire below 2^30?",
             4 => "is every unit below p?",
             5 => "would there be at most 2^30 wires?",
@@ -58,6 +58,8 @@ impl Refused {
             36 => "is the wire below the wire count?",
             40 => "is the ticket line in its form, and not cut short at the text's end?",
             41 => "is its step count below p?",
+            42 => "is a relation of this number opened, or are fewer than 8 where another is?",
+            43 => "does the quota hold what the relation obtained and the new wires?",
             _ => "?",
         }
     }

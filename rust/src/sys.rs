@@ -91,6 +91,117 @@ unsafe extern "C" {
     pub safe fn sfr_is_allocated(rel: Relation, var: u32) -> Flag;
 }
 
+// Relations on one allocator.
+unsafe extern "C" {
+    pub fn sfr_with_allocator(
+        allocator: VarAllocator,
+        width: u32,
+        quota: u32,
+        slots: *mut u32,
+        slots_len: usize,
+    ) -> SharedAnswer;
+    pub fn sfr_allocate_vars_on(
+        allocator: VarAllocator,
+        index: u32,
+        rel: SharedRelation,
+        slots: *mut u32,
+        slots_len: usize,
+        n: u32,
+    ) -> SharedAnswer;
+    pub fn sfr_set_var_on(
+        allocator: VarAllocator,
+        index: u32,
+        rel: SharedRelation,
+        slots: *mut u32,
+        slots_len: usize,
+        var: u32,
+        value: u32,
+    ) -> u32;
+    pub fn sfr_set_vars_on(
+        allocator: VarAllocator,
+        index: u32,
+        rel: SharedRelation,
+        slots: *mut u32,
+        slots_len: usize,
+        vars: *const u32,
+        vars_len: usize,
+        values: *const u32,
+        values_len: usize,
+    ) -> Tally;
+    pub fn sfr_set_tickets_on(
+        allocator: VarAllocator,
+        index: u32,
+        rel: SharedRelation,
+        slots: *mut u32,
+        slots_len: usize,
+        text: *const u8,
+        text_len: usize,
+    ) -> TicketTally;
+    pub fn sfr_add_permutation_on(
+        allocator: VarAllocator,
+        index: u32,
+        rel: SharedRelation,
+        queries: *mut u32,
+        queries_len: usize,
+        input: *const u32,
+        input_len: usize,
+        output: *const u32,
+        output_len: usize,
+    ) -> SharedAnswer;
+    pub fn sfr_allocate_permutation_on(
+        allocator: VarAllocator,
+        index: u32,
+        rel: SharedRelation,
+        slots: *mut u32,
+        slots_len: usize,
+        queries: *mut u32,
+        queries_len: usize,
+        input: *const u32,
+        input_len: usize,
+    ) -> SharedAnswer;
+    pub fn sfr_add_equation_on(
+        allocator: VarAllocator,
+        index: u32,
+        rel: SharedRelation,
+        equations: *mut u32,
+        equations_len: usize,
+        terms: *const Weighted,
+        terms_len: usize,
+        image: u32,
+    ) -> SharedAnswer;
+    pub fn sfr_value_of_on(
+        allocator: VarAllocator,
+        index: u32,
+        rel: SharedRelation,
+        slots: *const u32,
+        slots_len: usize,
+        var: u32,
+    ) -> Value;
+    pub safe fn sfr_is_allocated_on(
+        allocator: VarAllocator,
+        index: u32,
+        rel: SharedRelation,
+        var: u32,
+    ) -> Flag;
+    pub fn sfr_compile_on(
+        allocator: VarAllocator,
+        index: u32,
+        rel: SharedRelation,
+        label: *const u8,
+        label_len: usize,
+        slots: *const u32,
+        slots_len: usize,
+        queries: *const u32,
+        queries_len: usize,
+        equations: *const u32,
+        equations_len: usize,
+        publics: *mut u32,
+        publics_len: usize,
+        scratch: *mut u32,
+        scratch_len: usize,
+    ) -> InstanceAnswer;
+}
+
 // Permutations by their parameters, and traces.
 unsafe extern "C" {
     pub fn sfr_permute(
