@@ -2,10 +2,10 @@
 
 use crate::{
     questions::{
-        ask, ask_room_for_vars, ask_slots, has_vars, is_store, is_unit, is_var, is_width,
-        number_of, Asked,
+        ask, ask_opened, ask_room_for_vars, ask_slots, ask_vars, is_store, is_unit, is_var,
+        is_width, number_of, Asked,
     },
-    Flag, Relation, RelationAnswer, Tally, Value, UNASSIGNED,
+    Flag, On, Relation, RelationAnswer, Tally, Value, UNASSIGNED,
 };
 
 /// A relation with one wire, which has the value 0 (01: fresh). Questions 1, 2, 6.
@@ -39,9 +39,9 @@ fn ask_new(width: u32, slots: &[u32]) -> Asked {
 }
 
 /// The next `count` wires, unassigned (01: allocate). Questions 1, 2, 5, 6.
-pub fn allocate_vars(rel: Relation, slots: &mut [u32], count: u32) -> RelationAnswer {
-    let asked = ask_slots(&rel, slots).and_then(|()| ask_room_for_vars(&rel, slots, count));
-    if let Err(number) = asked {
+pub fn allocate_vars(on: impl Into<On>, slots: &mut [u32], count: u32) -> RelationAnswer {
+    let on @ On { rel, .. } = on.into();
+    if let Err(number) = ask_allocate_vars(&on, slots, count) {
         return RelationAnswer {
             number,
             first: 0,
@@ -60,10 +60,17 @@ pub fn allocate_vars(rel: Relation, slots: &mut [u32], count: u32) -> RelationAn
     }
 }
 
+fn ask_allocate_vars(on: &On, slots: &[u32], count: u32) -> Asked {
+    ask_slots(on, slots)?;
+    ask_opened(on)?;
+    ask_room_for_vars(on, slots, count)
+}
+
 /// Assigns a wire (01: set). Questions 1, 2, 3, 4, 7, 8.
-pub fn set_var(rel: Relation, slots: &mut [u32], var: u32, value: u32) -> u32 {
-    let asked = ask_slots(&rel, slots).and_then(|()| set_pair(rel, slots, var, value));
-    number_of(asked)
+pub fn set_var(on: impl Into<On>, slots: &mut [u32], var: u32, value: u32) -> u32 {
+    let on = on.into();
+    let asked = ask_slots(&on, slots).and_then(|()| ask_opened(&on));
+    number_of(asked.and_then(|()| set_pair(on.rel, slots, var, value)))
 }
 
 /// 3, 4, 7 and 8 put to one pair; its slot is written where all of them say yes.
@@ -84,23 +91,24 @@ pub fn set_slot(rel: Relation, slots: &mut [u32], var: u32, value: u32) -> Asked
 
 /// Assigns the common pairs of two lists in order, up to the first refused one, and then
 /// asks whether the lists have one length (01: set list).
-pub fn set_vars(rel: Relation, slots: &mut [u32], vars: &[u32], values: &[u32]) -> Tally {
+pub fn set_vars(on: impl Into<On>, slots: &mut [u32], vars: &[u32], values: &[u32]) -> Tally {
     let mut accepted = 0;
-    let number = number_of(set_pairs(rel, slots, vars, values, &mut accepted));
+    let number = number_of(set_pairs(&on.into(), slots, vars, values, &mut accepted));
     Tally { number, accepted }
 }
 
 fn set_pairs(
-    rel: Relation,
+    on: &On,
     slots: &mut [u32],
     vars: &[u32],
     values: &[u32],
     accepted: &mut u32,
 ) -> Asked {
-    ask_slots(&rel, slots)?;
+    ask_slots(on, slots)?;
     ask(2, is_store(vars) && is_store(values))?;
+    ask_opened(on)?;
     for (&var, &value) in vars.iter().zip(values) {
-        set_pair(rel, slots, var, value)?;
+        set_pair(on.rel, slots, var, value)?;
         *accepted += 1;
     }
     ask(9, vars.len() == values.len())
@@ -108,10 +116,12 @@ fn set_pairs(
 
 /// The value of a wire: its slot, none at F or beyond the count. Questions 1, 2, 3; what
 /// the slot holds isn't judged, so it may be a word that is no unit.
-pub fn value(rel: Relation, slots: &[u32], var: u32) -> Value {
-    let asked = ask_slots(&rel, slots).and_then(|()| ask(3, is_var(var)));
+pub fn value(on: impl Into<On>, slots: &[u32], var: u32) -> Value {
+    let on = on.into();
+    let asked = ask_slots(&on, slots).and_then(|()| ask_opened(&on));
+    let asked = asked.and_then(|()| ask(3, is_var(var)));
     let value = match asked {
-        Ok(()) if var < rel.vars_count => Some(slots[var as usize]),
+        Ok(()) if var < on.rel.vars_count => Some(slots[var as usize]),
         _ => None,
     };
     Value {
@@ -121,16 +131,18 @@ pub fn value(rel: Relation, slots: &[u32], var: u32) -> Value {
 }
 
 /// Whether a wire is allocated. Questions 1, 2, 3.
-pub fn is_allocated(rel: Relation, var: u32) -> Flag {
-    let number = number_of(ask_is_allocated(rel, var));
+pub fn is_allocated(on: impl Into<On>, var: u32) -> Flag {
+    let on = on.into();
+    let number = number_of(ask_is_allocated(&on, var));
     Flag {
         number,
-        yes: number == 0 && var < rel.vars_count,
+        yes: number == 0 && var < on.rel.vars_count,
     }
 }
 
-fn ask_is_allocated(rel: Relation, var: u32) -> Asked {
-    ask(1, is_width(rel.width))?;
-    ask(2, has_vars(&rel))?;
+fn ask_is_allocated(on: &On, var: u32) -> Asked {
+    ask(1, is_width(on.rel.width))?;
+    ask_vars(on, None)?;
+    ask_opened(on)?;
     ask(3, is_var(var))
 }

@@ -4,8 +4,10 @@ use std::collections::BTreeSet;
 
 use crate::{
     held::{ask_held, ask_sizes, pairs, Parts},
-    questions::{ask, ask_slots, fits, is_store, is_unit, is_var, is_width, number_of, Asked},
-    Instance, Relation, Value, UNASSIGNED,
+    questions::{
+        ask, ask_opened, ask_slots, fits, is_store, is_unit, is_var, is_width, number_of, Asked,
+    },
+    Instance, On, Relation, Value, UNASSIGNED,
 };
 
 /// The answer of a call that makes an instance's record; zeros after a refusal.
@@ -19,7 +21,7 @@ pub struct InstanceAnswer {
 /// held. Questions 1, 2, 11, 10, 16, then 12 to 15. `publics` is written over its whole
 /// length, also by a refusal, and scratch is left all 0.
 pub fn compile(
-    rel: Relation,
+    on: impl Into<On>,
     label: &[u8],
     slots: &[u32],
     queries: &[u32],
@@ -27,9 +29,10 @@ pub fn compile(
     publics: &mut [u32],
     scratch: &mut [u32],
 ) -> InstanceAnswer {
+    let on = on.into();
     publics.fill(0);
     scratch.fill(0);
-    match ask_compile(&rel, label, slots, queries, equations, publics, scratch) {
+    match ask_compile(&on, label, slots, queries, equations, publics, scratch) {
         Err(number) => InstanceAnswer {
             number,
             instance: Instance::default(),
@@ -41,7 +44,7 @@ pub fn compile(
                 number: 0,
                 instance: Instance {
                     publics: parts.publics.len() as u32,
-                    ..without_publics(&rel)
+                    ..without_publics(&on.rel)
                 },
             }
         }
@@ -60,7 +63,7 @@ fn without_publics(rel: &Relation) -> Instance {
 }
 
 fn ask_compile(
-    rel: &Relation,
+    on: &On,
     label: &[u8],
     slots: &[u32],
     queries: &[u32],
@@ -68,10 +71,12 @@ fn ask_compile(
     publics: &[u32],
     scratch: &[u32],
 ) -> Result<Parts, u32> {
+    let rel = &on.rel;
     let ins = without_publics(rel);
-    ask_slots(rel, slots)?;
+    ask_slots(on, slots)?;
     ask_sizes(&ins, label, publics, queries, equations)?;
     ask(2, is_store(scratch))?;
+    ask_opened(on)?;
 
     let allocated = &slots[..rel.vars_count as usize];
     let sound = |&slot: &u32| slot == UNASSIGNED || is_unit(slot);

@@ -17,6 +17,7 @@ mod held;
 mod instance;
 mod questions;
 mod relation;
+mod shared;
 mod ticket;
 mod utf8;
 mod witness;
@@ -32,6 +33,11 @@ pub use encoding::{
 pub use field::{add, mul};
 pub use instance::{compile, heading, public_value, InstanceAnswer};
 pub use relation::{add_equation, add_permutation, allocate_permutation, scale};
+pub use shared::{
+    add_equation_on, add_permutation_on, allocate_permutation_on, allocate_vars_on, compile_on,
+    is_allocated_on, set_tickets_on, set_var_on, set_vars_on, value_on, with_allocator, On, Share,
+    SharedAnswer, SharedRelation, VarAllocator, MAX_OPENED,
+};
 pub use ticket::{set_tickets, ticket, TICKET_LINE};
 pub use utf8::is_utf8;
 pub use witness::{append_step, evaluate_step, is_witness_valid, permute, Params};

@@ -1,6 +1,6 @@
 //! Questions and the number when the answer is no, and those that many calls put.
 
-use crate::{Relation, MAX_COUNT, P};
+use crate::{On, Share, MAX_COUNT, MAX_OPENED, P};
 
 /// Go on, or leave with the number of the question that said no.
 pub type Asked = Result<(), u32>;
@@ -43,9 +43,24 @@ pub fn fits(count: u32, size: u32, store: &[u32]) -> bool {
     u64::from(count) * u64::from(size) <= store.len() as u64
 }
 
-/// 2: the wires that a relation's record may count, wherever such a record is handed in.
-pub fn has_vars(rel: &Relation) -> bool {
-    (1..=MAX_COUNT).contains(&rel.vars_count)
+/// 2: the wires that a relation's record may count, wherever such a record is handed in, and
+/// that the slots hold, where these are lent. On a shared allocator (02, R-2) no more than
+/// eight relations are opened; where none is, there is no count yet, so that nothing is asked
+/// of it.
+pub fn ask_vars(on: &On, slots: Option<&[u32]>) -> Asked {
+    let vars_count = on.rel.vars_count;
+    let opened = on.share.map_or(1, |share| share.opened);
+    ask(2, opened <= MAX_OPENED)?;
+    ask(2, opened == 0 || (1..=MAX_COUNT).contains(&vars_count))?;
+    let held = slots.is_none_or(|slots| fits(vars_count, 1, slots));
+    ask(2, opened == 0 || held)
+}
+
+/// 42, put to every call of a relation on a shared allocator after the last 2: a relation of
+/// this number is opened. A single relation isn't asked.
+pub fn ask_opened(on: &On) -> Asked {
+    let opened = |share: Share| share.index < share.opened;
+    ask(42, on.share.is_none_or(opened))
 }
 
 /// 2: the equation store fits what the record counts: the used words, and by itself the
@@ -56,10 +71,10 @@ pub fn equations_fit(equations: u32, words: u32, store: &[u32]) -> bool {
 }
 
 /// 1 and 2 of a call that is handed a relation's record and its slots.
-pub fn ask_slots(rel: &Relation, slots: &[u32]) -> Asked {
-    ask(1, is_width(rel.width))?;
+pub fn ask_slots(on: &On, slots: &[u32]) -> Asked {
+    ask(1, is_width(on.rel.width))?;
     ask(2, is_store(slots))?;
-    ask(2, has_vars(rel) && fits(rel.vars_count, 1, slots))
+    ask_vars(on, Some(slots))
 }
 
 /// 3: a wire is below 2^30.
@@ -85,9 +100,13 @@ pub fn is_list(width: u32, words: &[u32]) -> bool {
     words.len() == width as usize
 }
 
-/// 5 and 6, put to a call that would add `count` wires.
-pub fn ask_room_for_vars(rel: &Relation, slots: &[u32], count: u32) -> Asked {
-    let total = u64::from(rel.vars_count) + u64::from(count);
-    ask(5, total <= u64::from(MAX_COUNT))?;
-    ask(6, total <= slots.len() as u64)
+/// 5 and 6, put to a call that would add `count` wires, and between them 43 where there is a
+/// quota: it holds these wires and those that the relation obtained.
+pub fn ask_room_for_vars(on: &On, slots: &[u32], count: u32) -> Asked {
+    let total = |before: u32| u64::from(before) + u64::from(count);
+    ask(5, total(on.rel.vars_count) <= u64::from(MAX_COUNT))?;
+    if let Some(share) = on.share {
+        ask(43, total(share.obtained) <= u64::from(share.quota))?;
+    }
+    ask(6, total(on.rel.vars_count) <= slots.len() as u64)
 }

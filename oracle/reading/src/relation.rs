@@ -4,10 +4,10 @@
 use crate::{
     field::mul,
     questions::{
-        are_vars, ask, ask_room_for_vars, ask_slots, equations_fit, fits, has_vars, is_list,
-        is_store, is_unit, is_var, is_width, Asked,
+        are_vars, ask, ask_opened, ask_room_for_vars, ask_slots, ask_vars, equations_fit, fits,
+        is_list, is_store, is_unit, is_var, is_width, Asked,
     },
-    Relation, RelationAnswer, Weighted, UNASSIGNED,
+    On, Relation, RelationAnswer, Weighted, UNASSIGNED,
 };
 
 fn refused(number: u32, relation: Relation) -> RelationAnswer {
@@ -20,12 +20,13 @@ fn refused(number: u32, relation: Relation) -> RelationAnswer {
 
 /// Stores a query; its wires needn't be allocated (01: record). Questions 1, 2, 9, 3, 10.
 pub fn add_permutation(
-    rel: Relation,
+    on: impl Into<On>,
     queries: &mut [u32],
     input: &[u32],
     output: &[u32],
 ) -> RelationAnswer {
-    if let Err(number) = ask_add_permutation(&rel, queries, input, output) {
+    let on @ On { rel, .. } = on.into();
+    if let Err(number) = ask_add_permutation(&on, queries, input, output) {
         return refused(number, rel);
     }
     push_query(&rel, queries, input, output);
@@ -39,10 +40,13 @@ pub fn add_permutation(
     }
 }
 
-fn ask_add_permutation(rel: &Relation, queries: &[u32], input: &[u32], output: &[u32]) -> Asked {
+fn ask_add_permutation(on: &On, queries: &[u32], input: &[u32], output: &[u32]) -> Asked {
+    let rel = &on.rel;
     ask(1, is_width(rel.width))?;
     ask(2, is_store(queries) && is_store(input) && is_store(output))?;
-    ask(2, has_vars(rel) && queries_fit(rel, queries))?;
+    ask_vars(on, None)?;
+    ask(2, queries_fit(rel, queries))?;
+    ask_opened(on)?;
     ask(9, is_list(rel.width, input) && is_list(rel.width, output))?;
     ask(3, are_vars(input) && are_vars(output))?;
     ask_room_for_query(rel, queries)
@@ -67,12 +71,13 @@ fn push_query(rel: &Relation, queries: &mut [u32], input: &[u32], output: &[u32]
 /// Allocates the outputs and stores the query, or does neither (01: mint). Questions 1, 2,
 /// 9, 3, 5, 6, 10.
 pub fn allocate_permutation(
-    rel: Relation,
+    on: impl Into<On>,
     slots: &mut [u32],
     queries: &mut [u32],
     input: &[u32],
 ) -> RelationAnswer {
-    if let Err(number) = ask_allocate_permutation(&rel, slots, queries, input) {
+    let on @ On { rel, .. } = on.into();
+    if let Err(number) = ask_allocate_permutation(&on, slots, queries, input) {
         return refused(number, rel);
     }
     let first = rel.vars_count;
@@ -91,30 +96,28 @@ pub fn allocate_permutation(
     }
 }
 
-fn ask_allocate_permutation(
-    rel: &Relation,
-    slots: &[u32],
-    queries: &[u32],
-    input: &[u32],
-) -> Asked {
-    ask_slots(rel, slots)?;
+fn ask_allocate_permutation(on: &On, slots: &[u32], queries: &[u32], input: &[u32]) -> Asked {
+    let rel = &on.rel;
+    ask_slots(on, slots)?;
     ask(2, is_store(queries) && is_store(input))?;
     ask(2, queries_fit(rel, queries))?;
+    ask_opened(on)?;
     ask(9, is_list(rel.width, input))?;
     ask(3, are_vars(input))?;
-    ask_room_for_vars(rel, slots, rel.width)?;
+    ask_room_for_vars(on, slots, rel.width)?;
     ask_room_for_query(rel, queries)
 }
 
 /// Stores an equation, its terms in order, repeats and zero weights kept (01: equation).
 /// Questions 1, 2, 3, 4, 10: every wire is asked about before any unit is.
 pub fn add_equation(
-    rel: Relation,
+    on: impl Into<On>,
     equations: &mut [u32],
     terms: &[Weighted],
     image: u32,
 ) -> RelationAnswer {
-    if let Err(number) = ask_add_equation(&rel, equations, terms, image) {
+    let on @ On { rel, .. } = on.into();
+    if let Err(number) = ask_add_equation(&on, equations, terms, image) {
         return refused(number, rel);
     }
     // The equation fits a store of at most 2^30 words, so its term count is a word.
@@ -134,10 +137,13 @@ pub fn add_equation(
     }
 }
 
-fn ask_add_equation(rel: &Relation, equations: &[u32], terms: &[Weighted], image: u32) -> Asked {
+fn ask_add_equation(on: &On, equations: &[u32], terms: &[Weighted], image: u32) -> Asked {
+    let rel = &on.rel;
     ask(1, is_width(rel.width))?;
-    ask(2, is_store(equations) && has_vars(rel))?;
+    ask(2, is_store(equations))?;
+    ask_vars(on, None)?;
     ask(2, equations_fit(rel.equations, rel.words, equations))?;
+    ask_opened(on)?;
     ask(3, terms.iter().all(|term| is_var(term.var)))?;
     ask(4, terms.iter().all(|term| is_unit(term.weight)))?;
     ask(4, is_unit(image))?;

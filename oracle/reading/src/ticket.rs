@@ -2,8 +2,8 @@
 
 use crate::{
     allocator::set_slot,
-    questions::{ask, ask_slots, number_of, Asked},
-    Relation, TicketTally, MAX_COUNT, P,
+    questions::{ask, ask_opened, ask_slots, number_of, Asked},
+    On, TicketTally, MAX_COUNT, P,
 };
 
 /// How many bytes a ticket line has.
@@ -12,17 +12,18 @@ pub const TICKET_LINE: usize = 24;
 /// Sets the wires of the text's lines in order, up to the first refused one; where the last
 /// line is cut short, it is refused when it is reached. Questions 1, 2; then 40, 3, 41, 7, 8
 /// line by line. How long the text is isn't asked: it is no word store and no label.
-pub fn set_tickets(rel: Relation, slots: &mut [u32], text: &[u8]) -> TicketTally {
+pub fn set_tickets(on: impl Into<On>, slots: &mut [u32], text: &[u8]) -> TicketTally {
     let mut accepted = 0;
-    let number = number_of(set_lines(rel, slots, text, &mut accepted));
+    let number = number_of(set_lines(&on.into(), slots, text, &mut accepted));
     TicketTally { number, accepted }
 }
 
-fn set_lines(rel: Relation, slots: &mut [u32], text: &[u8], accepted: &mut usize) -> Asked {
-    ask_slots(&rel, slots)?;
+fn set_lines(on: &On, slots: &mut [u32], text: &[u8], accepted: &mut usize) -> Asked {
+    ask_slots(on, slots)?;
+    ask_opened(on)?;
     for line in text.chunks(TICKET_LINE) {
         let (var, value) = ticket(line)?;
-        set_slot(rel, slots, var, value)?;
+        set_slot(on.rel, slots, var, value)?;
         *accepted += 1;
     }
     Ok(())

@@ -6,6 +6,7 @@ mod check;
 mod examples;
 mod gate;
 mod relation;
+mod shared;
 mod ticket;
 
 use crate::*;

@@ -1,0 +1,471 @@
+//! Relations on one allocator: document 02's orders, and its corners.
+
+use super::*;
+
+/// Relations with their stores, over one allocator and one slot store.
+#[derive(Clone)]
+struct Plant {
+    allocator: VarAllocator,
+    slots: Vec<u32>,
+    mixers: Vec<Mixer>,
+}
+
+/// A relation with its own stores, lent to one call after the other.
+#[derive(Clone)]
+struct Mixer {
+    rel: SharedRelation,
+    queries: Vec<u32>,
+    equations: Vec<u32>,
+}
+
+impl Plant {
+    /// So many slots, and a relation opened for each width and quota.
+    fn opened(slots: usize, relations: &[(u32, u32)]) -> Self {
+        let mut plant = Self {
+            allocator: VarAllocator::default(),
+            slots: vec![DIRT; slots],
+            mixers: vec![],
+        };
+        for (index, &(width, quota)) in relations.iter().enumerate() {
+            assert_eq!(plant.open(width, quota), (0, index as u32));
+        }
+        plant
+    }
+
+    fn open(&mut self, width: u32, quota: u32) -> (u32, u32) {
+        let answer = with_allocator(self.allocator, width, quota, &mut self.slots);
+        if answer.number == 0 {
+            self.allocator = answer.allocator;
+            self.mixers.push(Mixer {
+                rel: answer.relation,
+                queries: vec![DIRT; 32],
+                equations: vec![DIRT; 32],
+            });
+        } else {
+            assert_eq!(answer.allocator, self.allocator);
+            assert_eq!(answer.relation, SharedRelation::default());
+        }
+        (answer.number, answer.first)
+    }
+
+    fn keep(&mut self, index: u32, answer: SharedAnswer) -> (u32, u32) {
+        if answer.number != 0 {
+            assert_eq!(answer.allocator, self.allocator);
+            assert_eq!(answer.relation, self.mixers[index as usize].rel);
+        }
+        self.allocator = answer.allocator;
+        self.mixers[index as usize].rel = answer.relation;
+        (answer.number, answer.first)
+    }
+
+    fn allocate(&mut self, index: u32, count: u32) -> (u32, u32) {
+        let rel = self.mixers[index as usize].rel;
+        let answer = allocate_vars_on(self.allocator, index, rel, &mut self.slots, count);
+        self.keep(index, answer)
+    }
+
+    fn set(&mut self, index: u32, var: u32, value: u32) -> u32 {
+        let rel = self.mixers[index as usize].rel;
+        set_var_on(self.allocator, index, rel, &mut self.slots, var, value)
+    }
+
+    fn mint(&mut self, index: u32, input: &[u32]) -> (u32, u32) {
+        let mixer = &mut self.mixers[index as usize];
+        let (slots, queries) = (&mut self.slots, &mut mixer.queries);
+        let answer =
+            allocate_permutation_on(self.allocator, index, mixer.rel, slots, queries, input);
+        self.keep(index, answer)
+    }
+
+    fn equation(&mut self, index: u32, terms: &[(u32, u32)], image: u32) -> u32 {
+        let mixer = &mut self.mixers[index as usize];
+        let (terms, equations) = (weighted(terms), &mut mixer.equations);
+        let answer = add_equation_on(self.allocator, index, mixer.rel, equations, &terms, image);
+        self.keep(index, answer).0
+    }
+
+    /// The gate with ample output store and scratch, both dirty before.
+    fn gate(&self, index: u32) -> (u32, Held) {
+        let mixer = &self.mixers[index as usize];
+        let (mut publics, mut scratch) = (vec![DIRT; 64], vec![DIRT; 64]);
+        let answer = compile_on(
+            self.allocator,
+            index,
+            mixer.rel,
+            b"",
+            &self.slots,
+            &mixer.queries,
+            &mixer.equations,
+            &mut publics,
+            &mut scratch,
+        );
+        assert!(all_zero(&scratch));
+        assert!(answer.number == 0 || all_zero(&publics));
+        let held = Held {
+            ins: answer.instance,
+            label: vec![],
+            publics,
+            queries: mixer.queries.clone(),
+            equations: mixer.equations.clone(),
+        };
+        (answer.number, held)
+    }
+
+    fn count(&self) -> u32 {
+        self.allocator.vars_count
+    }
+
+    /// 02: wires in the store are always 1 plus what each relation obtained.
+    fn adds_up(&self) -> bool {
+        let obtained: u32 = self.mixers.iter().map(|mixer| mixer.rel.obtained).sum();
+        self.count() == 1 + obtained
+    }
+}
+
+/// The numbers of every call of this relation on these two records and stores of so many words,
+/// in the order allocate, set, set list, tickets, record, mint, equation, value, is allocated,
+/// gate: with arguments that later questions say no to. Nothing lent is changed.
+fn numbers(allocator: VarAllocator, index: u32, rel: SharedRelation, len: usize) -> [u32; 10] {
+    let (mut slots, mut words) = (vec![DIRT; len], vec![DIRT; len]);
+    let (mut publics, mut scratch) = ([DIRT], [DIRT]);
+    let numbers = [
+        allocate_vars_on(allocator, index, rel, &mut slots, u32::MAX).number,
+        set_var_on(allocator, index, rel, &mut slots, M, P),
+        set_vars_on(allocator, index, rel, &mut slots, &[M], &[0, 0]).number,
+        set_tickets_on(allocator, index, rel, &mut slots, b"no ticket").number,
+        add_permutation_on(allocator, index, rel, &mut words, &[M; 30], &[]).number,
+        allocate_permutation_on(allocator, index, rel, &mut slots, &mut words, &[M; 30]).number,
+        add_equation_on(allocator, index, rel, &mut words, &weighted(&[(M, P)]), P).number,
+        value_on(allocator, index, rel, &slots, M).number,
+        is_allocated_on(allocator, index, rel, M).number,
+        compile_on(
+            allocator,
+            index,
+            rel,
+            &[0xC0],
+            &slots,
+            &words.clone(),
+            &words.clone(),
+            &mut publics,
+            &mut scratch,
+        )
+        .number,
+    ];
+    assert!(slots.iter().chain(&words).all(|&word| word == DIRT));
+    assert_eq!((publics, scratch), ([0], [0]));
+    numbers
+}
+
+const REL: SharedRelation = SharedRelation {
+    width: 1,
+    queries: 0,
+    equations: 0,
+    words: 0,
+    quota: 9,
+    obtained: 0,
+};
+
+#[test]
+fn openings_in_turn() {
+    let mut plant = Plant::opened(4, &[(3, 2)]);
+    assert_eq!(plant.slots, [0, DIRT, DIRT, DIRT]);
+    assert_eq!((plant.count(), plant.allocator.opened), (1, 1));
+    assert_eq!(plant.allocate(0, 2), (0, 1));
+    // A later opening leaves slots and count, a slot 0 of another word too.
+    plant.slots[0] = 5;
+    for index in 1..8 {
+        assert_eq!(plant.open(24 - index, u32::MAX), (0, index));
+    }
+    assert_eq!(plant.slots, [5, F, F, DIRT]);
+    assert_eq!((plant.count(), plant.allocator.opened), (3, 8));
+    assert_eq!(plant.mixers[7].rel.quota, u32::MAX);
+    assert_eq!(plant.open(1, 0), (42, 0));
+    assert_eq!(plant.open(0, 0), (1, 0));
+    assert_eq!(plant.open(25, 0), (1, 0));
+    plant.slots.truncate(2);
+    assert_eq!(plant.open(1, 0), (2, 0));
+}
+
+#[test]
+fn questions_of_an_opening() {
+    let open = |width, vars_count, opened, len| {
+        let allocator = VarAllocator { vars_count, opened };
+        let mut slots = vec![DIRT; len];
+        let answer = with_allocator(allocator, width, 7, &mut slots);
+        if answer.number != 0 || opened > 0 {
+            assert!(slots.iter().all(|&slot| slot == DIRT));
+        }
+        if answer.number != 0 {
+            assert_eq!(answer.allocator, allocator);
+            assert_eq!(
+                (answer.first, answer.relation),
+                (0, SharedRelation::default())
+            );
+        }
+        answer.number
+    };
+    // Nothing opened: the count may be anything.
+    for vars_count in [0, 1, 9, M, M + 1, u32::MAX] {
+        assert_eq!(open(1, vars_count, 0, 4), 0);
+        assert_eq!(open(1, vars_count, 0, 0), 6);
+        assert_eq!(open(0, vars_count, 0, 0), 1);
+        assert_eq!(open(1, vars_count, 9, 4), 2);
+        assert_eq!(open(25, vars_count, 9, 4), 1);
+    }
+    for opened in [1, 7, 8] {
+        for (vars_count, len) in [(0, 4), (0, 0), (5, 4), (1, 0), (M + 1, 4), (u32::MAX, 4)] {
+            assert_eq!(open(1, vars_count, opened, len), 2);
+        }
+        let last = if opened == 8 { 42 } else { 0 };
+        assert_eq!(open(1, 4, opened, 4), last);
+        assert_eq!(open(24, 1, opened, 4), last);
+    }
+    assert_eq!(open(1, 1, u32::MAX, 4), 2);
+    let mut slots = vec![0; M as usize + 1];
+    assert_eq!(
+        with_allocator(VarAllocator::default(), 1, 0, &mut slots).number,
+        2
+    );
+    assert_eq!(
+        with_allocator(VarAllocator::default(), 1, 0, &mut slots[1..]).number,
+        0
+    );
+}
+
+#[test]
+fn every_call_by_number() {
+    let at = |vars_count, opened| VarAllocator { vars_count, opened };
+    // 42 before all that the arguments would bring about, and after 2.
+    for (opened, index) in [
+        (1, 1),
+        (1, 7),
+        (3, 3),
+        (8, 8),
+        (8, u32::MAX),
+        (0, 0),
+        (0, 9),
+    ] {
+        assert_eq!(numbers(at(1, opened), index, REL, 4), [42; 10]);
+    }
+    let later = [5, 3, 3, 40, 9, 9, 3, 3, 3, 11];
+    for (opened, index) in [(1, 0), (3, 2), (8, 0), (8, 7)] {
+        assert_eq!(numbers(at(1, opened), index, REL, 4), later);
+    }
+    // Nothing opened: the count isn't asked.
+    for vars_count in [0, 5, M + 1, u32::MAX] {
+        assert_eq!(numbers(at(vars_count, 0), 0, REL, 4), [42; 10]);
+        assert_eq!(numbers(at(vars_count, 0), 0, REL, 0), [42; 10]);
+    }
+    for vars_count in [0, M + 1, u32::MAX] {
+        assert_eq!(numbers(at(vars_count, 1), 0, REL, 4), [2; 10]);
+    }
+    // More wires than slots: where these are lent.
+    let beyond = [2, 2, 2, 2, 9, 2, 3, 2, 3, 2];
+    assert_eq!(numbers(at(5, 1), 0, REL, 4), beyond);
+    for vars_count in [0, 1, u32::MAX] {
+        for opened in [9, 10, u32::MAX] {
+            assert_eq!(numbers(at(vars_count, opened), 0, REL, 4), [2; 10]);
+            assert_eq!(numbers(at(vars_count, opened), 9, REL, 4), [2; 10]);
+            for width in [0, 25, u32::MAX] {
+                let rel = SharedRelation { width, ..REL };
+                assert_eq!(numbers(at(vars_count, opened), 9, rel, 4), [1; 10]);
+            }
+        }
+    }
+}
+
+#[test]
+fn own_counts_before_42() {
+    let none = VarAllocator::default();
+    let queries = SharedRelation { queries: 3, ..REL };
+    assert_eq!(
+        numbers(none, 0, queries, 4),
+        [42, 42, 42, 42, 2, 2, 42, 42, 42, 2]
+    );
+    for rel in [
+        SharedRelation { words: 5, ..REL },
+        SharedRelation {
+            equations: 3,
+            ..REL
+        },
+    ] {
+        assert_eq!(
+            numbers(none, 0, rel, 4),
+            [42, 42, 42, 42, 42, 42, 2, 42, 42, 2]
+        );
+    }
+    // Quota and what was obtained aren't asked before 5.
+    let rel = SharedRelation {
+        quota: 0,
+        obtained: u32::MAX,
+        ..REL
+    };
+    let allocator = VarAllocator {
+        vars_count: 1,
+        opened: 1,
+    };
+    assert_eq!(
+        numbers(allocator, 0, rel, 4),
+        [5, 3, 3, 40, 9, 9, 3, 3, 3, 11]
+    );
+}
+
+#[test]
+fn lists_are_stores_before_42() {
+    let long = vec![0; M as usize + 1];
+    let (none, slots) = (VarAllocator::default(), &mut [0; 4]);
+    assert_eq!(set_vars_on(none, 0, REL, slots, &long, &[]).number, 2);
+    assert_eq!(set_vars_on(none, 0, REL, slots, &[], &long).number, 2);
+    assert_eq!(
+        add_permutation_on(none, 0, REL, slots, &long, &[]).number,
+        2
+    );
+    assert_eq!(
+        add_permutation_on(none, 0, REL, slots, &[], &long).number,
+        2
+    );
+    let answer = allocate_permutation_on(none, 0, REL, slots, &mut [0; 4], &long);
+    assert_eq!(answer.number, 2);
+}
+
+#[test]
+fn five_then_43_then_six() {
+    let mut plant = Plant::opened(8, &[(1, 3), (2, u32::MAX)]);
+    assert_eq!(plant.allocate(0, M), (5, 0));
+    assert_eq!(plant.allocate(0, M - 1), (43, 0));
+    assert_eq!(plant.allocate(1, M - 1), (6, 0));
+    assert_eq!(plant.allocate(1, M), (5, 0));
+    assert_eq!(plant.allocate(0, 4), (43, 0));
+    assert_eq!(plant.allocate(0, 3), (0, 1));
+    assert_eq!(plant.allocate(0, 1), (43, 0));
+    assert_eq!(plant.allocate(0, 0), (0, 4));
+    assert_eq!(plant.allocate(1, 5), (6, 0));
+    assert_eq!(plant.allocate(1, 4), (0, 4));
+    assert_eq!(plant.allocate(0, 1), (43, 0));
+    assert_eq!(plant.allocate(1, 1), (6, 0));
+    assert!(plant.adds_up());
+    // Obtained above the quota: 0 wires are refused too. The sum is no word's.
+    for (quota, obtained, count, number) in [
+        (2, 3, 0, 43),
+        (0, 1, 0, 43),
+        (u32::MAX, u32::MAX, 0, 0),
+        (u32::MAX, u32::MAX, 1, 43),
+        (0, u32::MAX, 1, 43),
+        (0, 0, 0, 0),
+    ] {
+        let rel = &mut plant.mixers[0].rel;
+        (rel.quota, rel.obtained) = (quota, obtained);
+        assert_eq!(plant.allocate(0, count).0, number);
+    }
+}
+
+#[test]
+fn a_mint_within_its_quota() {
+    let mut plant = Plant::opened(8, &[(2, 4), (1, 9)]);
+    assert_eq!(plant.mint(0, &[7, M - 1]), (0, 1));
+    assert_eq!(plant.mixers[0].queries[..5], [7, M - 1, 1, 2, DIRT]);
+    assert_eq!(plant.mint(1, &[2]), (0, 3));
+    assert_eq!(plant.mint(0, &[7]), (9, 0));
+    assert_eq!(plant.mint(0, &[7, M]), (3, 0));
+    assert_eq!(plant.allocate(0, 1), (0, 4));
+    // One wire of two is left.
+    assert_eq!(plant.mint(0, &[7]), (9, 0));
+    assert_eq!(plant.mint(0, &[M, 7]), (3, 0));
+    assert_eq!(plant.mint(0, &[7, 7]), (43, 0));
+    assert_eq!(plant.allocate(0, 1), (0, 5));
+    assert_eq!(plant.mint(0, &[7, 7]), (43, 0));
+    assert_eq!(plant.slots, [0, F, F, F, F, F, DIRT, DIRT]);
+    assert!(plant.adds_up());
+}
+
+#[test]
+fn a_refused_mint_takes_nothing() {
+    let mut plant = Plant::opened(4, &[(2, 2)]);
+    plant.mixers[0].queries.truncate(3);
+    assert_eq!(plant.mint(0, &[0, 0]), (10, 0));
+    plant.slots.truncate(2);
+    assert_eq!(plant.mint(0, &[0, 0]), (6, 0));
+    assert_eq!(plant.mixers[0].rel.obtained, 0);
+    plant.slots.push(DIRT);
+    plant.mixers[0].queries.push(DIRT);
+    assert_eq!(plant.mint(0, &[0, 0]), (0, 1));
+    assert_eq!(plant.mixers[0].rel.obtained, 2);
+    assert!(plant.adds_up());
+}
+
+#[test]
+fn a_set_is_everybodys() {
+    let mut plant = Plant::opened(8, &[(1, 4), (3, 4)]);
+    plant.allocate(0, 1);
+    plant.allocate(1, 1);
+    assert_eq!(plant.set(1, 1, 6), 0);
+    assert_eq!(plant.set(0, 1, 6), 0);
+    assert_eq!(plant.set(0, 1, 7), 8);
+    assert_eq!(plant.set(0, 2, 9), 0);
+    assert_eq!(plant.set(0, 3, 9), 7);
+    for index in [0, 1] {
+        let rel = plant.mixers[index as usize].rel;
+        assert_eq!(
+            value_on(plant.allocator, index, rel, &plant.slots, 1).value,
+            Some(6)
+        );
+        assert!(is_allocated_on(plant.allocator, index, rel, 2).yes);
+        assert!(!is_allocated_on(plant.allocator, index, rel, 3).yes);
+        let (number, held) = plant.gate(index);
+        assert_eq!(number, 0);
+        assert_eq!(held.publics[..8], [0, 0, 1, 6, 2, 9, 0, 0]);
+        assert_eq!((held.ins.vars_count, held.ins.publics), (3, 3));
+        assert_eq!(held.ins.width, rel.width);
+    }
+}
+
+#[test]
+fn lines_and_pairs_that_stay() {
+    let mut plant = Plant::opened(8, &[(1, 4), (1, 0)]);
+    plant.allocate(0, 3);
+    let rel = plant.mixers[1].rel;
+    let text = b"         1          274\n         2          275\n         9            0\n";
+    let tally = set_tickets_on(plant.allocator, 1, rel, &mut plant.slots, text);
+    assert_eq!((tally.number, tally.accepted), (7, 2));
+    let (vars, values) = ([2, 3, 3], [6, 1, 2, 2]);
+    let tally = set_vars_on(plant.allocator, 1, rel, &mut plant.slots, &vars, &values);
+    assert_eq!((tally.number, tally.accepted), (8, 2));
+    assert_eq!(plant.slots[..5], [0, 5, 6, 1, DIRT]);
+    let tally = set_vars_on(plant.allocator, 2, rel, &mut plant.slots, &vars, &values);
+    assert_eq!((tally.number, tally.accepted), (42, 0));
+}
+
+#[test]
+fn only_own_queries_bind() {
+    let mut plant = Plant::opened(8, &[(1, 4), (2, 4)]);
+    assert_eq!(plant.mint(0, &[0]), (0, 1));
+    assert_eq!(plant.equation(0, &[(1, 1)], 0), 0);
+    assert_eq!(plant.equation(1, &[(1, 1)], 0), 0);
+    // Wire 1 stands in a query of 0 alone; a wire of 1's own doesn't exist yet for either.
+    assert_eq!((plant.gate(0).0, plant.gate(1).0), (0, 15));
+    assert_eq!(plant.equation(0, &[(2, 0)], 0), 0);
+    assert_eq!(plant.gate(0).0, 14);
+    assert_eq!(plant.mint(1, &[0, 1]), (0, 2));
+    assert_eq!((plant.gate(0).0, plant.gate(1).0), (0, 0));
+    assert!(plant.adds_up());
+}
+
+#[test]
+fn a_reading_set_by_one_and_used_by_the_other() {
+    // Relation 0 turns wire 1 into wire 3, which is to be wire 2; relation 1 has both of them.
+    let mut plant = Plant::opened(8, &[(1, 2), (2, 2)]);
+    assert_eq!(plant.allocate(1, 2), (0, 1));
+    assert_eq!(plant.mint(0, &[1]), (0, 3));
+    assert_eq!(plant.equation(0, &[(3, 1), (2, P - 1)], 0), 0);
+    // Nothing binds wire 2 for relation 0 until it is set.
+    assert_eq!(plant.gate(0).0, 15);
+    assert_eq!(plant.set(1, 2, 640), 0);
+    let (number, held) = plant.gate(0);
+    assert_eq!(number, 0);
+    assert_eq!(held.check(1, &[3, 640], PARAMS), 0);
+    assert_eq!(held.check(1, &[2, 5], PARAMS), 35);
+    // A gate is judged on the sets before it, and what was gated stays.
+    assert_eq!(plant.set(1, 1, 2), 0);
+    assert_eq!(held.check(1, &[3, 640], PARAMS), 0);
+    assert_eq!(plant.gate(0).1.check(1, &[3, 640], PARAMS), 33);
+}
