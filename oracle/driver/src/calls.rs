@@ -1,7 +1,7 @@
 //! The calls on a relation as data, so that one list of them can be run on every side,
 //! and the second reading's side.
 
-use reading::{Relation, Weighted};
+use reading::{Relation, Share, Weighted};
 
 use crate::tickets::Text;
 
@@ -48,13 +48,113 @@ pub struct Answer {
     pub yes: bool,
 }
 
+/// The answer of a call that gives a record back, or two: with a share's opened relations,
+/// quota and obtained wires where there are two.
+pub struct Made {
+    pub number: u32,
+    pub first: u32,
+    pub rel: Relation,
+    pub share: Option<(u32, u32, u32)>,
+}
+
+/// A side's two answers with records, as one.
+macro_rules! made {
+    ($side:ident) => {
+        impl From<$side::RelationAnswer> for $crate::calls::Made {
+            fn from(answer: $side::RelationAnswer) -> Self {
+                let rel = answer.relation;
+                Self {
+                    number: answer.number,
+                    first: answer.first,
+                    rel: reading::Relation {
+                        width: rel.width,
+                        vars_count: rel.vars_count,
+                        queries: rel.queries,
+                        equations: rel.equations,
+                        words: rel.words,
+                    },
+                    share: None,
+                }
+            }
+        }
+
+        impl From<$side::SharedAnswer> for $crate::calls::Made {
+            fn from(answer: $side::SharedAnswer) -> Self {
+                let (allocator, rel) = (answer.allocator, answer.relation);
+                Self {
+                    number: answer.number,
+                    first: answer.first,
+                    rel: reading::Relation {
+                        width: rel.width,
+                        vars_count: allocator.vars_count,
+                        queries: rel.queries,
+                        equations: rel.equations,
+                        words: rel.words,
+                    },
+                    share: Some((allocator.opened, rel.quota, rel.obtained)),
+                }
+            }
+        }
+    };
+}
+
+made!(reading);
+
+/// The allocator of a relation that shares one, in a side's type.
+macro_rules! allocator {
+    ($side:ident, $state:expr) => {
+        $side::VarAllocator {
+            vars_count: $state.rel.vars_count,
+            opened: $state.share.map_or(0, |share| share.opened),
+        }
+    };
+}
+
+/// A side's call on a relation: the first name of it alone or, where it has a share, the second
+/// of its number on the allocator. Both sides have records of the same fields.
+macro_rules! called {
+    ($side:ident, $state:expr, $alone:ident, $shared:ident $(, $argument:expr)* $(,)?) => {{
+        let rel = $state.rel;
+        match $state.share {
+            None => {
+                let rel = $side::Relation {
+                    width: rel.width,
+                    vars_count: rel.vars_count,
+                    queries: rel.queries,
+                    equations: rel.equations,
+                    words: rel.words,
+                };
+                $side::$alone(rel $(, $argument)*).into()
+            }
+            Some(share) => {
+                let allocator = $crate::calls::allocator!($side, $state);
+                let rel = $side::SharedRelation {
+                    width: rel.width,
+                    queries: rel.queries,
+                    equations: rel.equations,
+                    words: rel.words,
+                    quota: share.quota,
+                    obtained: share.obtained,
+                };
+                $side::$shared(allocator, share.index, rel $(, $argument)*).into()
+            }
+        }
+    }};
+}
+
+#[cfg(feature = "library")]
+pub(crate) use made;
+pub(crate) use {allocator, called};
+
 /// What lies in a store that no call has written to.
 pub const DIRT: u32 = 0xABAB_ABAB;
 
-/// A relation's record and its stores.
+/// A relation's record and its stores. Where it shares an allocator, it has a share, and the
+/// wire count and the slots are everybody's.
 #[derive(Clone, Debug, PartialEq, Eq)]
 pub struct State {
     pub rel: Relation,
+    pub share: Option<Share>,
     pub slots: Vec<u32>,
     pub queries: Vec<u32>,
     pub equations: Vec<u32>,
@@ -65,6 +165,7 @@ impl State {
     pub fn sized(slots: usize, queries: usize, equations: usize) -> Self {
         Self {
             rel: Relation::default(),
+            share: None,
             slots: vec![DIRT; slots],
             queries: vec![DIRT; queries],
             equations: vec![DIRT; equations],
@@ -88,20 +189,36 @@ impl State {
         answer.number
     }
 
+    /// Opens a relation on the allocator, by the second reading.
+    pub fn with_allocator(&mut self, width: u32, quota: u32) -> Answer {
+        let answer =
+            reading::with_allocator(allocator!(reading, self), width, quota, &mut self.slots);
+        self.keep(answer.into())
+    }
+
     /// Runs a call by the second reading.
     pub fn run(&mut self, call: &Call) -> Answer {
+        let (slots, queries) = (&mut self.slots, &mut self.queries);
         match call {
             Call::Allocate(count) => {
-                let answer = reading::allocate_vars(self.rel, &mut self.slots, *count);
-                self.keep(answer)
+                let made = called!(
+                    reading,
+                    self,
+                    allocate_vars,
+                    allocate_vars_on,
+                    slots,
+                    *count
+                );
+                self.keep(made)
             }
             Call::AllocateWith(values) => self.allocate_with(values),
             Call::Set(var, value) => Answer {
-                number: reading::set_var(self.rel, &mut self.slots, *var, *value),
+                number: called!(reading, self, set_var, set_var_on, slots, *var, *value),
                 ..Answer::default()
             },
             Call::SetList(vars, values) => {
-                let tally = reading::set_vars(self.rel, &mut self.slots, vars, values);
+                let tally: reading::Tally =
+                    called!(reading, self, set_vars, set_vars_on, slots, vars, values);
                 Answer {
                     number: tally.number,
                     accepted: tally.accepted as usize,
@@ -109,7 +226,8 @@ impl State {
                 }
             }
             Call::Tickets(text) => {
-                let tally = reading::set_tickets(self.rel, &mut self.slots, &text.0);
+                let tally: reading::TicketTally =
+                    called!(reading, self, set_tickets, set_tickets_on, slots, &text.0);
                 Answer {
                     number: tally.number,
                     accepted: tally.accepted,
@@ -117,22 +235,44 @@ impl State {
                 }
             }
             Call::Record(input, output) => {
-                let queries = &mut self.queries;
-                let answer = reading::add_permutation(self.rel, queries, input, output);
-                self.keep(answer)
+                let made = called!(
+                    reading,
+                    self,
+                    add_permutation,
+                    add_permutation_on,
+                    queries,
+                    input,
+                    output
+                );
+                self.keep(made)
             }
             Call::Mint(input) => {
-                let (slots, queries) = (&mut self.slots, &mut self.queries);
-                let answer = reading::allocate_permutation(self.rel, slots, queries, input);
-                self.keep(answer)
+                let made = called!(
+                    reading,
+                    self,
+                    allocate_permutation,
+                    allocate_permutation_on,
+                    slots,
+                    queries,
+                    input
+                );
+                self.keep(made)
             }
             Call::Equation(terms, image) => {
-                let terms = weighted(terms);
-                let answer = reading::add_equation(self.rel, &mut self.equations, &terms, *image);
-                self.keep(answer)
+                let (terms, equations) = (weighted(terms), &mut self.equations);
+                let made = called!(
+                    reading,
+                    self,
+                    add_equation,
+                    add_equation_on,
+                    equations,
+                    &terms,
+                    *image
+                );
+                self.keep(made)
             }
             Call::Value(var) => {
-                let answer = reading::value(self.rel, &self.slots, *var);
+                let answer: reading::Value = called!(reading, self, value, value_on, slots, *var);
                 Answer {
                     number: answer.number,
                     value: answer.value,
@@ -140,7 +280,8 @@ impl State {
                 }
             }
             Call::IsAllocated(var) => {
-                let answer = reading::is_allocated(self.rel, *var);
+                let answer: reading::Flag =
+                    called!(reading, self, is_allocated, is_allocated_on, *var);
                 Answer {
                     number: answer.number,
                     yes: answer.yes,
@@ -150,11 +291,20 @@ impl State {
         }
     }
 
-    fn keep(&mut self, answer: reading::RelationAnswer) -> Answer {
-        self.rel = answer.relation;
+    /// Keeps the records that a call gives back.
+    pub fn keep(&mut self, made: Made) -> Answer {
+        self.rel = made.rel;
+        if let (Some(share), Some((opened, quota, obtained))) = (&mut self.share, made.share) {
+            *share = Share {
+                index: share.index,
+                opened,
+                quota,
+                obtained,
+            };
+        }
         Answer {
-            number: answer.number,
-            first: answer.first,
+            number: made.number,
+            first: made.first,
             ..Answer::default()
         }
     }

@@ -2,7 +2,7 @@
 
 use std::collections::BTreeSet;
 
-use reading::{MAX_COUNT, P, TICKET_LINE};
+use reading::{MAX_COUNT, P, TICKET_LINE, UNASSIGNED};
 use source::{Params, Parts};
 
 use crate::{
@@ -160,6 +160,18 @@ impl Generator {
         }
     }
 
+    /// Follows what others have done to the wires of a shared allocator: what these are worth,
+    /// and which of them are set.
+    pub fn hear(&mut self, table: &[u32], state: &State) {
+        if self.mood != Mood::Honest {
+            return;
+        }
+        self.table = table.to_vec();
+        let (slots, ..) = state.held();
+        let set = (0..).zip(slots).filter(|(_, &slot)| slot != UNASSIGNED);
+        self.known.extend(set.map(|(var, _)| var));
+    }
+
     /// What the wires carry by the table; 1 where it has none.
     pub fn values(&self, vars: &[u32]) -> Vec<u32> {
         let value = |var: &u32| self.table.get(*var as usize).copied();
@@ -182,6 +194,13 @@ impl Generator {
         let rng = &mut self.rng;
         if self.mood != Mood::Wild || !rng.once_in(4) {
             return rng.below(6) as u32;
+        }
+        // Just what the quota still takes, or one more.
+        if let Some(share) = state.share {
+            if rng.once_in(2) {
+                let left = share.quota.wrapping_sub(share.obtained);
+                return left.wrapping_add(rng.below(2) as u32);
+            }
         }
         // Just what the store or the limit still takes, or one more.
         let room = (state.slots.len() as u32).wrapping_sub(state.rel.vars_count);

@@ -1,9 +1,9 @@
 //! An instance's record and its stores, with the second reading's calls on them.
 
-use reading::{Instance, Trace};
+use reading::{Instance, InstanceAnswer, Trace};
 use source::{Params, Parts};
 
-use crate::calls::{State, DIRT};
+use crate::calls::{called, State, DIRT};
 
 /// A sheet as the second reading is lent it.
 pub fn lent(params: &Params) -> reading::Params<'_> {
@@ -42,18 +42,22 @@ impl Room {
     };
 }
 
-/// The gate on a relation.
+/// The gate on a relation, alone or on a shared allocator.
+pub fn compile(
+    state: &State,
+    label: &[u8],
+    publics: &mut [u32],
+    scratch: &mut [u32],
+) -> InstanceAnswer {
+    let (slots, queries, equations) = (&state.slots, &state.queries, &state.equations);
+    called!(reading, state, compile, compile_on, label, slots, queries, equations, publics, scratch)
+}
+
+/// The gate on a relation, in so much room.
 pub fn gate(state: &State, label: &str, room: Room) -> (u32, Held) {
     let mut publics = vec![DIRT; room.publics];
-    let answer = reading::compile(
-        state.rel,
-        label.as_bytes(),
-        &state.slots,
-        &state.queries,
-        &state.equations,
-        &mut publics,
-        &mut vec![DIRT; room.scratch],
-    );
+    let scratch = &mut vec![DIRT; room.scratch];
+    let answer = compile(state, label.as_bytes(), &mut publics, scratch);
     let held = Held {
         ins: answer.instance,
         label: label.as_bytes().to_vec(),

@@ -15,6 +15,7 @@ mod leaf;
 mod library;
 mod lists;
 mod options;
+mod plant;
 mod rng;
 mod sample;
 mod tickets;
@@ -36,6 +37,8 @@ const COMMANDS: &[Command] = &[
     ("relation", library::relation::run),
     #[cfg(feature = "library")]
     ("tickets", library::tickets::run),
+    #[cfg(feature = "library")]
+    ("shared", library::shared::run),
     #[cfg(feature = "library")]
     ("witness", library::witness::run),
     #[cfg(feature = "library")]

@@ -14,6 +14,7 @@ use circuit::{
     expr::{Sum, Weighted},
     parts, BabyBearUnit, FieldVar, InvalidRelation, LinearEquation, PermutationInstance,
     PermutationRelation, PermutationWitness, PermutationWitnessBuilder, QueryAnswerPair,
+    VarAllocator,
 };
 use p3_baby_bear::BabyBear;
 use p3_field::integers::QuotientMap;
@@ -224,6 +225,16 @@ pub trait Builder {
 /// A new relation.
 pub fn relation(width: u32, label: &str) -> Box<dyn Relation> {
     at_width!(width, W => Box::new(PermutationRelation::<BabyBearUnit, W>::labeled(label)))
+}
+
+/// An allocator for relations of any widths.
+#[derive(Default)]
+pub struct Allocator(VarAllocator<BabyBearUnit>);
+
+/// A relation on this allocator. It has no label.
+pub fn with_allocator(width: u32, allocator: &Allocator) -> Box<dyn Relation> {
+    let allocator = allocator.0.clone();
+    at_width!(width, W => Box::new(PermutationRelation::<BabyBearUnit, W>::with_allocator(allocator)))
 }
 
 /// An instance of these parts that no gate has seen.

@@ -61,7 +61,8 @@ pub fn compare(
         same("number", ("given", number), ("types", expected))?;
         return Ok(true);
     }
-    if number == 6 || number == 10 {
+    // Neither room nor quotas have a counterpart.
+    if [6, 10, 43].contains(&number) {
         return Ok(false);
     }
     let before = relation.vars_count();

@@ -11,12 +11,16 @@ pub mod calls;
 pub mod instances;
 mod witnesses;
 
+use source::Relation;
+
 use crate::{
-    compared::{same, Compared, Log, Seen},
+    calls::{Answer, Call, State},
+    compared::{same, Compared, Log, Outcome, Seen},
     generate::{self, Generator, Mood},
     held::Room,
     lists,
     options::Options,
+    plant,
     rng::Rng,
 };
 
@@ -43,7 +47,12 @@ pub fn run(options: &Options) -> bool {
     let mut apart = Apart::default();
     let line = lists::compare(options, |seed, seen, log| {
         let apart = &mut apart;
-        Run { seen, apart, log }.list(seed)
+        let mut run = Run { seen, apart, log };
+        run.list(seed)?;
+        if seed % 4 == 0 {
+            plant::list(seed, &mut run)?;
+        }
+        Ok(())
     });
     let Some(line) = line else {
         return false;
@@ -90,18 +99,58 @@ impl Run<'_> {
             }
         }
         self.scaling(&mut generator.rng)?;
-        if let Some((held, instance)) = self.gate(&mut generator.rng, &state, &label, &*relation)? {
-            let trace = self.builder(&mut generator, &held)?;
-            if generator.mood == Mood::Honest {
-                let number = held.check(&trace, &generator.params, Room::AMPLE.scratch);
-                same(
-                    "an honest list's check",
-                    ("reading", number),
-                    ("expected", 0),
-                )?;
-            }
-            self.instance(&mut generator, &held, &*instance, &trace)?;
-        }
+        self.judged(&mut generator, &state, &label, &*relation)?;
         self.ungated(&mut generator)
+    }
+
+    /// The gate and what follows it.
+    fn judged(
+        &mut self,
+        generator: &mut Generator,
+        state: &State,
+        label: &str,
+        relation: &dyn Relation,
+    ) -> Compared {
+        let Some((held, instance)) = self.gate(&mut generator.rng, state, label, relation)? else {
+            return Ok(());
+        };
+        let trace = self.builder(generator, &held)?;
+        if generator.mood == Mood::Honest {
+            let number = held.check(&trace, &generator.params, Room::AMPLE.scratch);
+            same(
+                "an honest list's check",
+                ("reading", number),
+                ("expected", 0),
+            )?;
+        }
+        self.instance(generator, &held, &*instance, &trace)
+    }
+}
+
+/// Relations on one allocator: a list of them follows every fourth of the others.
+impl plant::Side for Run<'_> {
+    fn log(&self) -> &Log {
+        self.log
+    }
+
+    fn open(&mut self, state: &mut State, width: u32, quota: u32) -> Outcome<Answer> {
+        let answer = state.with_allocator(width, quota);
+        self.seen.answered("opening", answer.number);
+        Ok(answer)
+    }
+
+    fn call(&mut self, state: &mut State, call: &Call) -> Outcome<Answer> {
+        let answer = state.run(call);
+        self.seen.answered(call.name(), answer.number);
+        Ok(answer)
+    }
+
+    fn judge(
+        &mut self,
+        generator: &mut Generator,
+        state: &State,
+        relation: &dyn Relation,
+    ) -> Compared {
+        self.judged(generator, state, "", relation)
     }
 }

@@ -2,13 +2,13 @@
 
 use reading::Instance;
 
-use super::side::to_library as to_relation;
+use super::side;
 use crate::{
     astray,
     calls::{State, DIRT},
     compared::{same, Compared, Log, Outcome, Seen},
     generate::{self, Generator},
-    held::{Held, Room},
+    held::{self, Held, Room},
     lists,
     options::Options,
     rng::Rng,
@@ -79,24 +79,8 @@ pub fn gate(
     log.say(|| format!("Gate({state:?}, {label:?}), {publics} publics, {scratch} scratch"));
     let mut given = (vec![DIRT; publics], vec![DIRT; scratch]);
     let mut expected = given.clone();
-    let library = sfr::compile(
-        to_relation(state.rel),
-        label,
-        &state.slots,
-        &state.queries,
-        &state.equations,
-        &mut given.0,
-        &mut given.1,
-    );
-    let reading = reading::compile(
-        state.rel,
-        label,
-        &state.slots,
-        &state.queries,
-        &state.equations,
-        &mut expected.0,
-        &mut expected.1,
-    );
+    let library = side::compile(state, label, &mut given.0, &mut given.1);
+    let reading = held::compile(state, label, &mut expected.0, &mut expected.1);
     seen.answered("gate", reading.number);
     let library = (library.number, from_library(library.instance), given);
     let answer = (reading.number, reading.instance, expected);

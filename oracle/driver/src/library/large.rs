@@ -3,7 +3,7 @@
 //! Zeroed pages take no memory until somebody writes to them, so such a store costs little;
 //! only the words at its two ends are compared.
 
-use reading::{Relation, MAX_COUNT};
+use reading::{Relation, Share, MAX_COUNT};
 
 use super::side;
 use crate::{
@@ -31,27 +31,53 @@ const REL: Relation = Relation {
 };
 const FEW: usize = 8;
 
-pub fn compare() -> Compared {
-    for cases in [slots(), queries(), equations(), lists()] {
-        for case in cases {
-            compare_case(case)?;
+/// The calls of a relation with each of these shares, or alone.
+pub fn compare(shares: &[Option<Share>]) -> Compared {
+    for &share in shares {
+        for cases in [slots(), queries(), equations(), lists()] {
+            for case in cases {
+                compare_case(case, share)?;
+            }
         }
-    }
-    for len in [LIMIT, LIMIT + 1] {
-        let (mut library, mut reading) = (zeroed([len, 0, 0]), zeroed([len, 0, 0]));
-        let answer = side::new_relation(&mut library, 1);
-        let number = reading.new_relation(1);
-        let what = format!("fresh over {len} slots");
-        same(&what, ("library", answer.number), ("reading", number))?;
-        same(&what, ("library", library.rel), ("reading", reading.rel))?;
+        for len in [LIMIT, LIMIT + 1] {
+            compare_fresh(len, share)?;
+        }
     }
     Ok(())
 }
 
-fn zeroed(lens: [usize; 3]) -> State {
+/// A new relation, or an opening.
+fn compare_fresh(len: usize, share: Option<Share>) -> Compared {
+    let (mut library, mut reading) = (zeroed([len, 0, 0], share), zeroed([len, 0, 0], share));
+    let (given, expected) = match share {
+        None => {
+            let answer = side::new_relation(&mut library, 1);
+            (answer.number, reading.new_relation(1))
+        }
+        Some(_) => {
+            let answer = side::with_allocator(&mut library, 1, 5);
+            (answer.number, reading.with_allocator(1, 5).number)
+        }
+    };
+    let what = format!("fresh over {len} slots, {share:?}");
+    same(&what, ("library", given), ("reading", expected))?;
+    compare_records(&what, &library, &reading)
+}
+
+fn compare_records(what: &str, library: &State, reading: &State) -> Compared {
+    let records = |state: &State| (state.rel, state.share);
+    same(
+        what,
+        ("library", records(library)),
+        ("reading", records(reading)),
+    )
+}
+
+fn zeroed(lens: [usize; 3], share: Option<Share>) -> State {
     let [slots, queries, equations] = lens.map(|len| vec![0; len]);
     State {
         rel: REL,
+        share,
         slots,
         queries,
         equations,
@@ -149,16 +175,17 @@ fn lists() -> Vec<Case> {
     cases.collect()
 }
 
-fn compare_case(case: Case) -> Compared {
-    let (mut library, mut reading) = (zeroed(case.lens), zeroed(case.lens));
+fn compare_case(case: Case, share: Option<Share>) -> Compared {
+    let (mut library, mut reading) = (zeroed(case.lens, share), zeroed(case.lens, share));
     library.rel = case.rel;
     reading.rel = case.rel;
     let given = side::run(&mut library, &case.call);
     let expected = reading.run(&case.call);
     let (name, lens) = (case.call.name(), case.lens);
-    let what = format!("{name} on {:?} with stores of {lens:?} words", case.rel);
+    let rel = case.rel;
+    let what = format!("{name} on {rel:?} {share:?} with stores of {lens:?} words");
     same(&what, ("library", given), ("reading", expected))?;
-    same(&what, ("library", library.rel), ("reading", reading.rel))?;
+    compare_records(&what, &library, &reading)?;
     let stores = [
         (&library.slots, &reading.slots),
         (&library.queries, &reading.queries),

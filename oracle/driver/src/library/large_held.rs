@@ -36,7 +36,7 @@ const PARAMS: [u32; 1] = [1];
 
 pub fn run(_: &Options) -> bool {
     let mut cases = 0;
-    let compared = large::compare()
+    let compared = large::compare(&[None])
         .and_then(|()| tickets::long())
         .and_then(|()| read_only(&mut cases))
         .and_then(|()| cleared(&mut cases));

@@ -10,6 +10,7 @@ mod large;
 pub mod large_held;
 pub mod leaves;
 pub mod relation;
+pub mod shared;
 mod side;
 pub mod terms;
 pub mod tickets;

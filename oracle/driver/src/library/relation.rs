@@ -21,7 +21,7 @@ use crate::{
 
 pub fn run(options: &Options) -> bool {
     source::silence_panics();
-    if let Err(difference) = large::compare() {
+    if let Err(difference) = large::compare(&[None]) {
         println!("relation: a difference: {}", difference.0);
         return false;
     }
@@ -32,8 +32,8 @@ pub fn run(options: &Options) -> bool {
 /// One relation on the library's side and on the second reading's.
 #[derive(Clone)]
 pub struct Pair {
-    library: State,
-    reading: State,
+    pub library: State,
+    pub reading: State,
 }
 
 impl Pair {
@@ -46,7 +46,12 @@ impl Pair {
 
     /// Runs a call on both sides.
     pub fn call(&mut self, call: &Call, seen: &mut Seen, log: &Log) -> Outcome<Answer> {
-        log.say(|| format!("{call:?} on {:?}", self.reading.rel));
+        log.say(|| {
+            format!(
+                "{call:?} on {:?} {:?}",
+                self.reading.rel, self.reading.share
+            )
+        });
         let library = side::run(&mut self.library, call);
         let reading = self.reading.run(call);
         seen.answered(call.name(), reading.number);
@@ -55,9 +60,14 @@ impl Pair {
         Ok(reading)
     }
 
-    fn compare(&self) -> Compared {
+    pub fn compare(&self) -> Compared {
         let (library, reading) = (&self.library, &self.reading);
-        same("record", ("library", library.rel), ("reading", reading.rel))?;
+        let records = |state: &State| (state.rel, state.share);
+        same(
+            "records",
+            ("library", records(library)),
+            ("reading", records(reading)),
+        )?;
         same(
             "slots",
             ("library", &library.slots),
@@ -76,7 +86,7 @@ impl Pair {
     }
 
     /// The same change on both sides.
-    fn change(&mut self, rng: &mut Rng) {
+    pub fn change(&mut self, rng: &mut Rng) {
         let mut changed = self.reading.clone();
         for _ in 0..rng.between(1, 2) {
             astray::state(rng, &mut changed);

@@ -1,6 +1,6 @@
-//! The proved library's side of the calls on a relation.
+//! The proved library's side of the calls on a relation, alone or on a shared allocator.
 
-use crate::calls::{Answer, Call, State};
+use crate::calls::{allocator, called, made, Answer, Call, State};
 
 pub fn to_library(rel: reading::Relation) -> sfr::Relation {
     sfr::Relation {
@@ -12,37 +12,46 @@ pub fn to_library(rel: reading::Relation) -> sfr::Relation {
     }
 }
 
-fn from_library(rel: sfr::Relation) -> reading::Relation {
-    reading::Relation {
-        width: rel.width,
-        vars_count: rel.vars_count,
-        queries: rel.queries,
-        equations: rel.equations,
-        words: rel.words,
-    }
-}
+made!(sfr);
 
 /// A new relation over these stores.
 pub fn new_relation(state: &mut State, width: u32) -> Answer {
     let answer = sfr::new_relation(width, &mut state.slots);
-    keep(state, answer)
+    state.keep(answer.into())
+}
+
+/// Opens a relation on the allocator.
+pub fn with_allocator(state: &mut State, width: u32, quota: u32) -> Answer {
+    let answer = sfr::with_allocator(allocator!(sfr, state), width, quota, &mut state.slots);
+    state.keep(answer.into())
+}
+
+/// The gate.
+pub fn compile(
+    state: &State,
+    label: &[u8],
+    publics: &mut [u32],
+    scratch: &mut [u32],
+) -> sfr::InstanceAnswer {
+    let (slots, queries, equations) = (&state.slots, &state.queries, &state.equations);
+    called!(sfr, state, compile, compile_on, label, slots, queries, equations, publics, scratch)
 }
 
 /// Runs a call and keeps the record that it gives back.
 pub fn run(state: &mut State, call: &Call) -> Answer {
-    let rel = to_library(state.rel);
+    let (slots, queries) = (&mut state.slots, &mut state.queries);
     match call {
         Call::Allocate(count) => {
-            let answer = sfr::allocate_vars(rel, &mut state.slots, *count);
-            keep(state, answer)
+            let made = called!(sfr, state, allocate_vars, allocate_vars_on, slots, *count);
+            state.keep(made)
         }
         Call::AllocateWith(values) => allocate_with(state, values),
         Call::Set(var, value) => Answer {
-            number: sfr::set_var(rel, &mut state.slots, *var, *value),
+            number: called!(sfr, state, set_var, set_var_on, slots, *var, *value),
             ..Answer::default()
         },
         Call::SetList(vars, values) => {
-            let tally = sfr::set_vars(rel, &mut state.slots, vars, values);
+            let tally: sfr::Tally = called!(sfr, state, set_vars, set_vars_on, slots, vars, values);
             Answer {
                 number: tally.number,
                 accepted: tally.accepted as usize,
@@ -50,7 +59,8 @@ pub fn run(state: &mut State, call: &Call) -> Answer {
             }
         }
         Call::Tickets(text) => {
-            let tally = sfr::set_tickets(rel, &mut state.slots, &text.0);
+            let tally: sfr::TicketTally =
+                called!(sfr, state, set_tickets, set_tickets_on, slots, &text.0);
             Answer {
                 number: tally.number,
                 accepted: tally.accepted,
@@ -58,21 +68,44 @@ pub fn run(state: &mut State, call: &Call) -> Answer {
             }
         }
         Call::Record(input, output) => {
-            let answer = sfr::add_permutation(rel, &mut state.queries, input, output);
-            keep(state, answer)
+            let made = called!(
+                sfr,
+                state,
+                add_permutation,
+                add_permutation_on,
+                queries,
+                input,
+                output
+            );
+            state.keep(made)
         }
         Call::Mint(input) => {
-            let (slots, queries) = (&mut state.slots, &mut state.queries);
-            let answer = sfr::allocate_permutation(rel, slots, queries, input);
-            keep(state, answer)
+            let made = called!(
+                sfr,
+                state,
+                allocate_permutation,
+                allocate_permutation_on,
+                slots,
+                queries,
+                input
+            );
+            state.keep(made)
         }
         Call::Equation(terms, image) => {
-            let terms = weighted(terms);
-            let answer = sfr::add_equation(rel, &mut state.equations, &terms, *image);
-            keep(state, answer)
+            let (terms, equations) = (weighted(terms), &mut state.equations);
+            let made = called!(
+                sfr,
+                state,
+                add_equation,
+                add_equation_on,
+                equations,
+                &terms,
+                *image
+            );
+            state.keep(made)
         }
         Call::Value(var) => {
-            let answer = sfr::value_of(rel, &state.slots, *var);
+            let answer: sfr::Value = called!(sfr, state, value_of, value_of_on, slots, *var);
             Answer {
                 number: answer.number,
                 value: answer.some.then_some(answer.value),
@@ -80,7 +113,7 @@ pub fn run(state: &mut State, call: &Call) -> Answer {
             }
         }
         Call::IsAllocated(var) => {
-            let answer = sfr::is_allocated(rel, *var);
+            let answer: sfr::Flag = called!(sfr, state, is_allocated, is_allocated_on, *var);
             Answer {
                 number: answer.number,
                 yes: answer.yes,
@@ -96,15 +129,6 @@ pub fn weighted(terms: &[(u32, u32)]) -> Vec<sfr::Weighted> {
     terms
         .map(|&(var, weight)| sfr::Weighted { var, weight })
         .collect()
-}
-
-fn keep(state: &mut State, answer: sfr::RelationAnswer) -> Answer {
-    state.rel = from_library(answer.relation);
-    Answer {
-        number: answer.number,
-        first: answer.first,
-        ..Answer::default()
-    }
 }
 
 fn allocate_with(state: &mut State, values: &[u32]) -> Answer {

@@ -2,7 +2,7 @@
 //! between, but for ticket lines, which it takes apart: calls, gate, builder, bytes out and in,
 //! and the check. Each side goes on with what it made itself.
 
-use source::{Instance, Params};
+use source::{Instance, Params, Relation};
 
 use super::{
     instance::{from_library, to_library},
@@ -29,9 +29,9 @@ pub fn run(options: &Options) -> bool {
 }
 
 /// One list's run.
-struct Run<'a> {
-    seen: &'a mut Seen,
-    log: &'a Log,
+pub struct Run<'a> {
+    pub seen: &'a mut Seen,
+    pub log: &'a Log,
 }
 
 /// An SFRI read by the library, into ample stores.
@@ -90,19 +90,7 @@ impl Run<'_> {
             generator.note(&call, &answer);
         }
 
-        let (number, held) = self.gate(&state, &label);
-        if let Some((held, instance)) = both(number, held, relation.compile())? {
-            let trace = self.builder(&generator, &held)?;
-            if generator.mood == Mood::Honest {
-                let number = check(&held, &trace, &generator.params);
-                same(
-                    "an honest list's check",
-                    ("library", number),
-                    ("expected", 0),
-                )?;
-            }
-            self.instance(&mut generator, &held, &*instance, &trace)?;
-        }
+        self.judged(&mut generator, &state, &label, &*relation)?;
 
         // Parts that no gate has seen.
         let parts = generate::ungated(&mut generator.rng, width);
@@ -115,19 +103,36 @@ impl Run<'_> {
         self.instance(&mut generator, &held, &*instance, &trace)
     }
 
+    /// The gate and what follows it.
+    pub fn judged(
+        &mut self,
+        generator: &mut Generator,
+        state: &State,
+        label: &str,
+        relation: &dyn Relation,
+    ) -> Compared {
+        let (number, held) = self.gate(state, label);
+        let Some((held, instance)) = both(number, held, relation.compile())? else {
+            return Ok(());
+        };
+        let trace = self.builder(generator, &held)?;
+        if generator.mood == Mood::Honest {
+            let number = check(&held, &trace, &generator.params);
+            same(
+                "an honest list's check",
+                ("library", number),
+                ("expected", 0),
+            )?;
+        }
+        self.instance(generator, &held, &*instance, &trace)
+    }
+
     /// The gate, in ample stores.
     fn gate(&mut self, state: &State, label: &str) -> (u32, Held) {
         self.log.say(|| "Gate".to_owned());
         let mut publics = vec![DIRT; Room::AMPLE.publics];
-        let answer = sfr::compile(
-            side::to_library(state.rel),
-            label.as_bytes(),
-            &state.slots,
-            &state.queries,
-            &state.equations,
-            &mut publics,
-            &mut vec![DIRT; Room::AMPLE.scratch],
-        );
+        let scratch = &mut vec![DIRT; Room::AMPLE.scratch];
+        let answer = side::compile(state, label.as_bytes(), &mut publics, scratch);
         self.seen.answered("gate", answer.number);
         let held = Held {
             ins: from_library(answer.instance),

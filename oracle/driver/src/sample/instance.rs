@@ -48,15 +48,7 @@ impl Sample {
             .list(TWO, queries)
             .list(THREE, equations)
             .list(SECOND, &scratch);
-        let answer = reading::compile(
-            state.rel,
-            label,
-            slots,
-            queries,
-            equations,
-            &mut publics,
-            &mut scratch,
-        );
+        let answer = held::compile(state, label, &mut publics, &mut scratch);
         let case = case.answer(&given([answer.number, 0], answer.instance));
         self.push(case.list(FIRST_AFTER, &publics));
         assert!(scratch.iter().all(|&word| word == 0), "scratch is all 0");
