@@ -9,6 +9,7 @@
 mod case;
 mod instance;
 mod relation;
+mod shared;
 mod tickets;
 mod trace;
 
@@ -26,15 +27,17 @@ use crate::{
 
 use case::{Case, FIRST, FIRST_AFTER, TEXT};
 
-/// Random cases of leaves, of calls on a relation, of tickets and each call on a trace, and of
-/// each call on an instance, where no count is given: with the fixed ones they stay below 1 MiB.
+/// Random cases of leaves, of calls on a relation, of tickets and each call on a trace, of each
+/// call on an instance, and of calls on a shared allocator, where no count is given: with the fixed
+/// ones they stay below 1 MiB.
 const LEAVES: u64 = 2_500;
 const RELATIONS: u64 = 1_200;
 const TRACES: u64 = 120;
 const INSTANCES: u64 = 200;
+const SHARED: u64 = 180;
 
 /// What the cases of an operation are.
-const OPERATIONS: [(u32, &str); 28] = [
+const OPERATIONS: [(u32, &str); 29] = [
     (1, "sums"),
     (2, "products"),
     (3, "texts"),
@@ -57,6 +60,7 @@ const OPERATIONS: [(u32, &str); 28] = [
     (23, "writes of SFRW"),
     (24, "reads of SFRW"),
     (25, "permuted states"),
+    (30, "calls on a shared allocator"),
     (31, "gates"),
     (32, "writes of SFRI"),
     (33, "reads of SFRI"),
@@ -80,6 +84,7 @@ pub fn run(options: &Options) -> bool {
     let mut writes = Rng::new(!options.seed);
     let mut more = Rng::new(options.seed ^ (1 << 63));
     let mut tickets = Rng::new(!options.seed ^ (1 << 63));
+    let mut shared = Rng::new(options.seed ^ (1 << 62));
     let mut sample = Sample::default();
     sample.names();
     sample.fixed();
@@ -100,6 +105,10 @@ pub fn run(options: &Options) -> bool {
     for _ in 0..options.count.unwrap_or(INSTANCES) {
         sample.random_instance(&mut rng, &mut writes, &mut more);
         sample.random_heading(&mut more);
+    }
+    sample.fixed_shared();
+    for _ in 0..options.count.unwrap_or(SHARED) {
+        sample.random_shared(&mut shared);
     }
     sample.words.push(0);
     let bytes: Vec<u8> = sample

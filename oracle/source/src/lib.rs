@@ -188,6 +188,12 @@ pub trait Relation {
         self.ready_set_vars(vars, values)()
     }
     fn ready_set_vars(&self, vars: &[u32], values: &[u32]) -> Ready<'static, Option<()>>;
+    /// A call for each wire, set or query, one after the other, and so for each equation, whose
+    /// sums are put together before.
+    fn ready_allocations(&self, count: usize) -> Ready<'static, ()>;
+    fn ready_sets(&self, vars: &[u32], values: &[u32]) -> Ready<'static, ()>;
+    fn ready_mints(&self, inputs: &[u32]) -> Ready<'static, ()>;
+    fn ready_equations(&self, equations: &[(Vec<(u32, u32)>, u32)]) -> Ready<'static, ()>;
     fn add_permutation(&self, input: &[u32], output: &[u32]);
     /// `spelling` chooses among the three names that the sources have for this.
     fn allocate_permutation(&self, input: &[u32], spelling: usize) -> Option<Vec<u32>>;
@@ -339,6 +345,53 @@ impl<const W: usize> Relation for PermutationRelation<BabyBearUnit, W> {
         let vars: Vec<FieldVar> = vars.iter().copied().map(to_var).collect();
         let values: Vec<BabyBearUnit> = values.iter().copied().map(to_unit).collect();
         Box::new(move || call(|| relation.set_vars(&vars, &values)))
+    }
+
+    fn ready_allocations(&self, count: usize) -> Ready<'static, ()> {
+        let relation = self.clone();
+        Box::new(move || {
+            for _ in 0..count {
+                black_box(relation.allocate_var());
+            }
+        })
+    }
+
+    fn ready_sets(&self, vars: &[u32], values: &[u32]) -> Ready<'static, ()> {
+        let relation = self.clone();
+        let pairs: Vec<(FieldVar, BabyBearUnit)> = vars
+            .iter()
+            .zip(values)
+            .map(|(&var, &value)| (to_var(var), to_unit(value)))
+            .collect();
+        Box::new(move || {
+            for (var, value) in &pairs {
+                relation.set_var(*var, value.clone());
+            }
+        })
+    }
+
+    fn ready_mints(&self, inputs: &[u32]) -> Ready<'static, ()> {
+        let relation = self.clone();
+        let inputs: Vec<[FieldVar; W]> = inputs.chunks(W).map(to_vars).collect();
+        Box::new(move || {
+            for input in &inputs {
+                black_box(relation.allocate_permutation(input));
+            }
+        })
+    }
+
+    fn ready_equations(&self, equations: &[(Vec<(u32, u32)>, u32)]) -> Ready<'static, ()> {
+        let relation = self.clone();
+        let sums: Vec<(Sum<_>, BabyBearUnit)> = equations
+            .iter()
+            .map(|(terms, image)| (weighted(terms).collect(), to_unit(*image)))
+            .collect();
+        let sums = Cell::new(sums);
+        Box::new(move || {
+            for (sum, image) in sums.take() {
+                relation.add_equation(sum, image);
+            }
+        })
     }
 
     fn add_permutation(&self, input: &[u32], output: &[u32]) {

@@ -1,9 +1,15 @@
 //! Inputs of so many items, and the tables of all calls but evaluation.
 
+use reading::{Relation, Share};
 use source::{Params, Parts};
 
 use super::{best, evaluate, table, timed, Line};
-use crate::{held::Held, library::instance::to_library, rng::Rng};
+use crate::{
+    calls::State,
+    held::Held,
+    library::{instance::to_library, side},
+    rng::Rng,
+};
 
 pub const WIDTH: u32 = 8;
 const W: usize = WIDTH as usize;
@@ -87,8 +93,12 @@ impl Honest {
         Held::from_parts(WIDTH, &self.parts)
     }
 
-    fn relation(&self) -> Box<dyn source::Relation> {
-        let relation = source::relation(WIDTH, LABEL);
+    /// The source's relation, alone or on an allocator for several, where it has no label.
+    fn relation(&self, share: Option<Share>) -> Box<dyn source::Relation> {
+        let relation = match share {
+            None => source::relation(WIDTH, LABEL),
+            Some(_) => source::with_allocator(WIDTH, &source::Allocator::default()),
+        };
         relation.allocate_vars(self.parts.vars_count - 1);
         let publics = &self.parts.publics;
         let every_second = |from: usize| publics[from..].iter().step_by(2).copied().collect();
@@ -177,7 +187,7 @@ pub fn tables(last: usize) {
          values, queries and equations under locks before it asks, and lists the publics; the library reads the \
          stores where they lie.",
         last,
-        gate,
+        |items| gate(items, None),
     );
     table(
         "check, no rounds",
@@ -347,35 +357,35 @@ fn write_trace(items: usize) -> Line {
     }
 }
 
-fn gate(items: usize) -> Line {
+/// The gate of a relation alone, or of one with this share.
+pub fn gate(items: usize, share: Option<Share>) -> Line {
     let honest = Honest::new(items, 0);
     let held = honest.held();
-    let rel = sfr::Relation {
-        width: WIDTH,
-        vars_count: held.ins.vars_count,
-        queries: held.ins.queries,
-        equations: held.ins.equations,
-        words: held.ins.words,
+    let relation = honest.relation(share);
+    let state = State {
+        rel: Relation {
+            width: WIDTH,
+            vars_count: held.ins.vars_count,
+            queries: held.ins.queries,
+            equations: held.ins.equations,
+            words: held.ins.words,
+        },
+        share,
+        slots: honest.slots,
+        queries: held.queries,
+        equations: held.equations,
     };
+    let label = if share.is_none() { LABEL } else { "" };
     let mut publics = vec![OLD; held.publics.len()];
-    let mut scratch = vec![OLD; honest.slots.len()];
+    let mut scratch = vec![OLD; state.slots.len()];
     let library = timed(
         || (),
         |()| {
-            let answer = sfr::compile(
-                rel,
-                LABEL.as_bytes(),
-                &honest.slots,
-                &held.queries,
-                &held.equations,
-                &mut publics,
-                &mut scratch,
-            );
+            let answer = side::compile(&state, label.as_bytes(), &mut publics, &mut scratch);
             assert_eq!(answer.number, 0);
             answer
         },
     );
-    let relation = honest.relation();
     let source = timed(
         || (),
         |()| {
@@ -386,7 +396,7 @@ fn gate(items: usize) -> Line {
     );
     let [library, source] = best([library, source]);
     assert_eq!(publics, held.publics);
-    let words = honest.slots.len() + held.queries.len() + held.equations.len() + publics.len();
+    let words = state.slots.len() + state.queries.len() + state.equations.len() + publics.len();
     Line {
         items,
         bytes: 4 * words,

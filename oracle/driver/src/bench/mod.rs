@@ -6,6 +6,7 @@
 mod evaluate;
 mod forms;
 mod input;
+mod shared;
 mod tickets;
 
 use std::{env, fs, hint::black_box, time::Duration};
@@ -180,6 +181,7 @@ pub fn run(options: &Options) -> bool {
     );
     input::tables(last);
     tickets::tables(last);
+    shared::tables(last);
     if asked_for("evaluate") {
         evaluate::tables(last);
     }

@@ -11,7 +11,7 @@ pub mod large_held;
 pub mod leaves;
 pub mod relation;
 pub mod shared;
-mod side;
+pub mod side;
 pub mod terms;
 pub mod tickets;
 pub mod whole;

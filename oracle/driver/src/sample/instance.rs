@@ -40,8 +40,7 @@ impl Sample {
     fn gate(&mut self, state: &State, label: &[u8], publics: usize, scratch: usize) {
         let (mut publics, mut scratch) = (vec![DIRT; publics], vec![DIRT; scratch]);
         let (slots, queries, equations) = (&state.slots, &state.queries, &state.equations);
-        let case = Case::new(31)
-            .given(&relation::given([0, 0], state.rel))
+        let case = relation::case_of(31, [0, 0], state)
             .bytes(TEXT, label)
             .list(FIRST, &publics)
             .list(ONE, slots)
@@ -175,7 +174,7 @@ impl Sample {
         self.random_check(rng, &held, trace, &params);
     }
 
-    fn random_gate(&mut self, rng: &mut Rng, state: &State, label: &[u8]) {
+    pub fn random_gate(&mut self, rng: &mut Rng, state: &State, label: &[u8]) {
         let (mut state, mut label) = (state.clone(), label.to_vec());
         if rng.once_in(2) {
             astray::state(rng, &mut state);
@@ -275,7 +274,7 @@ impl Sample {
 }
 
 /// Dirty stores that hold some calls, and now and then too few words for them.
-fn small_stores(rng: &mut Rng, width: usize) -> State {
+pub fn small_stores(rng: &mut Rng, width: usize) -> State {
     let slots = rng.between(1, 12) + 2 * width;
     let queries = rng.between(0, 3) * 2 * width;
     let equations = rng.between(0, 36);

@@ -6,7 +6,7 @@
 //! arguments, so that every number is answered and the first of two decides. Counts of
 //! which a call is lent no store are often absurd: nothing asks about them.
 
-use reading::{Relation, MAX_COUNT, P, UNASSIGNED};
+use reading::{Relation, Share, MAX_COUNT, P, UNASSIGNED};
 
 use super::{
     case::{Case, FIRST, FIRST_AFTER, ONE, SECOND, SECOND_AFTER, TEXT, TWO},
@@ -18,7 +18,7 @@ use crate::{
 };
 
 /// Words that are no width, no wire and no unit.
-const NO_WIDTHS: [u32; 4] = [0, 25, 1 << 31, u32::MAX];
+pub const NO_WIDTHS: [u32; 4] = [0, 25, 1 << 31, u32::MAX];
 const NO_VARS: [u32; 4] = [MAX_COUNT, MAX_COUNT + 1, DIRT, u32::MAX];
 const NO_UNITS: [u32; 4] = [P, P + 1, DIRT, UNASSIGNED];
 
@@ -35,6 +35,32 @@ pub fn given(arguments: [u32; 2], rel: Relation) -> [u32; 7] {
     [x, y, width, vars_count, queries, equations, words]
 }
 
+/// A case of a call with its numbers: that of its operation or, where the relation shares an
+/// allocator, of operation 30, with the share and the operation behind.
+pub fn case_of(operation: u32, arguments: [u32; 2], state: &State) -> Case {
+    let mut numbers = given(arguments, state.rel).to_vec();
+    let Some(share) = state.share else {
+        return Case::new(operation).given(&numbers);
+    };
+    let Share {
+        index,
+        opened,
+        quota,
+        obtained,
+    } = share;
+    numbers.extend([0, index, opened, quota, obtained, operation]);
+    Case::new(30).given(&numbers)
+}
+
+/// The words of an answer that gives records back.
+pub fn answered(number: u32, first: u32, state: &State) -> Vec<u32> {
+    let mut words = given([number, first], state.rel).to_vec();
+    if let Some(share) = state.share {
+        words.extend([0, 0, share.opened, share.quota, share.obtained]);
+    }
+    words
+}
+
 impl Sample {
     fn new_relation(&mut self, width: u32, slots: Vec<u32>) {
         let case = Case::new(11).given(&[0, 0, width]).list(FIRST, &slots);
@@ -48,7 +74,10 @@ impl Sample {
     /// A call, put to the second reading.
     pub fn call(&mut self, mut state: State, call: &Call) {
         if let Call::Equation(terms, image) = call {
-            return self.equation(17, state, terms, 1, *image);
+            return match state.share {
+                None => self.equation(17, state, terms, 1, *image),
+                Some(_) => self.shared_equation(state, terms, *image),
+            };
         }
         let case = handed_in(&state, call);
         let answer = state.run(call);
@@ -61,7 +90,7 @@ impl Sample {
                 case.answer(&[number, value, u32::from(some)])
             }
             Call::IsAllocated(_) => case.answer(&[number, u32::from(answer.yes)]),
-            _ => case.answer(&given([number, answer.first], state.rel)),
+            _ => case.answer(&answered(number, answer.first, &state)),
         };
         let case = match stores(&state, call)[..] {
             [_] if matches!(call, Call::Value(_)) => case,
@@ -84,14 +113,8 @@ impl Sample {
     ) {
         let mut state = state;
         let more = 8 - terms.len();
-        let padded: Vec<(u32, u32)> = vec![(0, 0); more]
-            .into_iter()
-            .chain(terms.to_vec())
-            .collect();
-        let words: Vec<u32> = padded
-            .iter()
-            .flat_map(|&(var, weight)| [var, weight])
-            .collect();
+        let padded = padded(terms);
+        let words = term_words(&padded);
         let mut numbers = given([more as u32, image], state.rel).to_vec();
         numbers.push(factor);
         let case = Case::new(operation)
@@ -215,21 +238,33 @@ impl Sample {
     }
 }
 
+/// Eight terms, of which those in front that the list doesn't have are 0.
+pub fn padded(terms: &[(u32, u32)]) -> Vec<(u32, u32)> {
+    let mut padded = vec![(0, 0); 8 - terms.len()];
+    padded.extend(terms);
+    padded
+}
+
+pub fn term_words(terms: &[(u32, u32)]) -> Vec<u32> {
+    let terms = terms.iter();
+    terms.flat_map(|&(var, weight)| [var, weight]).collect()
+}
+
 /// The operation, the record, the stores that are lent and the arguments.
 fn handed_in(state: &State, call: &Call) -> Case {
-    let case = Case::new(operation(call));
-    let numbers = |x, y| given([x, y], state.rel);
+    let arguments = match call {
+        Call::Allocate(word) | Call::Value(word) | Call::IsAllocated(word) => [*word, 0],
+        Call::Set(var, value) => [*var, *value],
+        _ => [0, 0],
+    };
+    let case = case_of(operation(call), arguments, state);
     let case = match call {
-        Call::Allocate(word) | Call::Value(word) | Call::IsAllocated(word) => {
-            case.given(&numbers(*word, 0))
-        }
-        Call::Set(var, value) => case.given(&numbers(*var, *value)),
+        Call::Allocate(_) | Call::Value(_) | Call::IsAllocated(_) | Call::Set(..) => case,
         Call::SetList(one, other) | Call::Record(one, other) => {
-            let case = case.given(&numbers(0, 0));
             case.list(ONE, one).list(TWO, other)
         }
-        Call::Tickets(text) => case.given(&numbers(0, 0)).bytes(TEXT, &text.0),
-        Call::Mint(input) => case.given(&numbers(0, 0)).list(ONE, input),
+        Call::Tickets(text) => case.bytes(TEXT, &text.0),
+        Call::Mint(input) => case.list(ONE, input),
         Call::Equation(..) => unreachable!("it has a function of its own"),
         Call::AllocateWith(_) => unreachable!("it is two calls"),
     };
@@ -373,7 +408,7 @@ pub fn any_counts(rng: &mut Rng, state: &mut State) {
 }
 
 /// A call that most likely is accepted, and the stores that are lent to it.
-fn accepted_call(rng: &mut Rng, state: &mut State) -> Call {
+pub fn accepted_call(rng: &mut Rng, state: &mut State) -> Call {
     any_counts(rng, state);
     let width = state.rel.width as usize;
     match rng.below(24) {

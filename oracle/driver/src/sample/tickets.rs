@@ -54,28 +54,33 @@ impl Sample {
         self.call(state, &Call::Tickets(Text(text)));
     }
 
-    /// A text that most likely is accepted, with up to two faults in record, slots and text.
     pub fn random_tickets(&mut self, rng: &mut Rng) {
-        let mut state = State::sized(0, 0, 0);
-        state.rel.width = rng.width();
-        any_counts(rng, &mut state);
-        lend_slots(rng, &mut state, 0);
-        let (vars, values) = pairs(rng, &state);
-        let mut text = Vec::new();
-        for (&var, &value) in vars.iter().zip(&values) {
-            text.extend(line(u64::from(var), grams(rng, value)));
-        }
-        for _ in 0..*rng.pick(&[0, 0, 1, 1, 2]) {
-            match rng.below(5) {
-                0 => fault(rng, &mut state, &mut Call::Tickets(Text(vec![]))),
-                1 => text.extend(line(*rng.pick(&VARS), *rng.pick(&GRAMS))),
-                2 => {
-                    let var = any_var(rng, state.rel.vars_count.clamp(1, 9));
-                    text.extend(line(u64::from(var), *rng.pick(&GRAMS)));
-                }
-                _ => damage(rng, &mut text),
-            }
-        }
-        self.call(state, &Call::Tickets(Text(text)));
+        let (state, call) = tickets_call(rng);
+        self.call(state, &call);
     }
+}
+
+/// A text that most likely is accepted, with up to two faults in record, slots and text.
+pub fn tickets_call(rng: &mut Rng) -> (State, Call) {
+    let mut state = State::sized(0, 0, 0);
+    state.rel.width = rng.width();
+    any_counts(rng, &mut state);
+    lend_slots(rng, &mut state, 0);
+    let (vars, values) = pairs(rng, &state);
+    let mut text = Vec::new();
+    for (&var, &value) in vars.iter().zip(&values) {
+        text.extend(line(u64::from(var), grams(rng, value)));
+    }
+    for _ in 0..*rng.pick(&[0, 0, 1, 1, 2]) {
+        match rng.below(5) {
+            0 => fault(rng, &mut state, &mut Call::Tickets(Text(vec![]))),
+            1 => text.extend(line(*rng.pick(&VARS), *rng.pick(&GRAMS))),
+            2 => {
+                let var = any_var(rng, state.rel.vars_count.clamp(1, 9));
+                text.extend(line(u64::from(var), *rng.pick(&GRAMS)));
+            }
+            _ => damage(rng, &mut text),
+        }
+    }
+    (state, Call::Tickets(Text(text)))
 }

@@ -1,0 +1,204 @@
+//! Operation 30 of a sample: an opening, a call or a gate of a relation on a shared allocator, with
+//! all that is lent to it and with what the second reading says of it.
+//!
+//! A random case is one of a single relation, faults included, that is given a share with wires
+//! to spare; up to one more fault is then put into number, allocator and quota.
+
+use reading::{Relation, Share, MAX_COUNT, MAX_OPENED};
+
+use super::{
+    case::{FIRST, FIRST_AFTER, ONE},
+    instance::small_stores,
+    relation::{accepted_call, answered, case_of, fault, fresh, padded, term_words, NO_WIDTHS},
+    tickets::tickets_call,
+    trace::small_width,
+    Sample,
+};
+use crate::{
+    astray,
+    calls::{Call, State, DIRT},
+    generate::{self, Generator},
+    rng::Rng,
+    tickets::{line, Text},
+};
+
+/// A relation's number, how many are opened, its quota and what it obtained.
+const fn share(index: u32, opened: u32, quota: u32, obtained: u32) -> Option<Share> {
+    Some(Share {
+        index,
+        opened,
+        quota,
+        obtained,
+    })
+}
+
+impl Sample {
+    fn opening(&mut self, allocator: (u32, u32), width: u32, quota: u32, slots: Vec<u32>) {
+        let (vars_count, opened) = allocator;
+        let rel = Relation {
+            width,
+            vars_count,
+            ..Relation::default()
+        };
+        let mut state = State {
+            rel,
+            share: share(0, opened, 0, 0),
+            slots,
+            ..State::sized(0, 0, 0)
+        };
+        let case = case_of(11, [quota, 0], &state).list(FIRST, &state.slots);
+        let answer = state.with_allocator(width, quota);
+        let case = case.answer(&answered(answer.number, answer.first, &state));
+        self.push(case.list(FIRST_AFTER, &state.slots));
+    }
+
+    /// An equation, of terms that aren't scaled; else as 17.
+    pub fn shared_equation(&mut self, mut state: State, terms: &[(u32, u32)], image: u32) {
+        let case = case_of(17, [8 - terms.len() as u32, image], &state)
+            .list(FIRST, &state.equations)
+            .list(ONE, &term_words(&padded(terms)));
+        let answer = state.run(&Call::Equation(terms.to_vec(), image));
+        let case = case.answer(&answered(answer.number, answer.first, &state));
+        self.push(case.list(FIRST_AFTER, &state.equations));
+    }
+
+    /// The cases that every sample has: every call of a number that is opened, that isn't, and
+    /// on allocators that no list makes; 5, 43 and 6 in turn; and openings.
+    pub fn fixed_shared(&mut self) {
+        let calls = [
+            Call::Allocate(1),
+            Call::Set(0, 0),
+            Call::SetList(vec![0], vec![0]),
+            Call::Tickets(Text(line(0, 0))),
+            Call::Record(vec![0], vec![0]),
+            Call::Mint(vec![0]),
+            Call::Equation(vec![(0, 1)], 0),
+            Call::Value(0),
+            Call::IsAllocated(0),
+        ];
+        for call in calls {
+            for (index, opened, vars_count) in
+                [(7, 8, 1), (3, 3, 1), (0, 0, DIRT), (0, 9, 1), (0, 1, 0)]
+            {
+                let mut state = fresh(4);
+                state.rel.vars_count = vars_count;
+                state.share = share(index, opened, 1, 0);
+                self.call(state, &call);
+            }
+        }
+        let mut state = fresh(4);
+        state.share = share(1, 2, 0, 0);
+        self.call(state, &Call::Set(0, 5));
+        for (count, quota, obtained) in [
+            (MAX_COUNT, 0, 0),
+            (MAX_COUNT - 1, 3, 0),
+            (MAX_COUNT - 1, u32::MAX, 0),
+            (0, 2, 2),
+            (0, 2, 3),
+            (1, 2, 2),
+            (1, u32::MAX, u32::MAX),
+            (3, 5, 2),
+            (4, 4, 0),
+            (4, 3, 0),
+        ] {
+            let mut state = fresh(4);
+            state.share = share(0, 1, quota, obtained);
+            self.call(state, &Call::Allocate(count));
+        }
+        // A quota of one wire less than the mint takes, and stores that are too short.
+        for (quota, slots, queries) in [(0, 2, 2), (1, 1, 2), (1, 2, 1), (1, 2, 2)] {
+            let mut state = fresh(slots);
+            state.queries = vec![DIRT; queries];
+            state.share = share(0, 1, quota, 0);
+            self.call(state, &Call::Mint(vec![0]));
+        }
+        for (width, vars_count, opened, slots) in [
+            (1, 0, 0, 2),
+            (24, DIRT, 0, 1),
+            (1, 1, 0, 0),
+            (0, 1, 0, 0),
+            (25, 1, 1, 2),
+            (2, 1, 1, 2),
+            (3, 2, 7, 2),
+            (1, 2, MAX_OPENED, 2),
+            (1, 9, MAX_OPENED, 2),
+            (1, 2, MAX_OPENED + 1, 2),
+            (1, 0, 3, 2),
+            (1, 3, 3, 2),
+            (1, u32::MAX, 0, 2),
+        ] {
+            self.opening((vars_count, opened), width, 7, vec![DIRT; slots]);
+        }
+    }
+
+    pub fn random_shared(&mut self, rng: &mut Rng) {
+        match rng.below(10) {
+            0 => self.random_opening(rng),
+            1 | 2 => self.random_shared_gate(rng),
+            3 => {
+                let (mut state, call) = tickets_call(rng);
+                share_state(rng, &mut state);
+                self.call(state, &call);
+            }
+            _ => {
+                let mut state = State::sized(0, 0, 0);
+                state.rel.width = rng.width();
+                let mut call = accepted_call(rng, &mut state);
+                if rng.once_in(2) {
+                    fault(rng, &mut state, &mut call);
+                }
+                share_state(rng, &mut state);
+                self.call(state, &call);
+            }
+        }
+    }
+
+    fn random_opening(&mut self, rng: &mut Rng) {
+        let len = rng.below(8);
+        let slots = (0..len).map(|_| rng.edge()).collect();
+        let width = match rng.below(6) {
+            0 => *rng.pick(&NO_WIDTHS),
+            _ => rng.width(),
+        };
+        let vars_count = astray::near(rng, len as u32);
+        let opened = match rng.below(3) {
+            0 => 0,
+            _ => astray::near(rng, MAX_OPENED - 1),
+        };
+        self.opening((vars_count, opened), width, rng.edge(), slots);
+    }
+
+    fn random_shared_gate(&mut self, rng: &mut Rng) {
+        let width = small_width(rng);
+        let mut generator = Generator::of_width(Rng::new(rng.next()), width);
+        let mut state = generator.relation(small_stores(rng, width as usize), 16);
+        share_state(rng, &mut state);
+        let label = generate::label(rng);
+        self.random_gate(rng, &state, label.as_bytes());
+    }
+}
+
+/// Gives a relation a share with wires to spare, now and then just too few, of a number that
+/// isn't opened, or on an allocator that no list makes.
+fn share_state(rng: &mut Rng, state: &mut State) {
+    let opened = rng.between(1, MAX_OPENED as usize) as u32;
+    let obtained = rng.below(40) as u32;
+    let index = rng.below(opened as usize) as u32;
+    state.share = share(
+        index,
+        opened,
+        obtained + rng.between(24, 99) as u32,
+        obtained,
+    );
+    let Some(share) = &mut state.share else {
+        return;
+    };
+    match rng.below(12) {
+        0 => share.index = astray::near(rng, opened),
+        1 => share.opened = *rng.pick(&[0, 0, MAX_OPENED + 1, u32::MAX]),
+        2..=4 => share.quota = obtained + rng.below(8) as u32,
+        5 => share.quota = obtained.saturating_sub(1),
+        6 => (share.quota, share.obtained) = (rng.edge(), rng.edge()),
+        _ => {}
+    }
+}
