@@ -1,5 +1,6 @@
 /* Each call on files of a batch once, for oracle/instructions to count what it takes: items as the argument says. An item is
- * a query of width 8, a public and an equation of two terms; of tickets a line. */
+ * a query of width 8, a public and an equation of two terms; of tickets a line; on a shared allocator a mint, and of its
+ * gate what that makes. */
 #include <stdio.h>
 #include <stdlib.h>
 #include <string.h>
@@ -21,6 +22,24 @@ static void accepted(const char *call, uint32_t number) {
         printf("%s: %u\n", call, number);
         exit(1);
     }
+}
+
+/* The mints of a relation on an allocator for several, and its gate: wire 0 alone is public. */
+static void shared(size_t items) {
+    const size_t vars = 1 + WIDTH + WIDTH * items, cells = 2 * WIDTH * items;
+    uint32_t *slots = lent(vars, 4), *scratch = lent(vars, 4), *queries = lent(cells, 4), publics[2], inputs[WIDTH];
+    const sfr_var_allocator none = {0, 0};
+    sfr_shared_answer at = sfr_with_allocator(none, WIDTH, UINT32_MAX, slots, vars);
+    accepted("opening", at.number);
+    at = sfr_allocate_vars_on(at.allocator, 0, at.relation, slots, vars, WIDTH);
+    accepted("shared allocate", at.number);
+    for (uint32_t i = 0; i < WIDTH; i++) inputs[i] = at.first + i;
+    for (size_t i = 0; i < items; i++) {
+        at = sfr_allocate_permutation_on(at.allocator, 0, at.relation, slots, vars, queries, cells, inputs, WIDTH);
+        accepted("shared mint", at.number);
+    }
+    accepted("shared gate", sfr_compile_on(at.allocator, 0, at.relation, label, LABEL, slots, vars, queries, cells, inputs, 0,
+                                           publics, 2, scratch, vars).number);
 }
 
 int main(int argc, char **argv) {
@@ -62,5 +81,6 @@ int main(int argc, char **argv) {
     accepted("read SFRW", sfr_witness_from_bytes(WIDTH, sfrw, sfrw_len, trace, cells).number);
     accepted("check", sfr_is_witness_valid(ins, label, LABEL, publics, pairs, queries, cells, equations, words, steps.steps, trace,
                                            cells, 0, params, WIDTH * WIDTH, scratch, vars));
+    shared(items);
     return 0;
 }
