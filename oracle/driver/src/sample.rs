@@ -34,7 +34,7 @@ const LEAVES: u64 = 2_500;
 const RELATIONS: u64 = 1_200;
 const TRACES: u64 = 120;
 const INSTANCES: u64 = 200;
-const SHARED: u64 = 180;
+const SHARED: u64 = 160;
 
 /// What the cases of an operation are.
 const OPERATIONS: [(u32, &str); 29] = [

@@ -74,10 +74,7 @@ impl Sample {
     /// A call, put to the second reading.
     pub fn call(&mut self, mut state: State, call: &Call) {
         if let Call::Equation(terms, image) = call {
-            return match state.share {
-                None => self.equation(17, state, terms, 1, *image),
-                Some(_) => self.shared_equation(state, terms, *image),
-            };
+            return self.equation(17, state, terms, 1, *image);
         }
         let case = handed_in(&state, call);
         let answer = state.run(call);
@@ -113,8 +110,14 @@ impl Sample {
     ) {
         let mut state = state;
         let more = 8 - terms.len();
-        let padded = padded(terms);
-        let words = term_words(&padded);
+        let padded: Vec<(u32, u32)> = vec![(0, 0); more]
+            .into_iter()
+            .chain(terms.to_vec())
+            .collect();
+        let words: Vec<u32> = padded
+            .iter()
+            .flat_map(|&(var, weight)| [var, weight])
+            .collect();
         let mut numbers = given([more as u32, image], state.rel).to_vec();
         numbers.push(factor);
         let case = Case::new(operation)
@@ -236,18 +239,6 @@ impl Sample {
         }
         self.call(state, &call);
     }
-}
-
-/// Eight terms, of which those in front that the list doesn't have are 0.
-pub fn padded(terms: &[(u32, u32)]) -> Vec<(u32, u32)> {
-    let mut padded = vec![(0, 0); 8 - terms.len()];
-    padded.extend(terms);
-    padded
-}
-
-pub fn term_words(terms: &[(u32, u32)]) -> Vec<u32> {
-    let terms = terms.iter();
-    terms.flat_map(|&(var, weight)| [var, weight]).collect()
 }
 
 /// The operation, the record, the stores that are lent and the arguments.
