@@ -1,7 +1,7 @@
 // The numbers that a case hands in, as a record, and a call's answer, as words.
 //
-// The numbers are two arguments and then a record. The words of an answer are the number, a value, a record, and last
-// 0 where what the call's own function compares is as the sample has it, else 1.
+// The numbers are two arguments and then a record. The words of an answer are the number, a value, a record, 0 where what
+// the call's own function compares is as the sample has it, else 1, and last what a shared allocator adds to a record.
 
 use crate::sample::word;
 use allocator::VarValue;
@@ -13,7 +13,7 @@ use permutation::PermutationRelation;
 use permutation::Recorded;
 
 // How many words an answer has.
-pub(crate) const SIZE: usize = 9;
+pub(crate) const SIZE: usize = 12;
 
 // The record of a relation.
 pub(crate) fn relation(given: &[u32]) -> PermutationRelation {
@@ -40,7 +40,7 @@ pub(crate) fn record(given: &[u32]) -> PermutationInstance {
 
 // A number, a value and one word more.
 pub(crate) fn three(number: u32, value: u32, last: u32) -> [u32; SIZE] {
-    [number, value, last, 0, 0, 0, 0, 0, 0]
+    [number, value, last, 0, 0, 0, 0, 0, 0, 0, 0, 0]
 }
 
 // A number, a value, an instance's record, and whether the rest is the same.
@@ -60,6 +60,9 @@ pub(crate) fn with_record(
         r.words,
         r.publics,
         limits::asked(0, same, 1),
+        0,
+        0,
+        0,
     ]
 }
 
@@ -75,6 +78,9 @@ fn with_relation(number: u32, value: u32, r: PermutationRelation, same: bool) ->
         r.words,
         0,
         limits::asked(0, same, 1),
+        0,
+        0,
+        0,
     ]
 }
 

@@ -12,7 +12,8 @@
 // record, mint, equation, value and is it allocated it has document 01's examples, every count and argument at its
 // limits, and 1,200 random cases at widths 1 to 24, absurd records among them, with every number that a short store
 // can bring about. Of ticket texts it has 72 fixed ones and 120 random ones, with every number that they
-// can bring about. Of scaled terms put as an equation, evaluate and append a step, permute, write and read SFRW it has
+// can bring about. Of openings, calls and gates of relations on a shared allocator it has 68 fixed ones and 149 random
+// ones, absurd allocators, numbers and quotas among them; equations are left out there. Of scaled terms put as an equation, evaluate and append a step, permute, write and read SFRW it has
 // 120 random cases each, and of gate, value in publics, heading, write and read SFRI and check 200 each, most at widths
 // 1 to 3, sound and led astray; the writes with every number that a record, a store or an output of these sizes can
 // bring about, and with every byte of the output.
@@ -26,6 +27,7 @@ mod instances;
 mod leaves;
 mod relation;
 mod sample;
+mod shared;
 mod tally;
 mod terms;
 mod traces;
@@ -57,6 +59,7 @@ fn call(op: u32, case: &[u32], raw: &[u8], first: &mut [u32]) -> [u32; SIZE] {
         1..=9 => leaves::call(op, given, text, first),
         10..=20 => relation::call(op, given, case, text, first),
         21..=29 => traces::call(op, given, case, text, first),
+        30 => shared::call(given, case, text, first),
         _ => instances::call(op, given, case, text, raw, first),
     }
 }
