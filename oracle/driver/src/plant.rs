@@ -57,13 +57,11 @@ struct Plant {
 /// One list.
 pub fn list(seed: u64, side: &mut impl Side) -> Compared {
     let mut plant = Plant::new(Rng::new(!seed));
-    for _ in 0..plant.rng.between(1, 60) {
+    for _ in 0..plant.rng.between(1, 150) {
         plant.step(side)?;
     }
-    for index in 0..plant.mixers.len() {
-        plant.judge(index, side)?;
-    }
-    Ok(())
+    let last = plant.rng.below(plant.mixers.len());
+    plant.judge(last, side)
 }
 
 impl Plant {
