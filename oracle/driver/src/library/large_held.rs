@@ -4,10 +4,11 @@
 //! Zeroed pages take no memory until somebody writes to them; a store that a call clears
 //! takes 4 GiB, one such store at a time, and the text takes as much.
 
-use reading::{Instance, Relation, Trace, MAX_COUNT};
+use reading::{Instance, On, Relation, Share, Trace, MAX_COUNT};
 
-use super::{instance::to_library, large, side, tickets, witness};
+use super::{instance::to_library, large, tickets, witness};
 use crate::{
+    calls::called,
     compared::{same, Compared},
     options::Options,
 };
@@ -21,6 +22,12 @@ const REL: Relation = Relation {
     queries: 0,
     equations: 0,
     words: 0,
+};
+const UNOPENED: Share = Share {
+    index: 1,
+    opened: 1,
+    quota: 0,
+    obtained: 0,
 };
 const INS: Instance = Instance {
     width: 1,
@@ -114,7 +121,18 @@ fn read_only(cases: &mut usize) -> Compared {
     Ok(())
 }
 
+/// The gate of a relation alone, and of a number that isn't opened on a shared allocator: 2 comes
+/// before 42.
 fn gate(lent: Lent, publics: &mut [u32], scratch: &mut [u32]) -> Compared {
+    for share in [None, Some(UNOPENED)] {
+        gate_on(On { rel: REL, share }, lent, publics, scratch)?;
+        dirty(publics);
+        dirty(scratch);
+    }
+    Ok(())
+}
+
+fn gate_on(on: On, lent: Lent, publics: &mut [u32], scratch: &mut [u32]) -> Compared {
     let Lent {
         slots,
         queries,
@@ -122,12 +140,12 @@ fn gate(lent: Lent, publics: &mut [u32], scratch: &mut [u32]) -> Compared {
         label,
         ..
     } = lent;
-    let rel = side::to_library(REL);
-    let library = sfr::compile(rel, label, slots, queries, equations, publics, scratch);
+    let library: sfr::InstanceAnswer =
+        called!(sfr, on, compile, compile_on, label, slots, queries, equations, publics, scratch);
     let given = (library.number, ends(publics), ends(scratch));
     dirty(publics);
     dirty(scratch);
-    let reading = reading::compile(REL, label, slots, queries, equations, publics, scratch);
+    let reading = reading::compile(on, label, slots, queries, equations, publics, scratch);
     let expected = (reading.number, ends(publics), ends(scratch));
     same("large, gate", ("library", given), ("reading", expected))
 }

@@ -2,16 +2,6 @@
 
 use crate::calls::{allocator, called, made, Answer, Call, State};
 
-pub fn to_library(rel: reading::Relation) -> sfr::Relation {
-    sfr::Relation {
-        width: rel.width,
-        vars_count: rel.vars_count,
-        queries: rel.queries,
-        equations: rel.equations,
-        words: rel.words,
-    }
-}
-
 made!(sfr);
 
 /// A new relation over these stores.
