@@ -227,9 +227,9 @@ sfr_flag sfr_is_allocated(sfr_relation rel, uint32_t var);
  *
  * Up to 8 relations, of any widths, over one slot store and one wire count. They are numbered from 0 as they are opened.
  * Each has queries and equations of its own, and a quota: how many wires it may allocate and mint. A wire that one of
- * them sets is set for all. A call is handed the allocator, the relation's number and the relation's record, as the last
- * calls gave them back; it is the call of the same name above, with the allocator's wire count as the relation's. Where
- * nothing is opened, 2 isn't asked of the wire count, which may be anything. */
+ * them sets is set for all. A call is handed the allocator, the relation's number and its record, as the last calls gave
+ * them back; it is the call of the same name without _on, with the allocator's wire count as the relation's. Where
+ * nothing is opened, 2 isn't asked of the wire count, which may then be anything. */
 
 /* What they share, handed in and back by value: the wire count, and how many relations are opened. All zeros before the
  * first opening. */
@@ -249,9 +249,9 @@ typedef struct {
     uint32_t obtained;
 } sfr_shared_relation;
 
-/* `first` is the number of the relation that is opened, or the first wire that an allocation or a mint answers; 0 elsewhere
- * and after a refusal. A refused call gives back both records as they were given, a refused opening the allocator, and a
- * relation's record of zeros. */
+/* `first` is the number of the relation that is opened, or the first wire that an allocation or a mint answers; 0
+ * elsewhere and after a refusal. A refused call gives back both records as they were given, a refused opening the
+ * allocator as it was given and a relation's record of zeros. */
 typedef struct {
     uint32_t number;
     uint32_t first;
@@ -259,16 +259,16 @@ typedef struct {
     sfr_shared_relation relation;
 } sfr_shared_answer;
 
-/* Opens a relation of that width and quota, and answers its number: how many were opened before. The first opening does to
- * slots and wire count what sfr_new_relation does, a later one leaves both. The quota may be any number.
+/* Opens a relation of that width and quota, and answers its number: how many were opened before. The first opening
+ * does to slots and wire count what sfr_new_relation does, a later one leaves both. The quota may be any number.
  * Questions 1, 2, 42, 6. Lent: slots, at least one word, and a word per wire. A refusal leaves them as they were. */
 sfr_shared_answer sfr_with_allocator(sfr_var_allocator allocator, uint32_t width, uint32_t quota,
                                      uint32_t *slots, size_t slots_len);
 
-/* Allocate: the next n wires, whose slots become F, counted among those that the relation obtained; answers the first, the
- * wire count before the call. n may be 0.
- * Questions 1, 2, 42, 5, 43, 6. Lent: slots, a word per wire with the new ones. A refusal leaves slots and records as they
- * were. */
+/* Allocate: the next n wires, whose slots become F, counted among those that the relation obtained; answers the first,
+ * the wire count before the call. n may be 0.
+ * Questions 1, 2, 42, 5, 43, 6. Lent: slots, a word per wire with the new ones. A refusal leaves slots and records as
+ * they were. */
 sfr_shared_answer sfr_allocate_vars_on(sfr_var_allocator allocator, uint32_t index, sfr_shared_relation rel,
                                        uint32_t *slots, size_t slots_len, uint32_t n);
 
@@ -302,9 +302,9 @@ sfr_shared_answer sfr_add_permutation_on(sfr_var_allocator allocator, uint32_t i
 
 /* Mint: allocates w outputs, answered as by sfr_allocate_vars_on, and records the query, or does neither: a refused mint
  * takes nothing from the quota.
- * Questions 1, 2, 42, 9, 3, 5, 43, 6, 10. Lent: slots, a word per wire with the w new ones; the relation's queries, 2w words
- * for each with the new one; input, exactly w words, only read. A refusal leaves slots, queries and records as they
- * were. */
+ * Questions 1, 2, 42, 9, 3, 5, 43, 6, 10. Lent: slots, a word per wire with the w new ones; the relation's queries, 2w
+ * words for each with the new one; input, exactly w words, only read. A refusal leaves slots, queries and records as
+ * they were. */
 sfr_shared_answer sfr_allocate_permutation_on(sfr_var_allocator allocator, uint32_t index, sfr_shared_relation rel,
                                               uint32_t *slots, size_t slots_len,
                                               uint32_t *queries, size_t queries_len,
@@ -428,8 +428,8 @@ sfr_instance_answer sfr_compile(sfr_relation rel,
                                 uint32_t *publics, size_t publics_len,
                                 uint32_t *scratch, size_t scratch_len);
 
-/* The gate of a relation on a shared allocator: as sfr_compile, with all wires and everybody's sets, and the relation's own
- * queries and equations. The instance is the relation's own: later calls don't change it.
+/* The gate of a relation on a shared allocator: as sfr_compile, with all wires and everybody's sets, and the relation's
+ * own queries and equations. Later calls don't change the instance.
  * Questions 1, 2, 42, 11, 10, 16, 12, 13; then term by term 14, 15. Lent: label, slots, and the relation's queries and
  * equations, as the calls left them, only read; publics, 2 words per assigned wire, which become the pairs and then 0 to
  * their end; scratch, a word per wire. A refusal leaves publics and scratch all 0. */

@@ -6,6 +6,8 @@
 //! compared with the sources' relation on the sources' one allocator. A number that isn't
 //! opened, a ninth opening and a quota have no counterpart there.
 
+use std::mem::take;
+
 use reading::{Relation as Record, Share, VarAllocator, MAX_OPENED};
 use source::{Allocator, Relation};
 
@@ -103,13 +105,13 @@ impl Plant {
 
     /// Lends slots and count to a state, and takes them back from it.
     fn lend<T>(&mut self, state: &mut State, body: impl FnOnce(&mut State) -> T) -> T {
-        state.slots = std::mem::take(&mut self.slots);
+        state.slots = take(&mut self.slots);
         state.rel.vars_count = self.allocator.vars_count;
         if let Some(share) = &mut state.share {
             share.opened = self.allocator.opened;
         }
         let answer = body(state);
-        self.slots = std::mem::take(&mut state.slots);
+        self.slots = take(&mut state.slots);
         self.allocator.vars_count = state.rel.vars_count;
         if let Some(share) = state.share {
             self.allocator.opened = share.opened;
@@ -118,7 +120,7 @@ impl Plant {
     }
 
     /// A state that no relation has yet, under this number.
-    fn stray(&mut self, generator: &mut Generator, index: u32) -> State {
+    fn stray(generator: &mut Generator, index: u32) -> State {
         let stores = generator.state();
         State {
             rel: Record::default(),
@@ -145,7 +147,7 @@ impl Plant {
             _ => self.rng.between(20, 200) as u32,
         };
         let opened = self.allocator.opened;
-        let mut state = self.stray(&mut generator, opened);
+        let mut state = Self::stray(&mut generator, opened);
         side.log()
             .say(|| format!("Open({width}, {quota}) on {:?}", self.allocator));
         let answer = self.lend(&mut state, |state| {
@@ -153,7 +155,8 @@ impl Plant {
             side.open(state, width, quota)
         })?;
         if opened == MAX_OPENED {
-            return same("a ninth", ("given", answer.number), ("expected", 42));
+            same("a ninth", ("given", answer.number), ("expected", 42))?;
+            return self.compare();
         }
         let given = (answer.number, answer.first);
         same("opening", ("given", given), ("expected", (0, opened)))?;
@@ -173,7 +176,7 @@ impl Plant {
         };
         let mut generator = Generator::new(Rng::new(self.rng.next()));
         generator.mood = Mood::Tame;
-        let mut state = self.stray(&mut generator, index);
+        let mut state = Self::stray(&mut generator, index);
         state.rel.width = generator.width;
         let answer = self.lend(&mut state, |state| {
             let call = generator.call(state);
@@ -190,59 +193,55 @@ impl Plant {
         )
     }
 
-    /// A call of an opened relation.
-    fn call(&mut self, index: usize, side: &mut impl Side) -> Compared {
-        let mut mixer = self.mixers.swap_remove(index);
-        let (table, spelling) = (std::mem::take(&mut self.table), self.rng.below(3));
+    /// Lends slots and count to an opened relation, which first hears what others have done.
+    fn lend_to(
+        &mut self,
+        index: usize,
+        body: impl FnOnce(&mut State, &mut Generator, &dyn Relation) -> Compared,
+    ) -> Compared {
+        let (mut mixers, table) = (take(&mut self.mixers), take(&mut self.table));
         let Mixer {
             state,
             generator,
             relation,
-        } = &mut mixer;
+        } = &mut mixers[index];
         self.lend(state, |state| {
             generator.hear(&table, state);
-            side.astray(generator, state)?;
-            let call = generator.call(state);
-            side.log().say(|| format!("{call:?} of {index}"));
-            let answer = side.call(state, &call)?;
-            calls::compare(&call, &answer, generator.width, &**relation, spelling)?;
-            generator.note(&call, &answer);
-            Ok(())
+            body(state, generator, &**relation)
         })?;
         self.table = match self.mood {
             Mood::Honest => generator.table.clone(),
             _ => table,
         };
-        self.mixers.push(mixer);
-        let last = self.mixers.len() - 1;
-        self.mixers.swap(index, last);
+        self.mixers = mixers;
         self.compare()
+    }
+
+    /// A call of an opened relation.
+    fn call(&mut self, index: usize, side: &mut impl Side) -> Compared {
+        let spelling = self.rng.below(3);
+        self.lend_to(index, |state, generator, relation| {
+            side.astray(generator, state)?;
+            let call = generator.call(state);
+            side.log().say(|| format!("{call:?} of {index}"));
+            let answer = side.call(state, &call)?;
+            calls::compare(&call, &answer, generator.width, relation, spelling)?;
+            generator.note(&call, &answer);
+            Ok(())
+        })
     }
 
     /// The gate of an opened relation, and what follows it.
     fn judge(&mut self, index: usize, side: &mut impl Side) -> Compared {
-        let mut mixer = self.mixers.swap_remove(index);
-        let table = std::mem::take(&mut self.table);
         side.log().say(|| format!("relation {index}"));
-        let Mixer {
-            state,
-            generator,
-            relation,
-        } = &mut mixer;
-        self.lend(state, |state| {
-            generator.hear(&table, state);
-            side.judge(generator, state, &**relation)
-        })?;
-        self.table = table;
-        self.mixers.push(mixer);
-        let last = self.mixers.len() - 1;
-        self.mixers.swap(index, last);
-        self.compare()
+        self.lend_to(index, |state, generator, relation| {
+            side.judge(generator, state, relation)
+        })
     }
 
     /// Counts and held words of every relation, with the sources; and what 02 says of the count.
     fn compare(&mut self) -> Compared {
-        let mut mixers = std::mem::take(&mut self.mixers);
+        let mut mixers = take(&mut self.mixers);
         let mut obtained = 0;
         for Mixer {
             state, relation, ..

@@ -365,7 +365,7 @@ impl<const W: usize> Relation for PermutationRelation<BabyBearUnit, W> {
             .collect();
         Box::new(move || {
             for (var, value) in &pairs {
-                relation.set_var(*var, value.clone());
+                relation.set_var(*var, *value);
             }
         })
     }
