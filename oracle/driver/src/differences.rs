@@ -1,4 +1,4 @@
-//! Where document 01 and the sources part, each with the smallest input that shows it.
+//! Where documents 01 and 02 and the sources part, each with the smallest input that shows it.
 
 use source::Parts;
 
@@ -62,4 +62,24 @@ fn panics() {
     assert!(relation.set_var(0, 5).is_none()); // 8
     assert!(relation.set_vars(&[1, 2], &[6]).is_none()); // 9
     assert_eq!(relation.slots(), [0, 6, u32::MAX]);
+}
+
+/// The sources open as many relations on one allocator as they are asked for, without a quota.
+/// 02: 42 and 43.
+#[test]
+fn a_ninth_relation_and_a_wire_beyond_the_quota() {
+    let source = source::Allocator::default();
+    let (mut allocator, mut slots) = (reading::VarAllocator::default(), [0; 4]);
+    for index in 0..9 {
+        let relation = source::with_allocator(1, &source);
+        assert_eq!(relation.allocate_vars(1), Some(vec![index + 1]));
+        let opened = reading::with_allocator(allocator, 1, 0, &mut slots);
+        assert_eq!(opened.number, if index < 8 { 0 } else { 42 });
+        allocator = opened.allocator;
+        if opened.number == 0 {
+            let rel = opened.relation;
+            let answer = reading::allocate_vars_on(allocator, index, rel, &mut slots, 1);
+            assert_eq!(answer.number, 43);
+        }
+    }
 }
