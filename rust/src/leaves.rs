@@ -10,7 +10,7 @@ pub fn add_unit(a: u32, b: u32) -> u32 {
     sys::sfr_add_unit(a, b)
 }
 
-/// The product of two units modulo p. No questions, as for [`add`].
+/// The product of two units modulo p. No questions, as for [`add_unit`].
 #[must_use]
 pub fn mul_unit(a: u32, b: u32) -> u32 {
     sys::sfr_mul_unit(a, b)

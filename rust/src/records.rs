@@ -54,7 +54,7 @@ pub struct RelationAnswer {
     /// The first wire that an allocation or a mint answers; 0 elsewhere and after a refusal.
     pub first: u32,
     /// The record to go on with. A refused call gives back the one it was given, a refused
-    /// [`new`](crate::new) one of zeros.
+    /// [`new_relation`](crate::new_relation) one of zeros.
     pub relation: Relation,
 }
 
