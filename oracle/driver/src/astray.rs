@@ -1,6 +1,6 @@
 //! Inputs led astray: records, stores, sheets and labels that lie beside the sound ones.
 
-use reading::{Relation, Share, MAX_COUNT, MAX_OPENED};
+use reading::{Share, MAX_COUNT, MAX_OPENED};
 use source::Params;
 
 use crate::{
@@ -47,9 +47,12 @@ pub fn width(rng: &mut Rng) -> u32 {
     }
 }
 
-/// A relation's number that isn't opened, an allocator or a quota that calls alone don't make.
-fn share(rng: &mut Rng, rel: &mut Relation, share: &mut Share) {
-    match rng.below(8) {
+/// A relation's number that isn't opened, an allocator or a quota that calls alone don't make,
+/// or no store.
+fn share(rng: &mut Rng, state: &mut State, share: Share) -> Share {
+    let rel = &mut state.rel;
+    let mut share = share;
+    match rng.below(10) {
         0 => share.index = near(rng, share.opened),
         1 => share.index = rng.below(9) as u32,
         2 => share.opened = near(rng, MAX_OPENED),
@@ -57,15 +60,30 @@ fn share(rng: &mut Rng, rel: &mut Relation, share: &mut Share) {
         4 => (share.opened, rel.vars_count) = (0, rng.edge()),
         5 => share.quota = near(rng, share.obtained),
         6 => share.obtained = near(rng, share.quota),
-        _ => (share.quota, share.obtained) = (rng.edge(), rng.edge()),
+        7 => (share.quota, share.obtained) = (rng.edge(), rng.edge()),
+        8 => {
+            // Neither opened nor fitting.
+            share.index = share.opened;
+            (rel.queries, rel.equations, rel.words) = (rng.edge(), rng.edge(), rng.edge());
+        }
+        _ => {
+            let stores = [&mut state.slots, &mut state.queries, &mut state.equations];
+            for store in stores {
+                if rng.once_in(2) {
+                    store.clear();
+                }
+            }
+        }
     }
+    share
 }
 
 /// A record or stores that calls alone don't make.
 pub fn state(rng: &mut Rng, state: &mut State) {
-    if let Some(shared) = &mut state.share {
+    if let Some(shared) = state.share {
         if rng.once_in(2) {
-            return share(rng, &mut state.rel, shared);
+            state.share = Some(share(rng, state, shared));
+            return;
         }
     }
     let (slots, queries) = (state.slots.len() as u32, state.queries.len() as u32);

@@ -76,9 +76,15 @@ impl Sample {
                 self.call(state, &call);
             }
         }
-        let mut state = fresh(4);
-        state.share = share(1, 2, 0, 0);
-        self.call(state, &Call::Set(0, 5));
+        for call in [
+            Call::Set(0, 5),
+            Call::Tickets(Text(line(0, 0)[1..].to_vec())),
+            Call::Tickets(Text(line(0, 999_999_999_999))),
+        ] {
+            let mut state = fresh(4);
+            state.share = share(1, 2, 0, 0);
+            self.call(state, &call);
+        }
         for (count, quota, obtained) in [
             (MAX_COUNT, 0, 0),
             (MAX_COUNT - 1, 3, 0),
