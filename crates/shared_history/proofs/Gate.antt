@@ -12,6 +12,7 @@ use Rattle.limits.specs.Outcome.{outcomeOf}
 use Rattle.words.specs.Store.{All}
 use Rattle.permutation.specs.Sharing.{Sharing, alone}
 use Rattle.sharing.specs.Opening.{withAllocatorNo}
+use Rattle.sharing.proofs.Numbers.{first-again}
 use Rattle.instance.specs.Looks.{noInstance}
 use Rattle.compile.specs.Gate.{GateLent, publicsOf, instanceOf, publicsStore, lentSoundAsks, madeAsks, compileFront, compileAsksWith, compileAsks, compileNo, refusedBy, compile, compilePublics}
 use Rattle.shared_compile.specs.Gate.{compileOnNo, compileOn, compilePublicsOn}
@@ -21,12 +22,6 @@ use Rattle.shared_history.proofs.Lists.{getD-set-other}
 use Rattle.shared_history.proofs.Fronts.{gate-front}
 
 -- ---- the gate, by the number of its front
--- what a number does where its beginning is asked first
-first-again : {A : Type 0} (f g : ℕ → A) (k n x : ℕ) → n ≡ k ▸ x → ((j : ℕ) → f (suc j) ≡ g (suc j)) → onYes k (f n) (g k) ≡ f n
-unfolding _▸_
-first-again f g zero n x q t = refl
-first-again f g (suc k) n x q t = sym (t k) ∙ ap f (sym q)
-
 module _ (h : Sharing) (l : GateLent) where
   -- where sharing puts in nothing that says no
   module _ (same : firstNo (compileFront h l) ≡ firstNo (compileFront alone l)) where

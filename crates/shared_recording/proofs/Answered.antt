@@ -1,20 +1,122 @@
--- What an accepted front of a mint says. Assumes nothing.
+-- A mint by the number that is asked before it is handed on: refused there, it is refused with the number of its front;
+-- else the mint of the relation alone answers and leaves what the front's number would. Assumes nothing.
 use Prim.Native.Nat.{ℕ, _+_, _≤_}
-use mathlib.Core.Path.{_≡_, sym, _∙_}
-use mathlib.Core.List.{List, _++_}
+use mathlib.Core.Path.{_≡_, refl, sym, ap, _∙_}
+use mathlib.Core.Bool.{Bool, true, false}
+use mathlib.Core.List.{List, [], _++_}
 use borrow.Author.Tests.{leb-true}
-use Rattle.limits.proofs.Questions.{both, firstNo-append, puts, puts-yes}
-use Rattle.recording.specs.Relation.{mintSizes, mintAsks}
-use Rattle.sharing.specs.Shares.{onAllocator, shares, quotaAsks}
+use lib.Dec.{leb}
+use lib.ListN.{length}
+use Rattle.limits.specs.Questions.{pick, _▸_, Question, firstNo, onYes}
+use Rattle.limits.proofs.Questions.{ask-yes, both, join, stays, goes-on, ▸-zero, firstNo-append, puts, puts-yes, here, there, puts-after}
+use Rattle.allocator.specs.Slots.{fitAsks, grownSlots}
+use Rattle.permutation.specs.Sharing.{Sharing, alone}
+use Rattle.permutation.specs.Answers.{allocatedOf, moreVars}
+use Rattle.permutation.specs.declared.PermutationRelation.{PermutationRelation}
+use Rattle.recording.specs.Relation.{mintSizes, mintAsks, allocatePermutationRest}
+use Rattle.recording.specs.Numbers.{allocatePermutationNo}
+use Rattle.recording.specs.Answers.{oneQuery, queriesWith, upFrom, allocatePermutation, allocatePermutationSlots, allocatePermutationQueries}
+use Rattle.sharing.specs.Shares.{anyOpened, onAllocator, shares, quotaAsks}
+use Rattle.sharing.specs.Answers.{allocatedOn, allocatedNot}
 use Rattle.sharing.specs.declared.VarAllocator.{VarAllocator}
 use Rattle.sharing.specs.declared.SharedRelation.{SharedRelation}
-use Rattle.shared_recording.specs.Answers.{allocatePermutationOnNo}
+use Rattle.sharing.proofs.Numbers.{among, front-alone, first-again}
+use Rattle.shared_recording.specs.Answers.{allocatePermutationOnNo, mintFrontNo, allocatePermutationOn, allocatePermutationOnSlots, allocatePermutationOnQueries}
 
--- the quota holds the wires
-pub mint-within : (a : VarAllocator) (r : ℕ) (m : SharedRelation) (slots len : ℕ) (input : List ℕ)
-    → allocatePermutationOnNo a r m slots len input ≡ 0 → m .obtained + m .width ≤ m .quota
-unfolding allocatePermutationOnNo
-mint-within a r m slots len input z =
-    let asks = mintAsks (onAllocator a m) input ++ quotaAsks (m .quota) (m .obtained) (m .width) in
-    let y = both _ _ (sym (firstNo-append (mintSizes (shares a r m) (onAllocator a m) slots len input) asks) ∙ z) .1 in
-    leb-true _ _ (puts-yes asks y 43 _ tt (search puts depth 20))
+-- by whether the quota holds the wires: handed on, or asked to the end
+pub mint-handed-on : (b : Bool) (x k n : ℕ) → b ≡ true → x ≡ k → x ≡ k ▸ pick b 0 n
+mint-handed-on true x k n e h = h ∙ sym (▸-zero k)
+mint-handed-on false x k n e h = cc
+
+pub mint-over : (b : Bool) (x k n : ℕ) → b ≡ false → x ≡ k ▸ n → x ≡ k ▸ pick b 0 n
+mint-over true x k n e h = cc
+mint-over false x k n e h = h
+
+module _ (a : VarAllocator) (r : ℕ) (m : SharedRelation) (slots len : ℕ) (input : List ℕ) where
+  abbrev rel : PermutationRelation
+  rel = onAllocator a m
+
+  abbrev sizes : Sharing → List Question
+  sizes h = mintSizes h rel slots len input
+
+  -- 9, 3, 5 and 43
+  abbrev quota : List Question
+  quota = quotaAsks (m .quota) (m .obtained) (m .width)
+
+  abbrev asks : List Question
+  asks = mintAsks rel input ++ quota
+
+  front-is : allocatePermutationOnNo a r m slots len input ≡ firstNo (sizes (shares a r m)) ▸ firstNo asks
+  unfolding allocatePermutationOnNo
+  front-is = firstNo-append (sizes (shares a r m)) asks
+
+  -- refused: with the front's number
+  refused-go : (b : Bool) (k : ℕ) → (k ▸ pick b 0 (firstNo asks) ≡ 0 → ⊥) → k ▸ pick b 0 (firstNo asks) ≡ k ▸ firstNo asks
+  refused-go true k h = ▸-zero k ∙ sym (stays k (firstNo asks) (λ z. h (▸-zero k ∙ z)))
+  refused-go false k h = refl
+
+  pub mint-refused : (mintFrontNo a r m slots len input ≡ 0 → ⊥) → mintFrontNo a r m slots len input ≡ allocatePermutationOnNo a r m slots len input
+  unfolding mintFrontNo
+  mint-refused h = refused-go (leb (m .obtained + m .width) (m .quota)) (firstNo (sizes (shares a r m))) h ∙ sym front-is
+
+  -- let through: the quota holds the wires
+  within-go : (b : Bool) → leb (m .obtained + m .width) (m .quota) ≡ b → pick b 0 (firstNo asks) ≡ 0 → leb (m .obtained + m .width) (m .quota) ≡ true
+  within-go true e z = e
+  within-go false e z = puts-yes asks z 43 _ tt (search puts depth 20)
+
+  quota-says : mintFrontNo a r m slots len input ≡ 0 → leb (m .obtained + m .width) (m .quota) ≡ true
+  unfolding mintFrontNo
+  quota-says z = within-go (leb (m .obtained + m .width) (m .quota)) refl (both _ _ z .1)
+
+  pub mint-within : mintFrontNo a r m slots len input ≡ 0 → m .obtained + m .width ≤ m .quota
+  mint-within z = leb-true _ _ (quota-says z)
+
+  -- and a relation alone is asked 9, 3, 5, as the front is, and then the rest
+  sizes-yes : mintFrontNo a r m slots len input ≡ 0 → firstNo (sizes (shares a r m)) ≡ 0
+  unfolding mintFrontNo
+  sizes-yes z = both _ _ z .0
+
+  pub mint-number : mintFrontNo a r m slots len input ≡ 0
+      → allocatePermutationNo rel slots len input ≡ allocatePermutationOnNo a r m slots len input ▸ firstNo (allocatePermutationRest rel slots len)
+  unfolding allocatePermutationNo
+  mint-number z =
+      let s = sizes-yes z in
+      let y = front-alone a r m sizes (there (there (there (puts-after (pick (anyOpened a) (fitAsks (a .vars) slots) []) (there (there (there (there here)))))))) (search among depth 40) s in
+      let q : firstNo quota ≡ 0 = join _ _ (ask-yes 43 _ (quota-says z)) refl in
+      let n = firstNo-append (mintAsks rel input) quota ∙ ap (λ (k : ℕ). firstNo (mintAsks rel input) ▸ k) q ∙ ▸-zero _ in
+      firstNo-append (sizes alone) (mintAsks rel input ++ allocatePermutationRest rel slots len)
+      ∙ goes-on _ _ y
+      ∙ firstNo-append (mintAsks rel input) (allocatePermutationRest rel slots len)
+      ∙ ap (λ (k : ℕ). k ▸ firstNo (allocatePermutationRest rel slots len)) (sym (front-is ∙ goes-on _ _ s ∙ n))
+
+-- what is answered and left
+module _ (a : VarAllocator) (r : ℕ) (m : SharedRelation) (slots queries input : List ℕ) (z : mintFrontNo a r m (length slots) (length queries) input ≡ 0) where
+  abbrev as-alone : PermutationRelation
+  as-alone = onAllocator a m
+
+  abbrev front : ℕ
+  front = allocatePermutationOnNo a r m (length slots) (length queries) input
+
+  abbrev number : ℕ
+  number = allocatePermutationNo as-alone (length slots) (length queries) input
+
+  abbrev after-front : ℕ
+  after-front = firstNo (allocatePermutationRest as-alone (length slots) (length queries))
+
+  number-is : number ≡ front ▸ after-front
+  number-is = mint-number a r m (length slots) (length queries) input z
+
+  pub mint-answer : allocatePermutationOn a r m slots queries input ≡ allocatedOn a m (allocatePermutation as-alone slots queries input) (m .obtained + m .width)
+  mint-answer =
+      first-again
+      (λ (n : ℕ). allocatedOn a m (allocatedOf n (a .vars) (oneQuery (moreVars as-alone (m .width))) as-alone) (m .obtained + m .width))
+      (allocatedNot a m) front number after-front number-is (λ j. refl)
+
+  pub mint-slots : allocatePermutationOnSlots a r m slots queries input ≡ allocatePermutationSlots as-alone slots queries input
+  mint-slots =
+      first-again (λ (n : ℕ). onYes n (grownSlots (a .vars) (m .width) slots) slots) (λ (n : ℕ). slots) front number after-front number-is (λ j. refl)
+
+  pub mint-queries : allocatePermutationOnQueries a r m slots queries input ≡ allocatePermutationQueries as-alone slots queries input
+  mint-queries =
+      first-again (λ (n : ℕ). onYes n (queriesWith as-alone (input ++ upFrom (a .vars) (m .width)) queries) queries) (λ (n : ℕ). queries)
+      front number after-front number-is (λ j. refl)

@@ -1,16 +1,17 @@
 -- The calls of relation r of an allocator that record: the number of the front of each call's questions, its answer, and
 -- the stores afterwards, in the way of `shared_vars/specs/Answers`. Assumes nothing.
 use Prim.Native.Nat.{ℕ, _+_}
-use mathlib.Core.List.{List}
+use mathlib.Core.List.{List, _++_}
+use lib.Dec.{leb}
 use lib.ListN.{length}
-use Rattle.limits.specs.Questions.{firstNo, onYes}
+use Rattle.limits.specs.Questions.{pick, _▸_, firstNo, onYes}
 use Rattle.expr.specs.Equation.{Term}
 use Rattle.permutation.specs.Answers.{relation}
 use Rattle.permutation.specs.declared.PermutationRelation.{PermutationRelation}
 use Rattle.permutation.specs.declared.Recorded.{Recorded}
-use Rattle.recording.specs.Relation.{addPermutationFront, allocatePermutationFront, addEquationFront}
+use Rattle.recording.specs.Relation.{addPermutationFront, mintSizes, mintAsks, allocatePermutationFront, addEquationFront}
 use Rattle.recording.specs.Answers.{addPermutation, addPermutationQueries, allocatePermutation, allocatePermutationSlots, allocatePermutationQueries, addEquation, addEquationEquations}
-use Rattle.sharing.specs.Shares.{onAllocator, shares}
+use Rattle.sharing.specs.Shares.{onAllocator, quotaAsks, shares}
 use Rattle.sharing.specs.Answers.{allocatedOn, allocatedNot, recordedOn, recordedNot}
 use Rattle.sharing.specs.declared.VarAllocator.{VarAllocator}
 use Rattle.sharing.specs.declared.SharedRelation.{SharedRelation}
@@ -26,6 +27,13 @@ module _ (a : VarAllocator) (r : ℕ) (m : SharedRelation) where
   -- mint: 1, 2, 42, 9, 3, 5, 43
   unfoldable pub allocatePermutationOnNo : (slots len : ℕ) → (input : List ℕ) → ℕ
   allocatePermutationOnNo slots len input = firstNo (allocatePermutationFront (shares a r m) (onAllocator a m) slots len input)
+
+  -- mint, before it is handed on: 1, 2, 42; and 9, 3, 5 only where 43 then says no, since a mint of a relation alone asks
+  -- them too
+  unfoldable pub mintFrontNo : (slots len : ℕ) → (input : List ℕ) → ℕ
+  mintFrontNo slots len input =
+      firstNo (mintSizes (shares a r m) (onAllocator a m) slots len input)
+      ▸ pick (leb (m .obtained + m .width) (m .quota)) 0 (firstNo (mintAsks (onAllocator a m) input ++ quotaAsks (m .quota) (m .obtained) (m .width)))
 
   -- equation: 1, 2, 42
   unfoldable pub addEquationOnNo : (len : ℕ) → ℕ

@@ -3,14 +3,16 @@
 // Each call puts the front of its questions, up to the last that sharing puts in, and then does what the same call does
 // to a relation alone that has the shared wire count for its own. Every open function answers on every input.
 
+ghost use Prim.Native.Nat.{_+_};
 ghost use mathlib.Core.Path.{_≡_};
+ghost use lib.Dec.{leb};
 ghost use Rattle.limits.specs.Outcome.{asIs};
 ghost use Rattle.limits.specs.Questions.{firstNo};
 ghost use Rattle.expr.specs.Weighted.{termsOf};
 ghost use Rattle.recording.specs.Relation.{mintSizes};
 ghost use Rattle.sharing.specs.Shares.{onAllocator, shares};
 ghost use Rattle.sharing.specs.Answers.{Does, DoesBoth};
-ghost use Rattle.shared_recording.specs.Answers.{addPermutationOnNo, allocatePermutationOnNo, addEquationOnNo, addPermutationOn, addPermutationOnQueries, allocatePermutationOn, allocatePermutationOnSlots, allocatePermutationOnQueries, addEquationOn, addEquationOnEquations, heldOn, equatedOn};
+ghost use Rattle.shared_recording.specs.Answers.{addPermutationOnNo, mintFrontNo, addEquationOnNo, addPermutationOn, addPermutationOnQueries, allocatePermutationOn, allocatePermutationOnSlots, allocatePermutationOnQueries, addEquationOn, addEquationOnEquations, heldOn, equatedOn};
 use baby_bear::BabyBearUnit;
 use expr::Weighted;
 use limits::MAX_COUNT;
@@ -92,7 +94,15 @@ fn mint_sizes_on(
     sharing::asked_opened(no, allocator, index)
 }
 
-// The number of a mint up to 43.
+// Does the relation's quota hold the wires of a mint?
+fn within_quota(rel: SharedRelation) -> bool
+    ensures { λ r. ⌜ r ≡ leb (rel .obtained + rel .width) (rel .quota) ⌝ }
+{
+    let more = rel.obtained as usize + rel.width as usize;
+    more <= rel.quota as usize
+}
+
+// The number of a mint before it is handed on. Where the quota holds the wires 9, 3 and 5 are left to the mint itself.
 fn allocate_permutation_on_no(
     allocator: VarAllocator,
     index: u32,
@@ -101,10 +111,13 @@ fn allocate_permutation_on_no(
     room: usize,
     input: &[u32],
 ) -> u32
-    ensures { λ r. ⌜ r ≡ allocatePermutationOnNo allocator index rel slots room (now (input .entry)) ⌝ }
+    ensures { λ r. ⌜ r ≡ mintFrontNo allocator index rel slots room (now (input .entry)) ⌝ }
 {
     let width = rel.width;
     let no = mint_sizes_on(allocator, index, rel, slots, room, input);
+    if within_quota(rel) {
+        return no;
+    }
     let no = words::asked_half(no, width, 3, MAX_COUNT, input);
     sharing::asked_quota(no, allocator, rel, width)
 }

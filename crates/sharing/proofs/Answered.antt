@@ -51,15 +51,6 @@ module _ {A : Type 0} (n k : ℕ) (e : k ≡ n) where
         leaves-too = refused-by (λ j. u) v n k e h;
       }
 
-  pub both-through : k ≡ 0 → (new old : A) (s t u v : List ℕ) (r : A) (left right : List ℕ) → r ≡ new → left ≡ t → right ≡ v
-      → DoesBoth asIs (onYes n new old) (onYes n t s) (onYes n v u) r left right
-  both-through z new old s t u v r left right p q w =
-      record {
-        answers = p ∙ through-by new old n k e z;
-        leaves = q ∙ through-by t s n k e z;
-        leaves-too = w ∙ through-by v u n k e z;
-      }
-
 -- ---- the wire count is asked where a relation is opened
 module _ (n o : ℕ) where
   pub counted : (qs : List Question) → 0 < o → n ▸ firstNo qs ≡ n ▸ firstNo (pick (ltb 0 o) qs [])

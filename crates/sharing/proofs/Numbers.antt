@@ -49,6 +49,12 @@ by-front : {A B : Type 0} (shows : A → B) (of : ℕ → B) (k rest : ℕ) (new
 by-front shows of zero rest new old o n = n refl ∙ ap of (sym (zero-▸ rest))
 by-front shows of (suc k) rest new old o n = o k refl ∙ ap of (sym (stays (suc k) rest (λ z. absurd (omega (arith, z)))))
 
+-- what a number does whose beginning is asked first
+pub first-again : {A : Type 0} (f g : ℕ → A) (k n rest : ℕ) → n ≡ k ▸ rest → ((j : ℕ) → f (suc j) ≡ g (suc j)) → onYes k (f n) (g k) ≡ f n
+unfolding _▸_
+first-again f g zero n rest e h = refl
+first-again f g (suc k) n rest e h = sym (h k) ∙ ap f (sym e)
+
 module _ (a : VarAllocator) (r : ℕ) (m : SharedRelation) where
   -- what sharing puts in where the wire count is asked, or isn't
   abbrev pub counting : Bool → Sharing

@@ -10,9 +10,9 @@ use Rattle.permutation.specs.declared.Allocated.{Allocated}
 use Rattle.recording.specs.Answers.{allocatePermutation, allocatePermutationSlots, allocatePermutationQueries}
 use Rattle.sharing.specs.Shares.{onAllocator}
 use Rattle.sharing.specs.Answers.{allocatedOn, allocatedNot}
-use Rattle.sharing.proofs.Answered.{both-refused, both-through}
+use Rattle.sharing.proofs.Answered.{both-refused}
 use Rattle.shared_recording.specs.Answers.{allocatePermutationOnNo}
-use Rattle.shared_recording.proofs.Answered.{mint-within}
+use Rattle.shared_recording.proofs.Answered.{mint-refused, mint-within, mint-answer, mint-slots, mint-queries}
 use borrow.Author.Needs.{needs}
 use Rattle.shared_recording.proofs.allocate_permutation_on.Statement.{statement}
 use Rattle.shared_recording.proofs.allocate_permutation_on.Tie as tie
@@ -27,7 +27,9 @@ returns c =
     let s = now (a .slots) in
     let q = now (a .queries) in
     let i = now (a .input) in
-    both-refused (allocatePermutationOnNo (a .allocator) (a .index) (a .rel) (length s) (length q) i) _ (c .before .allocate-permutation-on-no .ensures) (c .if1 .taken)
+    let e = c .before .allocate-permutation-on-no .ensures in
+    both-refused (allocatePermutationOnNo (a .allocator) (a .index) (a .rel) (length s) (length q) i) _
+    (e ∙ mint-refused (a .allocator) (a .index) (a .rel) (length s) (length q) i (λ z. c .if1 .taken (e ∙ z))) (c .if1 .taken)
     (allocatedNot (a .allocator) (a .rel)) (allocatedOn (a .allocator) (a .rel) (allocatePermutation x s q i) (a .rel .obtained + a .rel .width))
     s (allocatePermutationSlots x s q i) q (allocatePermutationQueries x s q i)
 
@@ -61,17 +63,18 @@ returns-2 c =
     let s = now (a .slots) in
     let q = now (a .queries) in
     let i = now (a .input) in
-    let k = allocatePermutationOnNo (a .allocator) (a .index) (a .rel) (length s) (length q) i in
+    let z = sym (b .before .allocate-permutation-on-no .ensures) ∙ b .if1 .left in
     let d = c .before .before .before .before .before .allocate-permutation .ensures in
     let e = c .before .before .before .before .before .before .before .before .on-allocator .ensures in
     let more = a .rel .obtained + a .rel .width in
-    both-through k _ (b .before .allocate-permutation-on-no .ensures) (b .if1 .left)
-    (allocatedOn (a .allocator) (a .rel) (allocatePermutation x s q i) more) (allocatedNot (a .allocator) (a .rel) k)
-    s (allocatePermutationSlots x s q i) q (allocatePermutationQueries x s q i) _ _ _
-    (c .allocated-on .ensures
-    ∙ ap (λ (w : Allocated). allocatedOn (a .allocator) (a .rel) w more) (d .answer ∙ ap (λ (y : PermutationRelation). allocatePermutation y s q i) e))
-    (d .slots ∙ ap (λ (y : PermutationRelation). allocatePermutationSlots y s q i) e)
-    (d .queries ∙ ap (λ (y : PermutationRelation). allocatePermutationQueries y s q i) e)
+    record {
+      answers =
+          c .allocated-on .ensures
+          ∙ ap (λ (w : Allocated). allocatedOn (a .allocator) (a .rel) w more) (d .answer ∙ ap (λ (y : PermutationRelation). allocatePermutation y s q i) e)
+          ∙ sym (mint-answer (a .allocator) (a .index) (a .rel) s q i z);
+      leaves = d .slots ∙ ap (λ (y : PermutationRelation). allocatePermutationSlots y s q i) e ∙ sym (mint-slots (a .allocator) (a .index) (a .rel) s q i z);
+      leaves-too = d .queries ∙ ap (λ (y : PermutationRelation). allocatePermutationQueries y s q i) e ∙ sym (mint-queries (a .allocator) (a .index) (a .rel) s q i z);
+    }
 
 pub allocate-permutation-on-spec : {M : Type 1} → statement M
 allocate-permutation-on-spec =
