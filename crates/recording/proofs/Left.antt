@@ -38,7 +38,7 @@ module _ (width : ℕ) (rel : PermutationRelation) (slots queries equations : Li
     (n : ℕ) (sets : List Pair) (asked : List (List ℕ)) (stated : List Equation)
     (o : Holds width rel slots queries equations n sets asked stated) where
   -- a number after the questions that are settled
-  after-width : (k : ℕ) → ask 1 (leb 1 (rel .width)) ▸ (ask 1 (leb (rel .width) maxWidth) ▸ k) ≡ k
+  pub after-width : (k : ℕ) → ask 1 (leb 1 (rel .width)) ▸ (ask 1 (leb (rel .width) maxWidth) ▸ k) ≡ k
   after-width k =
       let e = o .widthIs in
       let a = o .least in
@@ -46,7 +46,7 @@ module _ (width : ℕ) (rel : PermutationRelation) (slots queries equations : Li
       goes-on _ _ (ask-yes 1 _ (le-leb 1 (rel .width) (omega arith)))
       ∙ goes-on _ _ (ask-yes 1 _ (le-leb (rel .width) maxWidth (omega arith)))
 
-  after-count : (k : ℕ) → ask 2 (leb 1 (rel .vars)) ▸ (ask 2 (leb (rel .vars) maxCount) ▸ k) ≡ k
+  pub after-count : (k : ℕ) → ask 2 (leb 1 (rel .vars)) ▸ (ask 2 (leb (rel .vars) maxCount) ▸ k) ≡ k
   after-count k =
       let s = o .inSlots in
       goes-on _ _ (ask-yes 2 _ (le-leb 1 (rel .vars) (s .least)))

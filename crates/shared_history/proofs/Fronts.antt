@@ -30,7 +30,7 @@ pub parts-yes : (xs ys : List Question) → firstNo (xs ++ ys) ≡ 0 → (firstN
 parts-yes xs ys z = both _ _ (sym (firstNo-append xs ys) ∙ z)
 
 -- questions in the middle that say yes are taken out
-drop-mid : (xs o ys : List Question) → firstNo o ≡ 0 → firstNo (xs ++ (o ++ ys)) ≡ firstNo (xs ++ ys)
+pub drop-mid : (xs o ys : List Question) → firstNo o ≡ 0 → firstNo (xs ++ (o ++ ys)) ≡ firstNo (xs ++ ys)
 drop-mid xs o ys z =
     firstNo-append xs (o ++ ys)
     ∙ ap (λ (k : ℕ). firstNo xs ▸ k) (firstNo-append o ys ∙ goes-on (firstNo o) (firstNo ys) z)
@@ -41,7 +41,7 @@ pub mid-yes : (xs o ys : List Question) → firstNo (xs ++ (o ++ ys)) ≡ 0 → 
 mid-yes xs o ys z = sym (drop-mid xs o ys (parts-yes o ys (parts-yes xs (o ++ ys) z .1) .0)) ∙ z
 
 -- or at the end
-drop-end : (xs o : List Question) → firstNo o ≡ 0 → firstNo (xs ++ o) ≡ firstNo xs
+pub drop-end : (xs o : List Question) → firstNo o ≡ 0 → firstNo (xs ++ o) ≡ firstNo xs
 drop-end xs o z = firstNo-append xs o ∙ ap (λ (k : ℕ). firstNo xs ▸ k) z ∙ ▸-zero (firstNo xs)
 
 -- ---- sharing of a relation that is opened: the count is asked, and what follows 2 says yes
@@ -115,7 +115,7 @@ mint-within h rel n input z =
     (parts-yes (mintSizes h rel (n .slots) (n .queries) input) (mintAsks rel input ++ h .within (rel .width)) z .1) .1
 
 -- a sharing that asks for the count
-counted-is : (h : Sharing) → h .counted ≡ true → h ≡ sharedWith (h .opened) (h .within)
+pub counted-is : (h : Sharing) → h .counted ≡ true → h ≡ sharedWith (h .opened) (h .within)
 counted-is h e = λ j. record { counted = e j; opened = h .opened; within = h .within }
 
 -- ---- whole lists

@@ -5,4 +5,5 @@ pub mod Keeps
 pub mod Told
 pub mod Gate
 pub mod Theorem
+pub mod Looks
 pub mod Examples
