@@ -1,16 +1,13 @@
--- An equation call with what `heldOn` gives: that of the relation with the shared count, or one that changes nothing,
--- whose answer gives way to the number up to 42. Assumes nothing.
-use Prim.Native.Nat.{ℕ, zero, suc}
-use mathlib.Core.Path.{_≡_, refl, ap, _∙_}
+-- An equation call by the number k up to 42 that the code found: refused where it is not 0, else what the call of the
+-- relation with the shared count comes to. Assumes nothing.
+use Prim.Native.Nat.{ℕ}
+use mathlib.Core.Path.{_≡_, ap, _∙_}
 use mathlib.Core.List.{List}
 use lib.ListN.{length}
 use Rattle.limits.specs.Outcome.{asIs}
-use Rattle.limits.specs.Questions.{ask, _▸_, onYes}
 use Rattle.expr.specs.Equation.{Term}
-use Rattle.permutation.specs.Answers.{relation}
 use Rattle.permutation.specs.declared.PermutationRelation.{PermutationRelation}
 use Rattle.permutation.specs.declared.Recorded.{Recorded}
-use Rattle.recording.specs.Numbers.{addEquationNo}
 use Rattle.recording.specs.Answers.{addEquation, addEquationEquations}
 use Rattle.recording.specs.Contracts.{AddsEquation}
 use Rattle.sharing.specs.Shares.{onAllocator}
@@ -18,32 +15,27 @@ use Rattle.sharing.specs.Answers.{recordedOn, recordedNot, Does}
 use Rattle.sharing.specs.declared.VarAllocator.{VarAllocator}
 use Rattle.sharing.specs.declared.SharedRelation.{SharedRelation}
 use Rattle.sharing.specs.declared.RecordedOn.{RecordedOn}
-use Rattle.shared_recording.specs.Answers.{addEquationOnNo, heldOn, equatedOn, addEquationOn, addEquationOnEquations}
+use Rattle.sharing.proofs.Answered.{refused-by, does-through}
+use Rattle.shared_recording.specs.Answers.{addEquationOnNo, addEquationOn, addEquationOnEquations}
 
-module _ (a : VarAllocator) (r : ℕ) (m : SharedRelation) (out : List ℕ) (ts : List Term) (image : ℕ) where
-  equated-answer : equatedOn a r m (length out) (addEquation (heldOn a r m (length out)) out ts image) ≡ addEquationOn a r m out ts image
-  equated-answer = go (addEquationOnNo a r m (length out))
-    where
-      go : (k : ℕ) → onYes k (recordedOn m (addEquation (onYes k (onAllocator a m) (relation 0 0 0 0 0)) out ts image)) (recordedNot m k)
-          ≡ onYes k (recordedOn m (addEquation (onAllocator a m) out ts image)) (recordedNot m k)
-      go zero = refl
-      go (suc k) = refl
+module _ (a : VarAllocator) (r : ℕ) (m : SharedRelation) (out : List ℕ) (ts : List Term) (image : ℕ) (k : ℕ) (e : k ≡ addEquationOnNo a r m (length out)) where
+  abbrev number : ℕ
+  number = addEquationOnNo a r m (length out)
 
-  equated-stored : addEquationEquations (heldOn a r m (length out)) out ts image ≡ addEquationOnEquations a r m out ts image
-  unfolding ask _▸_ addEquationNo
-  equated-stored = go (addEquationOnNo a r m (length out))
-    where
-      go : (k : ℕ) → addEquationEquations (onYes k (onAllocator a m) (relation 0 0 0 0 0)) out ts image
-          ≡ onYes k (addEquationEquations (onAllocator a m) out ts image) out
-      go zero = refl
-      go (suc k) = refl
+  abbrev new : RecordedOn
+  new = recordedOn m (addEquation (onAllocator a m) out ts image)
 
-  -- what the three calls in a row come to
-  pub equates : (h : PermutationRelation) (done : Recorded) (w : RecordedOn) (left : List ℕ) → h ≡ heldOn a r m (length out)
-      → AddsEquation asIs h out ts image done left → w ≡ equatedOn a r m (length out) done
+  abbrev stored : List ℕ
+  stored = addEquationEquations (onAllocator a m) out ts image
+
+  pub equates-not : (k ≡ 0 → ⊥) → (w : RecordedOn) → w ≡ recordedNot m k → Does asIs (addEquationOn a r m out ts image) (addEquationOnEquations a r m out ts image) w out
+  equates-not h w f = record { answers = f ∙ refused-by (recordedNot m) new number k e h; leaves = refused-by (λ j. out) stored number k e h }
+
+  -- what the calls in a row come to
+  pub equates : k ≡ 0 → (h : PermutationRelation) (done : Recorded) (w : RecordedOn) (left : List ℕ) → h ≡ onAllocator a m
+      → AddsEquation asIs h out ts image done left → w ≡ recordedOn m done
       → Does asIs (addEquationOn a r m out ts image) (addEquationOnEquations a r m out ts image) w left
-  equates h done w left e d f =
-      record {
-        answers = f ∙ ap (equatedOn a r m (length out)) (d .answer ∙ ap (λ (k : PermutationRelation). addEquation k out ts image) e) ∙ equated-answer;
-        leaves = d .equations ∙ ap (λ (k : PermutationRelation). addEquationEquations k out ts image) e ∙ equated-stored;
-      }
+  equates z h done w left g d f =
+      does-through number k e z new (recordedNot m number) out stored w left
+      (f ∙ ap (recordedOn m) (d .answer ∙ ap (λ (l : PermutationRelation). addEquation l out ts image) g))
+      (d .equations ∙ ap (λ (l : PermutationRelation). addEquationEquations l out ts image) g)

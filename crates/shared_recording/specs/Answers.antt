@@ -6,9 +6,6 @@ use lib.Dec.{leb}
 use lib.ListN.{length}
 use Rattle.limits.specs.Questions.{pick, _▸_, firstNo, onYes}
 use Rattle.expr.specs.Equation.{Term}
-use Rattle.permutation.specs.Answers.{relation}
-use Rattle.permutation.specs.declared.PermutationRelation.{PermutationRelation}
-use Rattle.permutation.specs.declared.Recorded.{Recorded}
 use Rattle.recording.specs.Relation.{addPermutationFront, mintSizes, mintAsks, allocatePermutationFront, addEquationFront}
 use Rattle.recording.specs.Answers.{addPermutation, addPermutationQueries, allocatePermutation, allocatePermutationSlots, allocatePermutationQueries, addEquation, addEquationEquations}
 use Rattle.sharing.specs.Shares.{onAllocator, quotaAsks, shares}
@@ -81,12 +78,3 @@ module _ (a : VarAllocator) (r : ℕ) (m : SharedRelation) where
   abbrev pub addEquationOnEquations : (equations : List ℕ) → List Term → ℕ → List ℕ
   addEquationOnEquations equations terms image =
       onYes (addEquationOnNo (length equations)) (addEquationEquations (onAllocator a m) equations terms image) equations
-
-  -- ---- what private functions of the equation call ensure
-  -- the relation that goes to the call of a relation alone: where the front says no, zeros, with which it changes nothing
-  abbrev pub heldOn : (len : ℕ) → PermutationRelation
-  heldOn len = onYes (addEquationOnNo len) (onAllocator a m) (relation 0 0 0 0 0)
-
-  -- the answer from what that call came to
-  abbrev pub equatedOn : (len : ℕ) → Recorded → RecordedOn
-  equatedOn len done = onYes (addEquationOnNo len) (recordedOn m done) (recordedNot m (addEquationOnNo len))

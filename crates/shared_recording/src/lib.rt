@@ -11,15 +11,13 @@ ghost use Rattle.limits.specs.Questions.{firstNo};
 ghost use Rattle.expr.specs.Weighted.{termsOf};
 ghost use Rattle.recording.specs.Relation.{mintSizes};
 ghost use Rattle.sharing.specs.Shares.{onAllocator, shares};
-ghost use Rattle.sharing.specs.Answers.{Does, DoesBoth};
-ghost use Rattle.shared_recording.specs.Answers.{addPermutationOnNo, mintFrontNo, addEquationOnNo, addPermutationOn, addPermutationOnQueries, allocatePermutationOn, allocatePermutationOnSlots, allocatePermutationOnQueries, addEquationOn, addEquationOnEquations, heldOn, equatedOn};
+ghost use Rattle.sharing.specs.Answers.{Does, DoesBoth, recordedNot};
+ghost use Rattle.shared_recording.specs.Answers.{addPermutationOnNo, mintFrontNo, addEquationOnNo, addPermutationOn, addPermutationOnQueries, allocatePermutationOn, allocatePermutationOnSlots, allocatePermutationOnQueries, addEquationOn, addEquationOnEquations};
 use baby_bear::BabyBearUnit;
 use expr::Weighted;
 use limits::MAX_COUNT;
 use limits::Outcome;
 use permutation::First;
-use permutation::PermutationRelation;
-use permutation::Recorded;
 use sharing::AllocatedOn;
 use sharing::RecordedOn;
 use sharing::SharedRelation;
@@ -170,47 +168,14 @@ fn add_equation_on_no(allocator: VarAllocator, index: u32, rel: SharedRelation, 
     sharing::asked_opened(no, allocator, index)
 }
 
-// The relation with the shared count; where a question up to 42 says no, a record of zeros, with which an equation call
-// changes nothing.
-fn held_on(
-    allocator: VarAllocator,
-    index: u32,
-    rel: SharedRelation,
-    len: usize,
-) -> PermutationRelation
-    ensures { λ r. ⌜ r ≡ heldOn allocator index rel len ⌝ }
+// What an equation call answers that a question up to 42 refuses.
+fn equation_refused(no: u32, rel: SharedRelation) -> RecordedOn
+    ensures { λ r. ⌜ r ≡ recordedNot rel no ⌝ }
 {
-    let no = add_equation_on_no(allocator, index, rel, len);
-    if no != 0 {
-        return PermutationRelation {
-            width: 0,
-            vars: 0,
-            queries: 0,
-            equations: 0,
-            words: 0,
-        };
+    RecordedOn {
+        outcome: Outcome::Refused(no),
+        relation: rel,
     }
-    sharing::on_allocator(allocator, rel)
-}
-
-// What an equation call answers that came to this.
-fn equated_on(
-    allocator: VarAllocator,
-    index: u32,
-    rel: SharedRelation,
-    len: usize,
-    done: Recorded,
-) -> RecordedOn
-    ensures { λ r. ⌜ r ≡ equatedOn allocator index rel len done ⌝ }
-{
-    let no = add_equation_on_no(allocator, index, rel, len);
-    if no != 0 {
-        return RecordedOn {
-            outcome: Outcome::Refused(no),
-            relation: rel,
-        };
-    }
-    sharing::recorded_on(rel, done)
 }
 
 // Record an equation of the relation. Questions 1, 2, 42, 3, 4, 10.
@@ -225,8 +190,12 @@ pub fn add_equation_on(
     ensures { λ r. ⌜ Does asIs (addEquationOn allocator index rel (now (equations .entry)) (termsOf (now (terms .entry))) (image .0))
         (addEquationOnEquations allocator index rel (now (equations .entry)) (termsOf (now (terms .entry))) (image .0)) r (now (equations .exit)) ⌝ }
 {
-    let len = equations.len();
-    let held = held_on(allocator, index, rel, len);
-    let done = recording::add_equation(held, equations, terms, image);
-    equated_on(allocator, index, rel, len, done)
+    let no = add_equation_on_no(allocator, index, rel, equations.len());
+    if no != 0 {
+        return equation_refused(no, rel);
+    } else {
+        let held = sharing::on_allocator(allocator, rel);
+        let done = recording::add_equation(held, equations, terms, image);
+        return sharing::recorded_on(rel, done);
+    }
 }
