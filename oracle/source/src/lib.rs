@@ -386,10 +386,10 @@ impl<const W: usize> Relation for PermutationRelation<BabyBearUnit, W> {
             .iter()
             .map(|(terms, image)| (weighted(terms).collect(), to_unit(*image)))
             .collect();
-        let sums = Cell::new(sums);
+        // A call keeps the sum that it is given: each has one of its own.
         Box::new(move || {
-            for (sum, image) in sums.take() {
-                relation.add_equation(sum, image);
+            for (sum, image) in &sums {
+                relation.add_equation(sum.clone(), *image);
             }
         })
     }
