@@ -24,13 +24,19 @@ use sharing::SharedRelation;
 use sharing::VarAllocator;
 use tickets::SetTickets;
 
-// Questions 1, 2 and 42 of a call that looks at the slots.
+// Questions 1, 2 and 42 of a call that looks at the slots. Where a relation is opened, 1 and 2 are put as the call of a
+// relation alone puts them again, so that the compiler may work them out once.
 fn relation_on_no(allocator: VarAllocator, index: u32, rel: SharedRelation, len: usize) -> u32
     ensures { λ r. ⌜ r ≡ relationOnNo allocator index rel len ⌝ }
 {
     let width = rel.width;
+    let vars = allocator.vars;
+    if 0 < allocator.opened {
+        let no = permutation::asked_relation(width, vars, len);
+        return sharing::asked_opened(no, allocator, index);
+    }
     let no = limits::asked_width(0, width);
-    let no = sharing::asked_slots_on(no, allocator, len);
+    let no = limits::asked_store(no, len);
     sharing::asked_opened(no, allocator, index)
 }
 
