@@ -12,11 +12,11 @@ use Rattle.limits.specs.declared.Outcome.the-variants.{Accepted, Refused}
 use Rattle.words.specs.Store.{allBelow}
 use Rattle.utf8.specs.Utf8.{follow, isUtf8}
 use Rattle.baby_bear.specs.Field.{addUnit, mulUnit, seventh, dotUnits}
-use Rattle.allocator.specs.Slots.{pair, pairNo}
+use Rattle.allocator.specs.Slots.{pair, pairNo, setItems}
 use Rattle.expr.specs.Equation.{equation, equationAt, sizeAt}
 use Rattle.expr.specs.declared.Weighted.{Weighted}
-use Rattle.permutation.specs.Numbers.{allocateVarsNo, setVarNo}
-use Rattle.permutation.specs.Answers.{relation}
+use Rattle.permutation.specs.Numbers.{allocateVarsNo, setVarNo, setVarsNo}
+use Rattle.permutation.specs.Answers.{relation, setVarsRun}
 use Rattle.recording.specs.Numbers.{addPermutationNo, allocatePermutationNo, addEquationNo}
 use Rattle.permute.specs.Permute.{addConstants, raise, timesMatrix, runRound, runRounds}
 use Rattle.permute.specs.Parameters.{roundsOf, rowsOf, parametersOf, soundKinds, unitConstants, unitRows, soundParameters, permuteNo, sameWords, isEvaluation}
@@ -38,7 +38,7 @@ use Rattle.decoding.specs.Answers.{instanceFromBytes, witnessFromBytes}
 use Rattle.sharing.specs.Opening.{withAllocatorNo, newShared}
 use Rattle.shared_compile.specs.Gate.{compileOnNo, compileOn, compilePublicsOn}
 use Rattle.history.specs.Sat.{Sat, Evaluates}
-use Rattle.history.specs.Calls.{Allocate, Set, Record, Mint, Equate, frontAsks, answer, after, noted}
+use Rattle.history.specs.Calls.{Allocate, Set, SetList, Record, Mint, Equate, frontAsks, answer, after, noted}
 use Rattle.history.specs.Whole.{FileLent, TraceLent}
 use Rattle.history.proofs.Outcomes.{accepted-no}
 use Rattle.shared_history.specs.Calls.{OwnState, SharedState, SharedCall, Open, On, ownAt, frontNo, sharedAnswer, sharedAfter, SharedLedger, ownLedgerAt, judgedOn, sharedNoted, SharedEntry, sharedLog}
@@ -58,7 +58,7 @@ abbrev equations : List ℕ
 equations = 9 ∷ 9 ∷ 9 ∷ 9 ∷ []
 
 abbrev publics : List ℕ
-publics = 6 ∷ 6 ∷ 6 ∷ 6 ∷ []
+publics = 6 ∷ 6 ∷ 6 ∷ 6 ∷ 6 ∷ 6 ∷ []
 
 abbrev scratch : List ℕ
 scratch = 6 ∷ 6 ∷ 6 ∷ 6 ∷ 6 ∷ 6 ∷ []
@@ -80,6 +80,7 @@ calls =
     ∷ On 1 (stray 1) (Set (pair 2 5))
     ∷ On 0 (stray 1) (Set (pair 2 6))
     ∷ On 1 (stray 1) (Mint (1 ∷ 2 ∷ []))
+    ∷ On 1 (stray 1) (SetList (3 ∷ 2 ∷ []) (7 ∷ 6 ∷ []))
     ∷ On 1 (stray 1) (Mint (1 ∷ []))
     ∷ On 1 (stray 1) (Mint (1 ∷ 2 ∷ []))
     ∷ On 1 (stray 1) (Allocate 0)
@@ -87,38 +88,38 @@ calls =
     ∷ On 0 (stray 1) (Mint (1 ∷ []))
     ∷ On 0 (stray 1) (Allocate 1)
     ∷ On 0 (stray 1) (Allocate 1)
-    ∷ On 0 (stray 1) (Equate (weighted 1 3 ∷ []) 6)
+    ∷ On 0 (stray 1) (Equate (weighted 3 2 ∷ []) 14)
     ∷ []
 
 first-accepted : sharedAnswer (noneOpened 77 slots 1 3 queries equations calls) (opening 77 slots 1 3 queries equations calls) .outcome ≡ Accepted
 unfolding ask _▸_ withAllocatorNo sharedAnswer
 first-accepted = refl
 
--- 1 before 42; 42 before 5; 1 of an opening; 5 before 43; 43; 8 by another's set; 9 before 43; 43 of a mint; 0 wires with the
+-- 1 before 42; 42 before 5; 1 of an opening; 5 before 43; 43; 8 by another's set; a set list whose first pair stays; 9 before 43; 43 of a mint; 0 wires with the
 -- quota used up; a mint that 10 refuses takes nothing, so one wire more is within the quota, and then none
 outcomes : map (λ (e : SharedEntry). e .answered .outcome) (sharedLog (sharedBegin 77 slots 1 3 queries equations calls) calls)
-    ≡ Refused 1 ∷ Refused 42 ∷ Refused 1 ∷ Accepted ∷ Refused 5 ∷ Refused 43 ∷ Accepted ∷ Accepted ∷ Refused 8 ∷ Accepted ∷ Refused 9 ∷ Refused 43
-    ∷ Accepted ∷ Accepted ∷ Refused 10 ∷ Accepted ∷ Refused 43 ∷ Accepted ∷ []
-unfolding ask _▸_ withAllocatorNo frontAsks frontNo allocateVarsNo setVarNo addPermutationNo allocatePermutationNo addEquationNo pairNo allBelow answer after sharedAnswer sharedAfter
+    ≡ Refused 1 ∷ Refused 42 ∷ Refused 1 ∷ Accepted ∷ Refused 5 ∷ Refused 43 ∷ Accepted ∷ Accepted ∷ Refused 8 ∷ Accepted ∷ Refused 8 ∷ Refused 9
+    ∷ Refused 43 ∷ Accepted ∷ Accepted ∷ Refused 10 ∷ Accepted ∷ Refused 43 ∷ Accepted ∷ []
+unfolding ask _▸_ withAllocatorNo frontAsks frontNo allocateVarsNo setVarNo setVarsNo addPermutationNo allocatePermutationNo addEquationNo pairNo setItems setVarsRun allBelow answer after sharedAnswer sharedAfter
 outcomes = refl
 
 -- the relation's number, and first wires of one count for all
 firsts : map (λ (e : SharedEntry). e .answered .first) (sharedLog (sharedBegin 77 slots 1 3 queries equations calls) calls)
-    ≡ 0 ∷ 0 ∷ 0 ∷ 1 ∷ 0 ∷ 0 ∷ 1 ∷ 0 ∷ 0 ∷ 3 ∷ 0 ∷ 0 ∷ 5 ∷ 0 ∷ 0 ∷ 5 ∷ 0 ∷ 0 ∷ []
-unfolding ask _▸_ withAllocatorNo frontAsks frontNo allocateVarsNo setVarNo addPermutationNo allocatePermutationNo addEquationNo pairNo allBelow answer after sharedAnswer sharedAfter
+    ≡ 0 ∷ 0 ∷ 0 ∷ 1 ∷ 0 ∷ 0 ∷ 1 ∷ 0 ∷ 0 ∷ 3 ∷ 0 ∷ 0 ∷ 0 ∷ 5 ∷ 0 ∷ 0 ∷ 5 ∷ 0 ∷ 0 ∷ []
+unfolding ask _▸_ withAllocatorNo frontAsks frontNo allocateVarsNo setVarNo setVarsNo addPermutationNo allocatePermutationNo addEquationNo pairNo setItems setVarsRun allBelow answer after sharedAnswer sharedAfter
 firsts = refl
 
 -- one count and one list of sets; queries of 2 and of 4 cells
 ledger-is : sharedLedger 77 slots 1 3 queries equations calls
     ≡ record {
       count = 6;
-      sets = pair 2 5 ∷ pair 0 0 ∷ [];
+      sets = pair 3 7 ∷ pair 2 5 ∷ pair 0 0 ∷ [];
       owns =
-          record { width = 1; quota = 3; obtained = 3; queries = (1 ∷ 2 ∷ []) ∷ []; equations = equation (record { var = 1; weight = 3 } ∷ []) 6 ∷ [] }
+          record { width = 1; quota = 3; obtained = 3; queries = (1 ∷ 2 ∷ []) ∷ []; equations = equation (record { var = 3; weight = 2 } ∷ []) 14 ∷ [] }
           ∷ record { width = 2; quota = 2; obtained = 2; queries = (1 ∷ 2 ∷ 3 ∷ 4 ∷ []) ∷ []; equations = [] }
           ∷ [];
     }
-unfolding ask _▸_ withAllocatorNo frontAsks frontNo allocateVarsNo setVarNo addPermutationNo allocatePermutationNo addEquationNo pairNo allBelow answer after noted sharedAnswer sharedAfter sharedNoted
+unfolding ask _▸_ withAllocatorNo frontAsks frontNo allocateVarsNo setVarNo setVarsNo addPermutationNo allocatePermutationNo addEquationNo pairNo setItems setVarsRun allBelow answer after noted sharedAnswer sharedAfter sharedNoted
 ledger-is = refl
 
 -- a ninth opening
@@ -132,12 +133,12 @@ abbrev at-gate : SharedState
 at-gate = sharedLast 77 slots 1 3 queries equations calls
 
 two-opened : at-gate .allocator .opened ≡ 2
-unfolding ask _▸_ withAllocatorNo frontAsks frontNo allocateVarsNo setVarNo addPermutationNo allocatePermutationNo addEquationNo pairNo allBelow answer after sharedAnswer sharedAfter
+unfolding ask _▸_ withAllocatorNo frontAsks frontNo allocateVarsNo setVarNo setVarsNo addPermutationNo allocatePermutationNo addEquationNo pairNo setItems setVarsRun allBelow answer after sharedAnswer sharedAfter
 two-opened = refl
 
--- six wires, two publics, one query, one equation of four words
-gate-0 : gateOn at-gate 0 (ownAt at-gate 0 (stray 1)) [] publics scratch .answer ≡ record { outcome = Accepted; instance = instanceOf (relation 1 6 1 1 4) 2 }
-unfolding ask _▸_ withAllocatorNo frontAsks frontNo allocateVarsNo setVarNo addPermutationNo allocatePermutationNo addEquationNo pairNo allBelow answer after sharedAnswer sharedAfter compiledParts publicsOf equationAt sizeAt equationsSound slotsSound follow isUtf8 compileNo compile validatedNo gateNo compileOnNo compileOn
+-- six wires, three publics, one query, one equation of four words
+gate-0 : gateOn at-gate 0 (ownAt at-gate 0 (stray 1)) [] publics scratch .answer ≡ record { outcome = Accepted; instance = instanceOf (relation 1 6 1 1 4) 3 }
+unfolding ask _▸_ withAllocatorNo frontAsks frontNo allocateVarsNo setVarNo setVarsNo addPermutationNo allocatePermutationNo addEquationNo pairNo setItems setVarsRun allBelow answer after sharedAnswer sharedAfter compiledParts publicsOf equationAt sizeAt equationsSound slotsSound follow isUtf8 compileNo compile validatedNo gateNo compileOnNo compileOn
 gate-0 = refl
 
 gate-accepted : gateOn at-gate 0 (ownAt at-gate 0 (stray 1)) [] publics scratch .answer .outcome ≡ Accepted
@@ -148,7 +149,7 @@ abbrev going-on : List SharedCall
 going-on = On 1 (stray 1) (Set (pair 1 9)) ∷ Open 3 0 [] [] ∷ []
 
 abbrev lentFile : FileLent
-lentFile = record { label = []; out = replicate 73 7; rooms = record { publics = 4; queries = 2; equations = 4; scratch = 6 } }
+lentFile = record { label = []; out = replicate 81 7; rooms = record { publics = 6; queries = 2; equations = 4; scratch = 6 } }
 
 abbrev lentTrace : List ℕ → TraceLent
 lentTrace trace = record { steps = 1; trace = trace; out = replicate 25 7; room = 2 }
@@ -163,18 +164,19 @@ ledger-at = sharedLedger 77 slots 1 3 queries equations calls
 abbrev Sat0 : List (List ℕ) → Type 0
 Sat0 trace = Sat (Evaluates 1 (parametersOf 1 1 params)) (judgedOn ledger-at (ownLedgerAt ledger-at 0)) trace
 
--- everybody's sets with relation 0's query and equation are satisfied by the trace (2, 5)
+-- everybody's sets with relation 0's query and equation are satisfied by the trace (2, 5): the equation's wire has no value
+-- but the one that relation 1 gave it
 pub satisfied : Sat0 ((2 ∷ 5 ∷ []) ∷ [])
-unfolding ask _▸_ withAllocatorNo frontAsks frontNo allocateVarsNo setVarNo addPermutationNo allocatePermutationNo addEquationNo pairNo allBelow answer after sharedAnswer sharedAfter sharedNoted noted compiledParts publicsOf equationAt sizeAt equationsSound slotsSound follow isUtf8 compileNo compile validatedNo gateNo compileOnNo compileOn compilePublicsOn compilePublics publicsSound partsOf checkNo isWitnessValidNo isEvaluation permuteNo soundParameters roundsOf rowsOf soundKinds unitConstants unitRows sameWords runRounds runRound addConstants raise timesMatrix addUnit mulUnit seventh dotUnits instanceToBytesNo instanceBytes headerBytes u32Bytes instanceFromBytes readInstance readFile readHeader readMagic readLabel readParts readPublics readQueries readEquations word part below witnessToBytesNo witnessBytes witnessFromBytes readWitness readSteps
+unfolding ask _▸_ withAllocatorNo frontAsks frontNo allocateVarsNo setVarNo setVarsNo addPermutationNo allocatePermutationNo addEquationNo pairNo setItems setVarsRun allBelow answer after sharedAnswer sharedAfter sharedNoted noted compiledParts publicsOf equationAt sizeAt equationsSound slotsSound follow isUtf8 compileNo compile validatedNo gateNo compileOnNo compileOn compilePublicsOn compilePublics publicsSound partsOf checkNo isWitnessValidNo isEvaluation permuteNo soundParameters roundsOf rowsOf soundKinds unitConstants unitRows sameWords runRounds runRound addConstants raise timesMatrix addUnit mulUnit seventh dotUnits instanceToBytesNo instanceBytes headerBytes u32Bytes instanceFromBytes readInstance readFile readHeader readMagic readLabel readParts readPublics readQueries readEquations word part below witnessToBytesNo witnessBytes witnessFromBytes readWitness readSteps
 satisfied =
     shared-whole 77 slots 1 3 queries equations calls first-accepted .judged 0 (omega (arith, two-opened)) (stray 1) going-on ((λ e. absurd (omega (arith, e))), (tt, tt))
     .gated [] publics scratch gate-accepted .files lentFile
     .checks refl refl (lentTrace (2 ∷ 5 ∷ 9 ∷ [])) refl refl 1 params refl 6 (omega arith) (omega arith)
     .yes .0 refl
 
--- and not by (3, 640), whose check is 33: relation 1 set wire 2 to 5
+-- and not by (3, 640), whose check is 33: relation 1 set wire 2 to 5, and nothing else is against it
 pub unsatisfied : Sat0 ((3 ∷ 640 ∷ []) ∷ []) → ⊥
-unfolding ask _▸_ withAllocatorNo frontAsks frontNo allocateVarsNo setVarNo addPermutationNo allocatePermutationNo addEquationNo pairNo allBelow answer after sharedAnswer sharedAfter sharedNoted noted compiledParts publicsOf equationAt sizeAt equationsSound slotsSound follow isUtf8 compileNo compile validatedNo gateNo compileOnNo compileOn compilePublicsOn compilePublics publicsSound partsOf checkNo isWitnessValidNo isEvaluation permuteNo soundParameters roundsOf rowsOf soundKinds unitConstants unitRows sameWords runRounds runRound addConstants raise timesMatrix addUnit mulUnit seventh dotUnits instanceToBytesNo instanceBytes headerBytes u32Bytes instanceFromBytes readInstance readFile readHeader readMagic readLabel readParts readPublics readQueries readEquations word part below witnessToBytesNo witnessBytes witnessFromBytes readWitness readSteps
+unfolding ask _▸_ withAllocatorNo frontAsks frontNo allocateVarsNo setVarNo setVarsNo addPermutationNo allocatePermutationNo addEquationNo pairNo setItems setVarsRun allBelow answer after sharedAnswer sharedAfter sharedNoted noted compiledParts publicsOf equationAt sizeAt equationsSound slotsSound follow isUtf8 compileNo compile validatedNo gateNo compileOnNo compileOn compilePublicsOn compilePublics publicsSound partsOf checkNo isWitnessValidNo isEvaluation permuteNo soundParameters roundsOf rowsOf soundKinds unitConstants unitRows sameWords runRounds runRound addConstants raise timesMatrix addUnit mulUnit seventh dotUnits instanceToBytesNo instanceBytes headerBytes u32Bytes instanceFromBytes readInstance readFile readHeader readMagic readLabel readParts readPublics readQueries readEquations word part below witnessToBytesNo witnessBytes witnessFromBytes readWitness readSteps
 unsatisfied s =
     let z : _≡_ {A = ℕ} 33 0 = accepted-no 33
     (shared-whole 77 slots 1 3 queries equations calls first-accepted .judged 0 (omega (arith, two-opened)) (stray 1) going-on ((λ e. absurd (omega (arith, e))), (tt, tt))
