@@ -1,7 +1,7 @@
 -- Two relations of different widths on one allocator and on stores that hold anything: each new number at its place among
 -- the others, first wires of one count, the ledger, and a ninth opening. And relation 0 through its gate, both byte forms
--- and the check, to a yes and to a no that hang on a value which relation 1 set, while relation 1 goes on between gate and
--- write: the theorem is not empty. Assumes nothing.
+-- and the check, to a yes and to a no that hang on values which relation 1 set, while relation 1 goes on between gate and
+-- write: the theorem is not empty. Then the theorem along a list, and at a number that isn't opened. Assumes nothing.
 use Prim.Native.Nat.{ℕ}
 use mathlib.Core.Path.{_≡_, refl, ap}
 use mathlib.Core.List.{List, [], _∷_, map}
@@ -41,7 +41,7 @@ use Rattle.history.specs.Sat.{Sat, Evaluates}
 use Rattle.history.specs.Calls.{Allocate, Set, SetList, Record, Mint, Equate, frontAsks, answer, after, noted}
 use Rattle.history.specs.Whole.{FileLent, TraceLent}
 use Rattle.history.proofs.Outcomes.{accepted-no}
-use Rattle.shared_history.specs.Calls.{OwnState, SharedState, SharedCall, Open, On, ownAt, frontNo, sharedAnswer, sharedAfter, SharedLedger, ownLedgerAt, judgedOn, sharedNoted, SharedEntry, sharedLog}
+use Rattle.shared_history.specs.Calls.{OwnState, SharedState, SharedCall, Open, On, ownAt, frontNo, sharedAnswer, sharedAfter, SharedLedger, ownLedgerAt, judgedOn, sharedNoted, sharedFinal, SharedEntry, sharedLog}
 use Rattle.shared_history.specs.Whole.{gateOn, noneOpened, opening, sharedBegin, sharedLast, sharedLedger}
 use Rattle.shared_history.proofs.Theorem.{shared-whole}
 
@@ -184,3 +184,31 @@ unsatisfied s =
     .checks refl refl (lentTrace (3 ∷ 640 ∷ [])) refl refl 1 params refl 6 (omega arith) (omega arith)
     .yes .1 s) in
     omega arith
+
+-- ---- the theorem along a list, and at a number that isn't opened
+abbrev taking : List SharedCall
+taking = Open 2 2 [] [] ∷ On 0 (stray 1) (Allocate 2) ∷ On 1 (stray 1) (Allocate 2) ∷ []
+
+abbrev begun : SharedState
+begun = sharedBegin 77 slots 1 3 queries equations taking
+
+-- the second relation has number 1
+pub numbered : sharedAnswer begun (Open 2 2 [] []) .first ≡ 1
+unfolding ask _▸_ withAllocatorNo sharedAnswer sharedAfter sharedNoted
+numbered = shared-whole 77 slots 1 3 queries equations taking first-accepted .told .0 .first refl
+
+-- and its first wire comes after those of the first
+pub allocated : sharedAnswer (sharedFinal begun (Open 2 2 [] [] ∷ On 0 (stray 1) (Allocate 2) ∷ [])) (On 1 (stray 1) (Allocate 2)) .first ≡ 3
+unfolding ask _▸_ withAllocatorNo frontAsks frontNo allocateVarsNo answer after noted sharedAnswer sharedAfter sharedNoted
+allocated = shared-whole 77 slots 1 3 queries equations taking first-accepted .told .1 .1 .0 .first refl refl
+
+-- the wires of both and wire 0
+pub counted : sharedLast 77 slots 1 3 queries equations taking .allocator .vars ≡ 5
+unfolding ask _▸_ withAllocatorNo frontAsks frontNo allocateVarsNo answer after sharedAnswer sharedAfter
+counted = shared-whole 77 slots 1 3 queries equations taking first-accepted .counts .vars
+
+-- the gate of a third
+pub not-opened-42 : gateOn at-gate 2 (stray 1) [] publics scratch .answer .outcome ≡ Refused 42
+unfolding ask _▸_ withAllocatorNo frontAsks frontNo allocateVarsNo setVarNo setVarsNo addPermutationNo allocatePermutationNo addEquationNo pairNo setItems setVarsRun allBelow answer after noted sharedAnswer sharedAfter sharedNoted
+not-opened-42 =
+    shared-whole 77 slots 1 3 queries equations calls first-accepted .not-opened 2 (omega (arith, two-opened)) (stray 1) [] publics scratch .number refl
