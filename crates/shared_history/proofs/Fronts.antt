@@ -26,7 +26,7 @@ use Rattle.history.specs.Calls.{Call, Allocate, Set, SetList, Record, Mint, Equ
 
 -- ---- lists of questions
 -- accepted: both parts are
-pub parts-yes : (xs ys : List Question) → firstNo (xs ++ ys) ≡ 0 → (firstNo xs ≡ 0) × (firstNo ys ≡ 0)
+parts-yes : (xs ys : List Question) → firstNo (xs ++ ys) ≡ 0 → (firstNo xs ≡ 0) × (firstNo ys ≡ 0)
 parts-yes xs ys z = both _ _ (sym (firstNo-append xs ys) ∙ z)
 
 -- questions in the middle that say yes are taken out

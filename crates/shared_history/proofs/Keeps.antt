@@ -6,22 +6,22 @@ use mathlib.Core.Path.{_≡_, refl, sym, ap, ap₂, _∙_, subst}
 use mathlib.Core.Bool.{Bool, true}
 use mathlib.Core.List.{List, [], _∷_, _++_}
 use native.Mathlib.Omega.{arith}
-use borrow.Author.Tests.{ltb-true, leb-true, lt-ltb}
-use lib.Dec.{ltb, leb}
+use borrow.Author.Tests.{leb-true, lt-ltb}
 use lib.ListN.{length, set, length-set, length-append}
-use Rattle.limits.specs.Questions.{question, firstNo, pick, onYes}
+use Rattle.limits.specs.Questions.{firstNo, pick, onYes}
 use Rattle.limits.specs.Outcome.{outcomeOf, outcomeNumber, isAccepted}
 use Rattle.limits.specs.Asks.{widthAsks, storeAsks}
 use Rattle.limits.specs.declared.Outcome.{Outcome}
 use Rattle.limits.specs.declared.Outcome.the-variants as outcome
 use Rattle.limits.proofs.Questions.{accepted-says}
-use Rattle.allocator.specs.Slots.{pair, fitAsks}
+use Rattle.allocator.specs.Slots.{pair}
 use Rattle.permutation.specs.Numbers.{newRelationNo}
 use Rattle.permutation.specs.Answers.{relation, freshSlots}
 use Rattle.recording.specs.State.{Holds}
 use Rattle.recording.proofs.Keeps.{new-holds}
-use Rattle.sharing.specs.Shares.{maxRelations, anyOpened, quotaAsks, onAllocator}
+use Rattle.sharing.specs.Shares.{anyOpened, quotaAsks, onAllocator}
 use Rattle.sharing.specs.Opening.{openingAsks, withAllocatorNo, newShared, oneOpened}
+use Rattle.sharing.proofs.Answered.{opens-yes}
 use Rattle.history.specs.Ledger.{Ledger}
 use Rattle.history.specs.Calls.{Call, Allocate, Set, SetList, Record, Mint, Equate, Tickets, lengthsOf, Answer, answer, after, noted}
 use Rattle.history.specs.Demand.{Accepted}
@@ -29,7 +29,7 @@ use Rattle.history.proofs.Outcomes.{accepted-no}
 use Rattle.history.proofs.Keeps.{keeps}
 use Rattle.shared_history.specs.Calls.{OwnState, SharedState, SharedCall, Open, On, ownAt, seen, sharesOf, wiresOf, taken, frontNo, refusedWith, sharedAnswer, ownAfter, actedOn, sharedAfter, OwnLedger, SharedLedger, newOwnLedger, firstShared, ownLedgerAt, judgedOn, ownLedgerAfter, sharedNoted, sharedFinal, sharedLog, sharedLedgerOf}
 use Rattle.shared_history.proofs.Lists.{set-same, both-set, both-more}
-use Rattle.shared_history.proofs.Fronts.{parts-yes, mid-yes, front-opened, allocate-within, mint-within}
+use Rattle.shared_history.proofs.Fronts.{mid-yes, front-opened, allocate-within, mint-within}
 use Rattle.shared_history.proofs.Stands.{Own, Stands, own-at, agrees, obtained-set, obtained-new}
 
 -- ---- the ledger
@@ -187,17 +187,6 @@ module _ (p : SharedState) (width quota : ℕ) (queries equations : List ℕ) wh
         within = omega arith;
       }
 
-  -- there was a number left
-  few-yes : opening-no ≡ 0 → p .allocator .opened < 8
-  unfolding withAllocatorNo
-  few-yes z =
-      let a = p .allocator in
-      let n = length (p .slots) in
-      let room = question 6 (leb 1 n) ∷ [] in
-      let few = question 2 (leb (a .opened) maxRelations) ∷ question 42 (ltb (a .opened) maxRelations) ∷ [] in
-      let o = parts-yes (openingAsks a n) room (parts-yes (widthAsks width ++ storeAsks n) (openingAsks a n ++ room) z .1) .0 in
-      ltb-true _ _ (accepted-says few tt (parts-yes (pick (anyOpened a) (fitAsks (a .vars) n) []) few o .1) 1)
-
   -- the state after an accepted one, by whether another was opened before
   abbrev opened-state : Bool → SharedState
   opened-state b =
@@ -245,7 +234,7 @@ module _ (p : SharedState) (width quota : ℕ) (queries equations : List ℕ) (l
         each = both-more Own (p .owns) (l .owns) (st .each) _ _ (own-new p width quota queries equations z);
         openedIs = omega (arith, st .openedIs, length-append (p .owns) (own ∷ []));
         least = omega arith;
-        few = omega (arith, few-yes p width quota queries equations z);
+        few = omega (arith, opens-yes (p .allocator) width (length (p .slots)) z .left);
         sum = omega (arith, st .sum, obtained-new (p .owns) own refl);
       }
 
