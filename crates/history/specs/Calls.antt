@@ -3,7 +3,7 @@
 use Prim.Native.Nat.{ℕ, _+_}
 use mathlib.Core.List.{List, [], _∷_, _++_, map}
 use lib.ListN.{length, take}
-use Rattle.limits.specs.Questions.{Question, question, pick}
+use Rattle.limits.specs.Questions.{Question, pick}
 use Rattle.limits.specs.Outcome.{isAccepted}
 use Rattle.limits.specs.declared.Outcome.{Outcome}
 use Rattle.limits.specs.declared.Outcome.the-variants as outcome

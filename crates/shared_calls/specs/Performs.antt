@@ -11,7 +11,7 @@ use Rattle.sharing.specs.declared.SharedRelation.{SharedRelation}
 use Rattle.sharing.specs.declared.Opened.{Opened}
 use Rattle.history.specs.Calls.{Call, Answer}
 use Rattle.shared_history.specs.Calls.{OwnState, SharedState, SharedCall, Open, On, sharedAnswer, sharedAfter, SharedEntry, sharedLedgerOf}
-use Rattle.shared_history.specs.Whole.{opening, beginLedger, sharedLast, sharedLedger, SharedWhole}
+use Rattle.shared_history.specs.Whole.{beginLedger, sharedLast, sharedLedger, SharedWhole}
 
 -- this allocator, these slots, and what each relation has to itself
 abbrev pub sharedState : VarAllocator → (slots : List ℕ) → (owns : List OwnState) → SharedState

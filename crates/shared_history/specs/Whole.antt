@@ -6,7 +6,7 @@
 --       opening answers the next number, an accepted allocate or mint the ledger's one count (`told`)
 --   (2) to (4) of each relation, on everybody's sets accepted before its gate and on its own queries and equations,
 --       whatever the others do between its gate and its write (`judged`, by the base's own `Judged`); the gate of a
---       number that isn't opened is refused, with 42 where 1 and 2 say yes (`unopened`)
+--       number that isn't opened is refused, with 42 where 1 and 2 say yes (`not-opened`)
 --   and the wires in the store are 1 and what each relation obtained (`counts`)
 --
 -- A list's beginning is a list, so this is said at every place of it. Nothing is assumed but that the first opening was
