@@ -11,12 +11,10 @@ use Rattle.allocator.specs.Slots.{Pair, SetRun, runAfter}
 use Rattle.allocator.specs.declared.VarValue.{VarValue}
 use Rattle.allocator.specs.declared.VarValue.the-variants as varValue
 use Rattle.permutation.specs.Relation.{relationFront, allocateVarsFront, setVarsFront, isAllocatedFront}
-use Rattle.permutation.specs.Answers.{allocateVars, allocateVarsSlots, setVar, setVarSlots, setVarsRun, setVarsOf, valueOf, isAllocated}
-use Rattle.permutation.specs.declared.SetVars.{SetVars}
+use Rattle.permutation.specs.Answers.{allocateVars, allocateVarsSlots, setVar, setVarSlots, setVarsRun, valueOf, isAllocated}
 use Rattle.permutation.specs.declared.IsAllocated.{IsAllocated}
 use Rattle.permutation.specs.declared.IsAllocated.the-variants as isAllocated-is
-use Rattle.tickets.specs.Tickets.{setTicketsRun, setTicketsOf}
-use Rattle.tickets.specs.declared.SetTickets.{SetTickets}
+use Rattle.tickets.specs.Tickets.{setTicketsRun}
 use Rattle.sharing.specs.Shares.{onAllocator, shares}
 use Rattle.sharing.specs.Answers.{allocatedOn, allocatedNot}
 use Rattle.sharing.specs.declared.VarAllocator.{VarAllocator}
@@ -64,22 +62,14 @@ module _ (a : VarAllocator) (r : ℕ) (m : SharedRelation) where
   setVarOnSlots slots p = onYes (relationOnNo (length slots)) (setVarSlots (onAllocator a m) slots p) slots
 
   -- ---- set list and tickets: nothing is tried where the front says no
-  -- how far the pairs came
+  -- how far the pairs came, with the number and the slots
   unfoldable pub setVarsOnRun : (slots vars values : List ℕ) → SetRun
   setVarsOnRun slots vars values =
       runAfter (setVarsOnNo (length slots) vars values) (setVarsRun (onAllocator a m) slots vars values) slots
 
-  -- the answer
-  abbrev pub setVarsOn : (slots vars values : List ℕ) → SetVars
-  setVarsOn slots vars values = setVarsOf (setVarsOnRun slots vars values)
-
-  -- how far the lines came
+  -- how far the lines came, likewise
   unfoldable pub setTicketsOnRun : (slots text : List ℕ) → SetRun
   setTicketsOnRun slots text = runAfter (relationOnNo (length slots)) (setTicketsRun (onAllocator a m) slots text) slots
-
-  -- the answer
-  abbrev pub setTicketsOn : (slots text : List ℕ) → SetTickets
-  setTicketsOn slots text = setTicketsOf (setTicketsOnRun slots text)
 
   -- ---- value of a wire, and is it allocated
   -- the answer
