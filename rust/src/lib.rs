@@ -61,4 +61,4 @@ pub const MAX_COUNT: u32 = 1 << 30;
 pub const MAX_WIDTH: u32 = 24;
 
 /// So many relations may be opened on one allocator.
-pub const MAX_OPENED: u32 = 8;
+pub const MAX_RELATIONS: u32 = 8;

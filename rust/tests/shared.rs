@@ -1,6 +1,6 @@
 //! Relations on one allocator: what each call gives back, accepted and refused.
 
-use sfr::{Refused, SharedRelation, VarAllocator, Weighted, MAX_OPENED, UNASSIGNED};
+use sfr::{Refused, SharedRelation, VarAllocator, Weighted, MAX_RELATIONS, UNASSIGNED};
 
 /// A relation opened on an allocator of its own.
 fn opened(width: u32, quota: u32, slots: &mut [u32]) -> (VarAllocator, SharedRelation) {
@@ -12,7 +12,7 @@ fn opened(width: u32, quota: u32, slots: &mut [u32]) -> (VarAllocator, SharedRel
 fn eight_are_opened_and_no_ninth() {
     let mut slots = [7; 3];
     let mut plant = VarAllocator::default();
-    for index in 0..MAX_OPENED {
+    for index in 0..MAX_RELATIONS {
         let (first, allocator, rel) = sfr::with_allocator(plant, 24 - index, index, &mut slots)
             .first()
             .expect("eight may be opened");

@@ -1,6 +1,6 @@
 //! Inputs led astray: records, stores, sheets and labels that lie beside the sound ones.
 
-use reading::{Share, MAX_COUNT, MAX_OPENED};
+use reading::{Share, MAX_COUNT, MAX_RELATIONS};
 use source::Params;
 
 use crate::{
@@ -55,7 +55,7 @@ fn share(rng: &mut Rng, state: &mut State, share: Share) -> Share {
     match rng.below(10) {
         0 => share.index = near(rng, share.opened),
         1 => share.index = rng.below(9) as u32,
-        2 => share.opened = near(rng, MAX_OPENED),
+        2 => share.opened = near(rng, MAX_RELATIONS),
         3 => share.opened = 0,
         4 => (share.opened, rel.vars_count) = (0, rng.edge()),
         5 => share.quota = near(rng, share.obtained),

@@ -8,7 +8,7 @@
 
 use std::mem::take;
 
-use reading::{Relation as Record, Share, VarAllocator, MAX_OPENED};
+use reading::{Relation as Record, Share, VarAllocator, MAX_RELATIONS};
 use source::{Allocator, Relation};
 
 use crate::{
@@ -154,7 +154,7 @@ impl Plant {
             side.astray(&mut generator, state)?;
             side.open(state, width, quota)
         })?;
-        if opened == MAX_OPENED {
+        if opened == MAX_RELATIONS {
             same("a ninth", ("given", answer.number), ("expected", 42))?;
             return self.compare();
         }

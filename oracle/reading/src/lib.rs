@@ -36,7 +36,7 @@ pub use relation::{add_equation, add_permutation, allocate_permutation, scale};
 pub use shared::{
     add_equation_on, add_permutation_on, allocate_permutation_on, allocate_vars_on, compile_on,
     is_allocated_on, set_tickets_on, set_var_on, set_vars_on, value_on, with_allocator, On, Share,
-    SharedAnswer, SharedRelation, VarAllocator, MAX_OPENED,
+    SharedAnswer, SharedRelation, VarAllocator, MAX_RELATIONS,
 };
 pub use ticket::{set_tickets, ticket, TICKET_LINE};
 pub use utf8::is_utf8;

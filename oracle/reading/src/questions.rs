@@ -1,6 +1,6 @@
 //! Questions and the number when the answer is no, and those that many calls put.
 
-use crate::{On, Share, MAX_COUNT, MAX_OPENED, P};
+use crate::{On, Share, MAX_COUNT, MAX_RELATIONS, P};
 
 /// Go on, or leave with the number of the question that said no.
 pub type Asked = Result<(), u32>;
@@ -50,7 +50,7 @@ pub fn fits(count: u32, size: u32, store: &[u32]) -> bool {
 pub fn ask_vars(on: &On, slots: Option<&[u32]>) -> Asked {
     let vars_count = on.rel.vars_count;
     let opened = on.share.map_or(1, |share| share.opened);
-    ask(2, opened <= MAX_OPENED)?;
+    ask(2, opened <= MAX_RELATIONS)?;
     ask(2, opened == 0 || (1..=MAX_COUNT).contains(&vars_count))?;
     let held = slots.is_none_or(|slots| fits(vars_count, 1, slots));
     ask(2, opened == 0 || held)

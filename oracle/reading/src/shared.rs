@@ -13,7 +13,7 @@ use crate::{
 };
 
 /// So many relations may be opened on one allocator.
-pub const MAX_OPENED: u32 = 8;
+pub const MAX_RELATIONS: u32 = 8;
 
 /// What relations share besides the slots: the wire count, and how many are opened.
 #[derive(Clone, Copy, Debug, Default, PartialEq, Eq)]
@@ -149,7 +149,7 @@ fn ask_with_allocator(allocator: VarAllocator, width: u32, slots: &[u32]) -> Ask
     ask(1, is_width(width))?;
     ask(2, is_store(slots))?;
     ask_vars(&on(allocator, 0, SharedRelation::default()), Some(slots))?;
-    ask(42, allocator.opened < MAX_OPENED)?;
+    ask(42, allocator.opened < MAX_RELATIONS)?;
     ask(6, !slots.is_empty())
 }
 

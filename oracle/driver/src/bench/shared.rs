@@ -9,7 +9,7 @@ use super::{best, input, input::WIDTH, table, timed, Line};
 use crate::rng::Rng;
 
 const W: usize = WIDTH as usize;
-const RELATIONS: usize = sfr::MAX_OPENED as usize;
+const RELATIONS: usize = sfr::MAX_RELATIONS as usize;
 
 pub fn tables(last: usize) {
     let note = |item: &str| {

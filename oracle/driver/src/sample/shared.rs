@@ -5,7 +5,7 @@
 //! to spare; up to one more fault is then put into number, allocator and quota. Equations are left
 //! to the driver: to lend a program's own list of terms takes a proof of its own.
 
-use reading::{Relation, Share, MAX_COUNT, MAX_OPENED};
+use reading::{Relation, Share, MAX_COUNT, MAX_RELATIONS};
 
 use super::{
     case::{FIRST, FIRST_AFTER},
@@ -116,9 +116,9 @@ impl Sample {
             (25, 1, 1, 2),
             (2, 1, 1, 2),
             (3, 2, 7, 2),
-            (1, 2, MAX_OPENED, 2),
-            (1, 9, MAX_OPENED, 2),
-            (1, 2, MAX_OPENED + 1, 2),
+            (1, 2, MAX_RELATIONS, 2),
+            (1, 9, MAX_RELATIONS, 2),
+            (1, 2, MAX_RELATIONS + 1, 2),
             (1, 0, 3, 2),
             (1, 3, 3, 2),
             (1, u32::MAX, 0, 2),
@@ -162,7 +162,7 @@ impl Sample {
         let vars_count = astray::near(rng, len as u32);
         let opened = match rng.below(3) {
             0 => 0,
-            _ => astray::near(rng, MAX_OPENED - 1),
+            _ => astray::near(rng, MAX_RELATIONS - 1),
         };
         self.opening((vars_count, opened), width, rng.edge(), slots);
     }
@@ -180,7 +180,7 @@ impl Sample {
 /// Gives a relation a share with wires to spare, now and then just too few, of a number that
 /// isn't opened, or on an allocator that no list makes.
 fn share_state(rng: &mut Rng, state: &mut State) {
-    let opened = rng.between(1, MAX_OPENED as usize) as u32;
+    let opened = rng.between(1, MAX_RELATIONS as usize) as u32;
     let obtained = rng.below(40) as u32;
     let index = rng.below(opened as usize) as u32;
     state.share = share(
@@ -194,7 +194,7 @@ fn share_state(rng: &mut Rng, state: &mut State) {
     };
     match rng.below(12) {
         0 => share.index = astray::near(rng, opened),
-        1 => share.opened = *rng.pick(&[0, 0, MAX_OPENED + 1, u32::MAX]),
+        1 => share.opened = *rng.pick(&[0, 0, MAX_RELATIONS + 1, u32::MAX]),
         2..=4 => share.quota = obtained + rng.below(8) as u32,
         5 => share.quota = obtained.saturating_sub(1),
         6 => (share.quota, share.obtained) = (rng.edge(), rng.edge()),
