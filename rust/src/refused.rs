@@ -58,7 +58,7 @@ impl Refused {
             36 => "is the wire below the wire count?",
             40 => "is the ticket line in its form, and not cut short at the text's end?",
             41 => "is its step count below p?",
-            42 => "is a relation of this number opened, or are fewer than 8 where another is?",
+            42 => "is a relation of this number opened? Of an opening: are fewer than 8?",
             43 => "does the quota hold what the relation obtained and the new wires?",
             _ => "?",
         }

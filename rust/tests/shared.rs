@@ -19,6 +19,8 @@ fn eight_are_opened_and_no_ninth() {
         assert_eq!((first, allocator.opened), (index, index + 1));
         assert_eq!(allocator.vars_count, 1);
         assert_eq!((rel.width, rel.quota, rel.obtained), (24 - index, index, 0));
+        // The first opening writes slot 0, a later one none.
+        assert_eq!(slots, [if index == 0 { 0 } else { 7 }, 7, 7]);
         plant = allocator;
         slots[0] = 7;
     }
