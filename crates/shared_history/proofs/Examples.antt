@@ -75,7 +75,7 @@ calls =
     ∷ Open 25 9 [] []
     ∷ Open 2 2 (9 ∷ 9 ∷ 9 ∷ 9 ∷ []) []
     ∷ On 0 (stray 1) (Allocate 1073741824)
-    ∷ On 0 (stray 1) (Allocate 4)
+    ∷ On 0 (stray 1) (Allocate 8)
     ∷ On 0 (stray 1) (Allocate 2)
     ∷ On 1 (stray 1) (Set (pair 2 5))
     ∷ On 0 (stray 1) (Set (pair 2 6))
@@ -95,8 +95,9 @@ first-accepted : sharedAnswer (noneOpened 77 slots 1 3 queries equations calls) 
 unfolding ask _▸_ withAllocatorNo sharedAnswer
 first-accepted = refl
 
--- 1 before 42; 42 before 5; 1 of an opening; 5 before 43; 43; 8 by another's set; a set list whose first pair stays; 9 before 43; 43 of a mint; 0 wires with the
--- quota used up; a mint that 10 refuses takes nothing, so one wire more is within the quota, and then none
+-- 1 before 42; 42 before 5; 1 of an opening; 5 before 43; 43 before 6; 8 by another's set; a set list whose first pair stays;
+-- 9 before 43; 43 of a mint; 0 wires with the quota used up; a mint that 10 refuses takes nothing, so one wire more is within
+-- the quota, and then none
 outcomes : map (λ (e : SharedEntry). e .answered .outcome) (sharedLog (sharedBegin 77 slots 1 3 queries equations calls) calls)
     ≡ Refused 1 ∷ Refused 42 ∷ Refused 1 ∷ Accepted ∷ Refused 5 ∷ Refused 43 ∷ Accepted ∷ Accepted ∷ Refused 8 ∷ Accepted ∷ Refused 8 ∷ Refused 9
     ∷ Refused 43 ∷ Accepted ∷ Accepted ∷ Refused 10 ∷ Accepted ∷ Refused 43 ∷ Accepted ∷ []
