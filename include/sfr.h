@@ -323,7 +323,7 @@ sfr_shared_answer sfr_add_equation_on(sfr_var_allocator allocator, uint32_t inde
 sfr_value sfr_value_of_on(sfr_var_allocator allocator, uint32_t index, sfr_shared_relation rel,
                           const uint32_t *slots, size_t slots_len, uint32_t var);
 
-/* Is the wire allocated, by whichever relation? Questions 1, 2 of the wire count, 42, 3. Nothing is lent. */
+/* Is the wire allocated, by whichever relation? Questions 1, 2 of the allocator, 42, 3. Nothing is lent. */
 sfr_flag sfr_is_allocated_on(sfr_var_allocator allocator, uint32_t index, sfr_shared_relation rel, uint32_t var);
 
 /* ---- Permutations by their parameters (document 01's sheet), and traces. ---- */

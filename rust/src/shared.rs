@@ -235,7 +235,7 @@ pub fn value_of_on(
 
 /// Is the wire allocated, by whichever relation?
 ///
-/// Questions 1, 2 of the wire count, 42, 3.
+/// Questions 1, 2 of the allocator, 42, 3.
 pub fn is_allocated_on(allocator: VarAllocator, index: u32, rel: SharedRelation, var: u32) -> Flag {
     sys::sfr_is_allocated_on(allocator, index, rel, var)
 }
