@@ -3,29 +3,25 @@
 use Prim.Native.Nat.{ℕ}
 use mathlib.Core.Path.{_≡_, refl, ap}
 use mathlib.Core.Bool.{true}
-use mathlib.Core.List.{[], _++_}
+use mathlib.Core.List.{_++_}
 use lib.Dec.{ltb}
-use lib.ListN.{length}
-use Rattle.limits.specs.Questions.{pick, firstNo}
+use Rattle.limits.specs.Questions.{firstNo}
 use Rattle.limits.specs.Outcome.{outcomeOf}
 use Rattle.limits.specs.declared.Outcome.the-variants.{Refused}
-use Rattle.limits.proofs.Questions.{Puts, here, there, puts-after}
-use Rattle.allocator.specs.Slots.{fitAsks}
+use Rattle.limits.proofs.Questions.{Puts}
 use Rattle.permutation.specs.Sharing.{Sharing, alone}
 use Rattle.compile.specs.Gate.{GateLent, compileFront, lentSoundAsks, madeAsks, compileAsksWith, compileNo, refusedBy, compile}
 use Rattle.compile.specs.declared.Compiled.{Compiled}
-use Rattle.sharing.specs.Shares.{anyOpened, shares}
+use Rattle.sharing.specs.Shares.{shares}
 use Rattle.sharing.specs.declared.VarAllocator.{VarAllocator}
 use Rattle.sharing.specs.declared.SharedRelation.{SharedRelation}
-use Rattle.sharing.proofs.Numbers.{Among, among, counting, shown-on}
+use Rattle.sharing.proofs.Numbers.{puts-in, Among, among, counting, shown-on}
 use Rattle.shared_compile.specs.Gate.{compileOnNo, compileOn}
 
 -- 42 is among the questions of the front, and sharing only puts questions in
 module _ (a : VarAllocator) (r : ℕ) (m : SharedRelation) (l : GateLent) where
   pub gate-asked : Puts 42 (ltb r (a .opened)) (compileFront (shares a r m) l)
-  gate-asked =
-      there (there (there (puts-after (pick (anyOpened a) (fitAsks (l .relation .vars) (length (l .slots))) [])
-      (there (there (there (there (there (there (there (there (there here))))))))))))
+  gate-asked = search puts-in depth 20
 
   pub gate-inserted : Among (compileFront alone l) (compileFront (counting a r m true) l)
   gate-inserted = search among depth 40

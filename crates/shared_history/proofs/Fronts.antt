@@ -6,11 +6,11 @@ use mathlib.Core.Bool.{true}
 use mathlib.Core.List.{List, [], _∷_, _++_}
 use lib.Dec.{eqb, ltb}
 use lib.ListN.{length}
-use Rattle.limits.specs.Questions.{pick, _▸_, Question, question, firstNo, onYes}
+use Rattle.limits.specs.Questions.{_▸_, Question, question, firstNo, onYes}
 use Rattle.limits.specs.Outcome.{outcomeOf}
 use Rattle.limits.specs.Asks.{widthAsks, storeAsks, countAsks}
-use Rattle.limits.proofs.Questions.{both, ▸-zero, goes-on, firstNo-append, Puts, here, there, puts-after}
-use Rattle.allocator.specs.Slots.{pairs, fitAsks, mostAsks, roomAsks, pairAsks, itemsAsks}
+use Rattle.limits.proofs.Questions.{both, ▸-zero, goes-on, firstNo-append, Puts}
+use Rattle.allocator.specs.Slots.{pairs, mostAsks, roomAsks, pairAsks, itemsAsks}
 use Rattle.expr.specs.Weighted.{termsOf}
 use Rattle.permutation.specs.Sharing.{Sharing, afterFive, alone}
 use Rattle.permutation.specs.Relation.{queriesAsks, equationsAsks, relationAsks, relationFront}
@@ -18,10 +18,10 @@ use Rattle.permutation.specs.declared.PermutationRelation.{PermutationRelation}
 use Rattle.recording.specs.Relation.{addPermutationRest, mintSizes, mintAsks, allocatePermutationRest, addEquationRest}
 use Rattle.tickets.specs.Lines.{linesAsks}
 use Rattle.compile.specs.Gate.{GateLent, lentStoresAsks, lentSoundAsks, madeAsks, compileFront, compileAsksWith}
-use Rattle.sharing.specs.Shares.{anyOpened, shares}
+use Rattle.sharing.specs.Shares.{shares}
 use Rattle.sharing.specs.declared.VarAllocator.{VarAllocator}
 use Rattle.sharing.specs.declared.SharedRelation.{SharedRelation}
-use Rattle.sharing.proofs.Numbers.{Among, among, puts-before, counting, is-opened, shown-on}
+use Rattle.sharing.proofs.Numbers.{puts-in, Among, among, counting, is-opened, shown-on}
 use Rattle.history.specs.Calls.{Call, Allocate, Set, SetList, Record, Mint, Equate, Tickets, State, Lengths, lengthsOf, Answer, asksWith, frontAsks}
 
 -- ---- lists of questions
@@ -68,23 +68,16 @@ module _ (o : List Question) (w : ℕ → List Question) (z : firstNo o ≡ 0) w
 
 -- ---- the front that a call of relation r puts
 module _ (a : VarAllocator) (r : ℕ) (m : SharedRelation) (rel : PermutationRelation) (n : Lengths) where
-  -- what is asked of the wire count, with the slots and without
-  abbrev fit : List Question
-  fit = pick (anyOpened a) (fitAsks (rel .vars) (n .slots)) []
-
-  abbrev count : List Question
-  count = pick (anyOpened a) (countAsks (rel .vars)) []
-
   -- 42 is among its questions
   asked : (c : Call) → Puts 42 (ltb r (a .opened)) (frontAsks (shares a r m) rel n c)
   unfolding frontAsks
-  asked (Allocate x) = there (there (there (puts-before (puts-after fit (there here)) _)))
-  asked (Set p) = there (there (there (puts-after fit (there here))))
-  asked (SetList vars values) = there (there (there (puts-after fit (there (there (there here))))))
-  asked (Record input output) = there (there (there (there (puts-after count (there (there (there here)))))))
-  asked (Mint input) = there (there (there (puts-before (puts-after fit (there (there (there (there here))))) _)))
-  asked (Equate terms image) = there (there (there (there (there (puts-after count (there here))))))
-  asked (Tickets text) = there (there (there (puts-after fit (there here))))
+  asked (Allocate x) = search puts-in depth 20
+  asked (Set p) = search puts-in depth 20
+  asked (SetList vars values) = search puts-in depth 20
+  asked (Record input output) = search puts-in depth 20
+  asked (Mint input) = search puts-in depth 20
+  asked (Equate terms image) = search puts-in depth 20
+  asked (Tickets text) = search puts-in depth 20
 
   -- and sharing only puts questions in
   inserted : (c : Call) → Among (frontAsks alone rel n c) (frontAsks (counting a r m true) rel n c)

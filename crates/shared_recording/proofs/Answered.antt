@@ -3,24 +3,24 @@
 use Prim.Native.Nat.{ℕ, _+_, _≤_}
 use mathlib.Core.Path.{_≡_, refl, sym, ap, _∙_}
 use mathlib.Core.Bool.{Bool, true, false}
-use mathlib.Core.List.{List, [], _++_}
+use mathlib.Core.List.{List, _++_}
 use borrow.Author.Tests.{leb-true}
 use lib.Dec.{leb}
 use lib.ListN.{length}
 use Rattle.limits.specs.Questions.{pick, _▸_, Question, firstNo, onYes}
-use Rattle.limits.proofs.Questions.{ask-yes, both, join, stays, goes-on, ▸-zero, firstNo-append, puts, puts-yes, here, there, puts-after}
-use Rattle.allocator.specs.Slots.{fitAsks, grownSlots}
+use Rattle.limits.proofs.Questions.{ask-yes, both, join, stays, goes-on, ▸-zero, firstNo-append, puts, puts-yes}
+use Rattle.allocator.specs.Slots.{grownSlots}
 use Rattle.permutation.specs.Sharing.{Sharing, alone}
 use Rattle.permutation.specs.Answers.{allocatedOf, moreVars}
 use Rattle.permutation.specs.declared.PermutationRelation.{PermutationRelation}
 use Rattle.recording.specs.Relation.{mintSizes, mintAsks, allocatePermutationRest}
 use Rattle.recording.specs.Numbers.{allocatePermutationNo}
 use Rattle.recording.specs.Answers.{oneQuery, queriesWith, upFrom, allocatePermutation, allocatePermutationSlots, allocatePermutationQueries}
-use Rattle.sharing.specs.Shares.{anyOpened, onAllocator, shares, quotaAsks}
+use Rattle.sharing.specs.Shares.{onAllocator, shares, quotaAsks}
 use Rattle.sharing.specs.Answers.{allocatedOn, allocatedNot}
 use Rattle.sharing.specs.declared.VarAllocator.{VarAllocator}
 use Rattle.sharing.specs.declared.SharedRelation.{SharedRelation}
-use Rattle.sharing.proofs.Numbers.{among, front-alone, first-again}
+use Rattle.sharing.proofs.Numbers.{puts-in, among, front-alone, first-again}
 use Rattle.shared_recording.specs.Answers.{allocatePermutationOnNo, mintFrontNo, allocatePermutationOn, allocatePermutationOnSlots, allocatePermutationOnQueries}
 
 -- by whether the quota holds the wires: handed on, or asked to the end
@@ -81,7 +81,7 @@ module _ (a : VarAllocator) (r : ℕ) (m : SharedRelation) (slots len : ℕ) (in
   unfolding allocatePermutationNo
   mint-number z =
       let s = sizes-yes z in
-      let y = front-alone a r m sizes (there (there (there (puts-after (pick (anyOpened a) (fitAsks (a .vars) slots) []) (there (there (there (there here)))))))) (search among depth 40) s in
+      let y = front-alone a r m sizes (search puts-in depth 20) (search among depth 40) s in
       let q : firstNo quota ≡ 0 = join _ _ (ask-yes 43 _ (quota-says z)) refl in
       let n = firstNo-append (mintAsks rel input) quota ∙ ap (λ (k : ℕ). firstNo (mintAsks rel input) ▸ k) q ∙ ▸-zero _ in
       firstNo-append (sizes alone) (mintAsks rel input ++ allocatePermutationRest rel slots len)

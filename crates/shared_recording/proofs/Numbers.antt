@@ -2,14 +2,11 @@
 -- questions, in document 01's order. Assumes nothing.
 use Prim.Native.Nat.{ℕ}
 use mathlib.Core.Path.{_≡_, refl}
-use mathlib.Core.List.{List, []}
+use mathlib.Core.List.{List}
 use lib.ListN.{length}
-use Rattle.limits.specs.Questions.{pick, Question, firstNo}
-use Rattle.limits.specs.Asks.{countAsks}
+use Rattle.limits.specs.Questions.{firstNo}
 use Rattle.limits.specs.Outcome.{outcomeNumber}
-use Rattle.limits.proofs.Questions.{here, there, puts-after}
 use Rattle.limits.proofs.Answered.{outcome-number}
-use Rattle.allocator.specs.Slots.{fitAsks}
 use Rattle.expr.specs.Equation.{Term}
 use Rattle.permutation.specs.Sharing.{Sharing}
 use Rattle.permutation.specs.Answers.{firstNumber}
@@ -17,12 +14,12 @@ use Rattle.permutation.specs.declared.PermutationRelation.{PermutationRelation}
 use Rattle.permutation.proofs.Answered.{first-number}
 use Rattle.recording.specs.Relation.{addPermutationFront, addPermutationRest, addPermutationAsksWith, allocatePermutationFront, allocatePermutationRest, allocatePermutationAsksWith, addEquationFront, addEquationRest, addEquationAsksWith}
 use Rattle.recording.specs.Numbers.{addPermutationNo, allocatePermutationNo, addEquationNo}
-use Rattle.sharing.specs.Shares.{anyOpened, onAllocator, shares}
+use Rattle.sharing.specs.Shares.{onAllocator, shares}
 use Rattle.sharing.specs.declared.VarAllocator.{VarAllocator}
 use Rattle.sharing.specs.declared.SharedRelation.{SharedRelation}
 use Rattle.sharing.specs.declared.AllocatedOn.{AllocatedOn}
 use Rattle.sharing.specs.declared.RecordedOn.{RecordedOn}
-use Rattle.sharing.proofs.Numbers.{among, puts-before, number-on}
+use Rattle.sharing.proofs.Numbers.{puts-in, among, number-on}
 use Rattle.shared_recording.specs.Answers.{addPermutationOnNo, allocatePermutationOnNo, addEquationOnNo, addPermutationOn, allocatePermutationOn, addEquationOn}
 
 module _ (a : VarAllocator) (r : ℕ) (m : SharedRelation) where
@@ -32,17 +29,13 @@ module _ (a : VarAllocator) (r : ℕ) (m : SharedRelation) where
   abbrev h : Sharing
   h = shares a r m
 
-  -- what is asked of the wire count
-  abbrev count : List Question
-  count = pick (anyOpened a) (countAsks (a .vars)) []
-
   -- record
   pub addPermutationOn-number : (queries input output : List ℕ)
       → outcomeNumber (addPermutationOn a r m queries input output .outcome) ≡ firstNo (addPermutationAsksWith h x (length queries) input output)
   unfolding addPermutationOnNo addPermutationNo
   addPermutationOn-number queries input output =
       number-on a r m (λ (g : Sharing). addPermutationFront g x (length queries) input output)
-      (there (there (there (there (puts-after count (there (there (there here)))))))) (search among depth 40)
+      (search puts-in depth 20) (search among depth 40)
       (λ (q : RecordedOn). outcomeNumber (q .outcome)) (addPermutationRest x (length queries) input output) _ _
       (outcome-number (addPermutationNo x (length queries) input output)) refl
 
@@ -52,7 +45,7 @@ module _ (a : VarAllocator) (r : ℕ) (m : SharedRelation) where
   unfolding allocatePermutationOnNo allocatePermutationNo
   allocatePermutationOn-number slots queries input =
       number-on a r m (λ (g : Sharing). allocatePermutationFront g x (length slots) (length queries) input)
-      (there (there (there (puts-before (puts-after (pick (anyOpened a) (fitAsks (a .vars) (length slots)) []) (there (there (there (there here))))) _)))) (search among depth 40)
+      (search puts-in depth 20) (search among depth 40)
       (λ (q : AllocatedOn). firstNumber (q .first)) (allocatePermutationRest x (length slots) (length queries)) _ _
       (first-number (allocatePermutationNo x (length slots) (length queries) input) (a .vars)) refl
 
@@ -62,6 +55,6 @@ module _ (a : VarAllocator) (r : ℕ) (m : SharedRelation) where
   unfolding addEquationOnNo addEquationNo
   addEquationOn-number equations terms image =
       number-on a r m (λ (g : Sharing). addEquationFront g x (length equations))
-      (there (there (there (there (there (puts-after count (there here))))))) (search among depth 40)
+      (search puts-in depth 20) (search among depth 40)
       (λ (q : RecordedOn). outcomeNumber (q .outcome)) (addEquationRest x (length equations) terms image) _ _
       (outcome-number (addEquationNo x (length equations) terms image)) refl

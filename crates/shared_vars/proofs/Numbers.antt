@@ -2,14 +2,12 @@
 -- questions, in document 01's order. Assumes nothing.
 use Prim.Native.Nat.{ℕ}
 use mathlib.Core.Path.{_≡_, refl}
-use mathlib.Core.List.{List, []}
+use mathlib.Core.List.{List}
 use lib.ListN.{length}
-use Rattle.limits.specs.Questions.{pick, Question, firstNo}
-use Rattle.limits.specs.Asks.{countAsks}
+use Rattle.limits.specs.Questions.{firstNo}
 use Rattle.limits.specs.Outcome.{outcomeNumber}
-use Rattle.limits.proofs.Questions.{here, there, puts-after}
 use Rattle.limits.proofs.Answered.{outcome-number}
-use Rattle.allocator.specs.Slots.{Pair, fitAsks, roomAsks, pairAsks, SetRun}
+use Rattle.allocator.specs.Slots.{Pair, roomAsks, pairAsks, SetRun}
 use Rattle.allocator.specs.VarValue.{valueNumber}
 use Rattle.permutation.specs.Sharing.{Sharing}
 use Rattle.permutation.specs.Relation.{relationFront, allocateVarsFront, allocateVarsAsksWith, setVarAsksWith, setVarsFront, setVarsAsksWith, varAsks, valueOfAsksWith, isAllocatedFront, isAllocatedAsksWith}
@@ -22,11 +20,11 @@ use Rattle.permutation.proofs.Looked.{value-number, isAllocated-number}
 use Rattle.tickets.specs.Lines.{linesAsks}
 use Rattle.tickets.specs.Tickets.{setTicketsAsksWith}
 use Rattle.tickets.proofs.Laws.{setTickets-number}
-use Rattle.sharing.specs.Shares.{anyOpened, onAllocator, shares}
+use Rattle.sharing.specs.Shares.{onAllocator, shares}
 use Rattle.sharing.specs.declared.VarAllocator.{VarAllocator}
 use Rattle.sharing.specs.declared.SharedRelation.{SharedRelation}
 use Rattle.sharing.specs.declared.AllocatedOn.{AllocatedOn}
-use Rattle.sharing.proofs.Numbers.{among, puts-before, number-on}
+use Rattle.sharing.proofs.Numbers.{puts-in, among, number-on}
 use Rattle.shared_vars.specs.Answers.{relationOnNo, allocateVarsOnNo, setVarsOnNo, isAllocatedOnNo, allocateVarsOn, setVarOn, setVarsOnRun, setTicketsOnRun, valueOfOn, isAllocatedOn}
 
 module _ (a : VarAllocator) (r : ℕ) (m : SharedRelation) where
@@ -36,17 +34,13 @@ module _ (a : VarAllocator) (r : ℕ) (m : SharedRelation) where
   abbrev h : Sharing
   h = shares a r m
 
-  -- what is asked of the wire count and the slots
-  abbrev fit : ℕ → List Question
-  fit len = pick (anyOpened a) (fitAsks (a .vars) len) []
-
   -- allocate
   pub allocateVarsOn-number : (slots : List ℕ) (n : ℕ)
       → firstNumber (allocateVarsOn a r m slots n .first) ≡ firstNo (allocateVarsAsksWith h x (length slots) n)
   unfolding allocateVarsOnNo allocateVarsNo
   allocateVarsOn-number slots n =
       number-on a r m (λ (g : Sharing). allocateVarsFront g x (length slots) n)
-      (there (there (there (puts-before (puts-after (fit (length slots)) (there here)) _)))) (search among depth 40)
+      (search puts-in depth 20) (search among depth 40)
       (λ (q : AllocatedOn). firstNumber (q .first)) (roomAsks (a .vars) (length slots) n) _ _
       (first-number (allocateVarsNo x (length slots) n) (a .vars)) refl
 
@@ -55,7 +49,7 @@ module _ (a : VarAllocator) (r : ℕ) (m : SharedRelation) where
   unfolding relationOnNo setVarNo
   setVarOn-number slots p =
       number-on a r m (λ (g : Sharing). relationFront g x (length slots))
-      (there (there (there (puts-after (fit (length slots)) (there here))))) (search among depth 40)
+      (search puts-in depth 20) (search among depth 40)
       outcomeNumber (pairAsks (a .vars) slots p) _ _ (outcome-number (setVarNo x slots p)) refl
 
   -- set list
@@ -64,7 +58,7 @@ module _ (a : VarAllocator) (r : ℕ) (m : SharedRelation) where
   unfolding setVarsOnNo setVarsOnRun
   setVarsOn-number slots vars values =
       number-on a r m (λ (g : Sharing). setVarsFront g x (length slots) vars values)
-      (there (there (there (puts-after (fit (length slots)) (there (there (there here))))))) (search among depth 40)
+      (search puts-in depth 20) (search among depth 40)
       (λ (q : SetRun). q .number) _ _ _ (setVars-number x slots vars values) refl
 
   -- tickets
@@ -72,7 +66,7 @@ module _ (a : VarAllocator) (r : ℕ) (m : SharedRelation) where
   unfolding relationOnNo setTicketsOnRun
   setTicketsOn-number slots text =
       number-on a r m (λ (g : Sharing). relationFront g x (length slots))
-      (there (there (there (puts-after (fit (length slots)) (there here))))) (search among depth 40)
+      (search puts-in depth 20) (search among depth 40)
       (λ (q : SetRun). q .number) (linesAsks (a .vars) slots text) _ _ (setTickets-number x slots text) refl
 
   -- value of a wire
@@ -80,7 +74,7 @@ module _ (a : VarAllocator) (r : ℕ) (m : SharedRelation) where
   unfolding relationOnNo valueOfNo
   valueOfOn-number slots var =
       number-on a r m (λ (g : Sharing). relationFront g x (length slots))
-      (there (there (there (puts-after (fit (length slots)) (there here))))) (search among depth 40)
+      (search puts-in depth 20) (search among depth 40)
       valueNumber (varAsks var) _ _ (value-number x slots var) refl
 
   -- is it allocated
@@ -88,5 +82,5 @@ module _ (a : VarAllocator) (r : ℕ) (m : SharedRelation) where
   unfolding isAllocatedOnNo isAllocatedNo
   isAllocatedOn-number var =
       number-on a r m (λ (g : Sharing). isAllocatedFront g x)
-      (there (there (puts-after (pick (anyOpened a) (countAsks (a .vars)) []) (there here)))) (search among depth 40)
+      (search puts-in depth 20) (search among depth 40)
       isAllocatedNumber (varAsks var) _ _ (isAllocated-number x var) refl

@@ -12,15 +12,14 @@ use Rattle.limits.specs.Questions.{pick, _▸_, Question, firstNo, onYes}
 use Rattle.limits.specs.Asks.{storeAsks}
 use Rattle.limits.specs.Outcome.{asIs}
 use Rattle.limits.specs.declared.Outcome.the-variants as outcome
-use Rattle.limits.proofs.Questions.{▸-zero, here, there, puts-after, puts, puts-yes}
+use Rattle.limits.proofs.Questions.{▸-zero, puts-yes}
 use Rattle.limits.proofs.Answered.{outcome-refused, stays-by}
 use Rattle.allocator.specs.Slots.{fitAsks, slotsAsks}
 use Rattle.permutation.specs.Answers.{freshSlots}
-use Rattle.sharing.specs.Shares.{anyOpened}
 use Rattle.sharing.specs.Opening.{withAllocatorAsks, withAllocatorNo, newShared, oneOpened, withAllocator, withAllocatorSlots}
 use Rattle.sharing.specs.Answers.{Does, DoesBoth}
 use Rattle.sharing.specs.declared.VarAllocator.{VarAllocator}
-use Rattle.sharing.proofs.Numbers.{puts-before}
+use Rattle.sharing.proofs.Numbers.{puts-in}
 
 -- ---- a call that its front refuses or lets through
 -- refused with the number, or as it was
@@ -78,8 +77,8 @@ unfolding withAllocatorNo
 opens-yes a width len e =
     let says = puts-yes (withAllocatorAsks a width len) e in
     record {
-      room = leb-true _ _ (says 6 _ tt (search puts depth 20));
-      left = ltb-true _ _ (says 42 _ tt (there (there (there (puts-before (puts-after (pick (anyOpened a) (fitAsks (a .vars) len) []) (there here)) _)))));
+      room = leb-true _ _ (says 6 _ tt (search puts-in depth 20));
+      left = ltb-true _ _ (says 42 _ tt (search puts-in depth 20));
     }
 
 module _ (a : VarAllocator) (width quota : ℕ) (slots : List ℕ) (k : ℕ) (e : k ≡ withAllocatorNo a width (length slots)) where

@@ -14,7 +14,7 @@ use lib.Dec.{ltb}
 use lib.ListN.{length}
 use Rattle.limits.specs.Questions.{_▸_, Question, firstNo, onYes}
 use Rattle.limits.specs.Outcome.{outcomeNumber}
-use Rattle.limits.proofs.Questions.{both, join, zero-▸, goes-on, stays, firstNo-append, Puts, here, there, puts-yes}
+use Rattle.limits.proofs.Questions.{both, join, zero-▸, goes-on, stays, firstNo-append, Puts, here, there, puts-after, puts-yes}
 use Rattle.limits.proofs.Answered.{outcome-number}
 use Rattle.permutation.specs.Sharing.{Sharing, alone}
 use Rattle.sharing.specs.Shares.{anyOpened, openedAsks, quotaAsks, shares}
@@ -27,6 +27,9 @@ use Rattle.sharing.specs.declared.SharedRelation.{SharedRelation}
 pub puts-before : {k : ℕ} {b : Bool} {ps : List Question} → Puts k b ps → (qs : List Question) → Puts k b (ps ++ qs)
 puts-before here qs = here
 puts-before (there p) qs = there (puts-before p qs)
+
+-- found by `search puts-in depth 20`
+pub ruleset puts-in = (here, there, puts-after, puts-before)
 
 -- the first are among the second, in their order
 pub data Among : List Question → List Question → Type 0 where
