@@ -248,12 +248,11 @@ pub extern "C" fn sfr_value_of(rel: PermutationRelation, slots: &[u32], var: u32
     value_answer(permutation::value_of(rel, slots, FieldVar(var)))
 }
 
-// Is the wire one of the relation's?
-#[no_mangle]
-pub extern "C" fn sfr_is_allocated(rel: PermutationRelation, var: u32) -> SfrFlag
-    ensures { λ r. ⌜ r ≡ flagOf (isAllocated rel var) ⌝ }
+// What a look whether a wire is allocated answers, for C.
+pub(crate) fn flag_of(a: IsAllocated) -> SfrFlag
+    ensures { λ r. ⌜ r ≡ flagOf a ⌝ }
 {
-    match permutation::is_allocated(rel, FieldVar(var)) {
+    match a {
         IsAllocated::Yes => SfrFlag {
             number: 0,
             yes: true,
@@ -267,4 +266,12 @@ pub extern "C" fn sfr_is_allocated(rel: PermutationRelation, var: u32) -> SfrFla
             yes: false,
         },
     }
+}
+
+// Is the wire one of the relation's?
+#[no_mangle]
+pub extern "C" fn sfr_is_allocated(rel: PermutationRelation, var: u32) -> SfrFlag
+    ensures { λ r. ⌜ r ≡ flagOf (isAllocated rel var) ⌝ }
+{
+    flag_of(permutation::is_allocated(rel, FieldVar(var)))
 }

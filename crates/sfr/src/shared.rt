@@ -24,13 +24,13 @@ use crate::relation::SfrFlag;
 use crate::relation::SfrTally;
 use crate::relation::SfrTicketTally;
 use crate::relation::SfrValue;
+use crate::relation::flag_of;
 use crate::relation::outcome_no;
 use crate::relation::value_answer;
 use allocator::FieldVar;
 use baby_bear::BabyBearUnit;
 use expr::Weighted;
 use permutation::First;
-use permutation::IsAllocated;
 use sharing::AllocatedOn;
 use sharing::Opened;
 use sharing::RecordedOn;
@@ -280,20 +280,7 @@ pub extern "C" fn sfr_is_allocated_on(
 ) -> SfrFlag
     ensures { λ r. ⌜ r ≡ flagOf (isAllocatedOn allocator index rel var) ⌝ }
 {
-    match shared_vars::is_allocated_on(allocator, index, rel, FieldVar(var)) {
-        IsAllocated::Yes => SfrFlag {
-            number: 0,
-            yes: true,
-        },
-        IsAllocated::No => SfrFlag {
-            number: 0,
-            yes: false,
-        },
-        IsAllocated::Refused(k) => SfrFlag {
-            number: k,
-            yes: false,
-        },
-    }
+    flag_of(shared_vars::is_allocated_on(allocator, index, rel, FieldVar(var)))
 }
 
 // The gate: the relation becomes an instance, and its publics are written.
