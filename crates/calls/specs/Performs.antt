@@ -2,19 +2,19 @@
 -- Assumes nothing.
 use Prim.Native.Nat.{ℕ}
 use mathlib.Core.Path.{_≡_}
-use mathlib.Core.List.{List, [], _∷_, map}
+use mathlib.Core.List.{List}
 use Rattle.limits.specs.declared.Outcome.{Outcome}
 use Rattle.permutation.specs.Answers.{newRelation}
 use Rattle.permutation.specs.declared.PermutationRelation.{PermutationRelation}
 use Rattle.permutation.specs.declared.Recorded.{Recorded}
+use Rattle.history.specs.Along.{PerformsBy, PerformedBy, calledIn}
 use Rattle.history.specs.Calls.{Call, State, state, Answer, answer, after, fresh, firstLedger, Entry, ledgerOf}
 use Rattle.history.specs.Whole.{last, lastLedger, Whole}
 
 -- ---- one call
 -- the call on the state s answers a and leaves t, as the theorem's list has it
-pub record Performs (s : State) (c : Call) (a : Answer) (t : State) : Type 0 where
-  pub answers : answer s c ≡ a
-  pub leaves : after s c ≡ t
+abbrev pub Performs : State → Call → Answer → State → Type 0
+Performs = PerformsBy answer after
 
 -- one that is lent the slots, whatever queries and equations hold
 abbrev pub OnSlots : PermutationRelation → (slots : List ℕ) → Call → Answer → PermutationRelation → (slots : List ℕ) → Type 0
@@ -50,12 +50,11 @@ StartsSlots w slots r slots′ =
 -- ---- calls made in turn
 -- from s to t, each on what the one before it left, with what each answered
 abbrev pub Performed : State → List Entry → State → Type 0
-Performed s [] t = s ≡ t
-Performed s (e ∷ es) t = (u : State) × Performs s (e .called) (e .answered) u × Performed u es t
+Performed = PerformedBy answer after
 
 -- the calls of the entries
 abbrev pub callsOf : List Entry → List Call
-callsOf es = map (λ (e : Entry). e .called) es
+callsOf = calledIn
 
 -- the theorem speaks of them: of these calls, the state that they came to, and the ledger of what they answered
 pub record Run (w : ℕ) (slots queries equations : List ℕ) (es : List Entry) (t : State) : Type 0 where

@@ -2,7 +2,7 @@
 -- of a call and its answer is what the relation's own laws say of it. Assumes nothing.
 use Prim.Native.Nat.{ℕ, zero, suc}
 use mathlib.Core.Path.{_≡_, refl, subst}
-use mathlib.Core.List.{List, [], _∷_}
+use mathlib.Core.List.{List}
 use lib.ListN.{length}
 use Rattle.limits.specs.Questions.{pick, onYes}
 use Rattle.limits.specs.Outcome.{outcomeOf, outcomeNumber, isAccepted}
@@ -14,6 +14,7 @@ use Rattle.recording.specs.State.{Holds}
 use Rattle.permutation.specs.declared.PermutationRelation.{PermutationRelation}
 use Rattle.recording.proofs.Keeps.{new-holds, with-slots, allocateVars-keeps, setVar-keeps, setVars-keeps, addPermutation-keeps, allocatePermutation-keeps, addEquation-keeps}
 use Rattle.tickets.proofs.Laws.{setTickets-holds}
+use Rattle.history.proofs.Along.{along-kept}
 use Rattle.history.specs.Ledger.{Ledger}
 use Rattle.history.specs.Calls.{Call, Allocate, Set, SetList, Record, Mint, Equate, Tickets, State, answer, after, fresh, firstOutcome, ledger, firstLedger, noted, log, final, ledgerOf}
 
@@ -76,5 +77,4 @@ module _ (w : ℕ) (s : State) (l : Ledger) (i : Agrees w s l) where
 
 -- every list of calls
 pub keeps-all : (w : ℕ) (cs : List Call) (s : State) (l : Ledger) → Agrees w s l → Agrees w (final s cs) (ledgerOf w l (log s cs))
-keeps-all w [] s l i = i
-keeps-all w (c ∷ cs) s l i = keeps-all w cs (after s c) (noted w l c (answer s c)) (keeps w s l i c)
+keeps-all w = along-kept answer after (noted w) (Agrees w) (λ c s l i. keeps w s l i c)

@@ -1,3 +1,4 @@
+pub mod Along
 pub mod Outcomes
 pub mod Accepted
 pub mod Sums

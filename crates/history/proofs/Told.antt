@@ -3,7 +3,7 @@
 use Prim.Native.Nat.{ℕ, zero, suc}
 use mathlib.Core.Path.{_≡_, refl, sym, ap, _∙_}
 use mathlib.Core.Bool.{true}
-use mathlib.Core.List.{List, [], _∷_}
+use mathlib.Core.List.{List}
 use lib.ListN.{length}
 use Rattle.limits.specs.Questions.{Question, firstNo}
 use Rattle.expr.specs.Weighted.{termsOf}
@@ -28,6 +28,7 @@ use Rattle.history.specs.Calls.{Call, Allocate, Set, SetList, Record, Mi
 use Rattle.history.specs.Left.{leftWith, left}
 use Rattle.history.specs.Demand.{Accepted, takesVars, Told, AllTold}
 use Rattle.history.proofs.Lengths.{lengths-kept}
+use Rattle.history.proofs.Along.{along-told}
 use Rattle.history.proofs.Keeps.{Agrees, keeps}
 
 -- ---- an allocation's outcome
@@ -93,5 +94,4 @@ module _ (w : ℕ) (s : State) (l : Ledger) (i : Agrees w s l) where
 
 -- every list of calls
 pub told-all : (w : ℕ) (cs : List Call) (s : State) (l : Ledger) → Agrees w s l → AllTold w s l cs
-told-all w [] s l i = tt
-told-all w (c ∷ cs) s l i = (told w s l i c, told-all w cs (after s c) (noted w l c (answer s c)) (keeps w s l i c))
+told-all w = along-told answer after (noted w) (Agrees w) (λ c s l i. keeps w s l i c) (Told w) (λ c s l i. told w s l i c)

@@ -24,6 +24,7 @@ use Rattle.permutation.specs.declared.SetVars.{SetVars}
 use Rattle.tickets.specs.Lines.{linesOf, linePair}
 use Rattle.tickets.specs.Tickets.{setTicketsAsksWith, setTickets, setTicketsSlots}
 use Rattle.tickets.specs.declared.SetTickets.{SetTickets}
+use Rattle.history.specs.Along.{Logged, logBy, leftBy, ledgerBy}
 use Rattle.history.specs.Ledger.{Ledger}
 
 -- the calls of document 01's list: allocate, set, set list, record, mint, equation; and 02's tickets (R-1)
@@ -179,21 +180,17 @@ noted w l (Tickets text) a =
 
 -- ---- a list of calls: what was called and answered, what is left at the end, and the ledger of it
 -- one call, and what it was answered
-pub record Entry : Type 0 where
-  pub called : Call
-  pub answered : Answer
+abbrev pub Entry : Type 0
+Entry = Logged Call Answer
 
 -- the calls in order, each with its answer on the state that the calls before it left
 abbrev pub log : State → List Call → List Entry
-log s [] = []
-log s (c ∷ cs) = record { called = c; answered = answer s c } ∷ log (after s c) cs
+log = logBy answer after
 
 -- what is left after every call, each on what the last one left
 abbrev pub final : State → List Call → State
-final s [] = s
-final s (c ∷ cs) = final (after s c) cs
+final = leftBy after
 
 -- the ledger after all entries, from calls and answers alone
 abbrev pub ledgerOf : ℕ → Ledger → List Entry → Ledger
-ledgerOf w l [] = l
-ledgerOf w l (e ∷ es) = ledgerOf w (noted w l (e .called) (e .answered)) es
+ledgerOf w = ledgerBy (noted w)

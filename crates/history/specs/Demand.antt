@@ -4,7 +4,7 @@ use Prim.Native.Nat.{ℕ, _+_, _≤_, _<_}
 use mathlib.Core.Path.{_≡_}
 use mathlib.Core.Bool.{Bool, true, false}
 use mathlib.Core.Logic.{_↔_}
-use mathlib.Core.List.{List, [], _∷_, _++_}
+use mathlib.Core.List.{List, _∷_, _++_}
 use mathlib.Core.Option.{none}
 use Rattle.limits.specs.Questions.{firstNo}
 use Rattle.limits.specs.Outcome.{outcomeOf}
@@ -16,6 +16,7 @@ use Rattle.allocator.specs.Values.{Values}
 use Rattle.expr.specs.Equation.{Term, Equation}
 use Rattle.instance.specs.Parts.{Parts, pairVars}
 use Rattle.validity.specs.Check.{termsNo, equationNo, carried}
+use Rattle.history.specs.Along.{Along}
 use Rattle.history.specs.Ledger.{Ledger, known}
 use Rattle.history.specs.Sat.{Sat}
 use Rattle.history.specs.Calls.{Call, Allocate, Set, SetList, Record, Mint, Equate, Tickets, State, lengthsOf, asks, answer, after, noted}
@@ -54,8 +55,7 @@ pub record Told (w : ℕ) (s : State) (l : Ledger) (c : Call) : Type 0 where
 
 -- call by call
 abbrev pub AllTold : ℕ → State → Ledger → List Call → Type 0
-AllTold w s l [] = Unit {0}
-AllTold w s l (c ∷ cs) = Told w s l c × AllTold w (after s c) (noted w l c (answer s c)) cs
+AllTold w = Along answer after (noted w) (Told w)
 
 -- ---- the check
 -- accepted, or refused with a number from lo to hi

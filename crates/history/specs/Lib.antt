@@ -1,3 +1,4 @@
+pub mod Along
 pub mod Ledger
 pub mod Sat
 pub mod Calls

@@ -2,13 +2,14 @@
 -- theorem says of calls made in turn. Assumes nothing.
 use Prim.Native.Nat.{ℕ}
 use mathlib.Core.Path.{_≡_}
-use mathlib.Core.List.{List, [], _∷_, _++_, map}
+use mathlib.Core.List.{List, [], _∷_, _++_}
 use lib.ListN.{getD, set}
 use Rattle.limits.specs.Questions.{pick}
 use Rattle.limits.specs.Outcome.{isAccepted}
 use Rattle.sharing.specs.declared.VarAllocator.{VarAllocator}
 use Rattle.sharing.specs.declared.SharedRelation.{SharedRelation}
 use Rattle.sharing.specs.declared.Opened.{Opened}
+use Rattle.history.specs.Along.{PerformsBy, PerformedBy, calledIn}
 use Rattle.history.specs.Calls.{Call, Answer}
 use Rattle.shared_history.specs.Calls.{OwnState, SharedState, SharedCall, Open, On, sharedAnswer, sharedAfter, SharedEntry, sharedLedgerOf}
 use Rattle.shared_history.specs.Whole.{beginLedger, sharedLast, sharedLedger, SharedWhole}
@@ -23,9 +24,8 @@ own m queries equations = record { relation = m; queries = queries; equations = 
 
 -- ---- one call
 -- the call answers x and leaves q, as the theorem's list has it
-pub record SharedPerforms (p : SharedState) (c : SharedCall) (x : Answer) (q : SharedState) : Type 0 where
-  pub answers : sharedAnswer p c ≡ x
-  pub leaves : sharedAfter p c ≡ q
+abbrev pub SharedPerforms : SharedState → SharedCall → Answer → SharedState → Type 0
+SharedPerforms = PerformsBy sharedAnswer sharedAfter
 
 -- a call on relation r, which has the record m and these stores, answers x and leaves the relation with another record
 -- and other stores: whatever the others have, and for a number that isn't opened too
@@ -47,12 +47,11 @@ Opens width quota x a slots slots′ =
 -- ---- calls made in turn
 -- from p to q, each on what the one before it left, with what each answered
 abbrev pub SharedPerformed : SharedState → List SharedEntry → SharedState → Type 0
-SharedPerformed p [] q = p ≡ q
-SharedPerformed p (e ∷ es) q = (u : SharedState) × SharedPerforms p (e .called) (e .answered) u × SharedPerformed u es q
+SharedPerformed = PerformedBy sharedAnswer sharedAfter
 
 -- the calls of the entries
 abbrev pub sharedCallsOf : List SharedEntry → List SharedCall
-sharedCallsOf es = map (λ (e : SharedEntry). e .called) es
+sharedCallsOf = calledIn
 
 -- the theorem speaks of them: of these calls after a first opening, what they came to, and the ledger of what they
 -- answered

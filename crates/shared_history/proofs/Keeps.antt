@@ -25,6 +25,7 @@ use Rattle.sharing.proofs.Answered.{opens-yes}
 use Rattle.history.specs.Ledger.{Ledger}
 use Rattle.history.specs.Calls.{Call, Allocate, Set, SetList, Record, Mint, Equate, Tickets, lengthsOf, Answer, answer, after, noted}
 use Rattle.history.specs.Demand.{Accepted}
+use Rattle.history.proofs.Along.{along-kept}
 use Rattle.history.proofs.Outcomes.{accepted-no}
 use Rattle.history.proofs.Keeps.{keeps}
 use Rattle.shared_history.specs.Calls.{OwnState, SharedState, SharedCall, Open, On, ownAt, seen, sharesOf, wiresOf, taken, frontNo, refusedWith, sharedAnswer, ownAfter, actedOn, sharedAfter, OwnLedger, SharedLedger, newOwnLedger, firstShared, ownLedgerAt, judgedOn, ownLedgerAfter, sharedNoted, sharedFinal, sharedLog, sharedLedgerOf}
@@ -275,5 +276,4 @@ keeps-call (Open width quota queries equations) p l st = keeps-open p width quot
 keeps-call (On r stray c) p l st = keeps-on p l st r stray c
 
 pub keeps-calls : (cs : List SharedCall) (p : SharedState) (l : SharedLedger) → Stands p l → Stands (sharedFinal p cs) (sharedLedgerOf l (sharedLog p cs))
-keeps-calls [] p l st = st
-keeps-calls (c ∷ cs) p l st = keeps-calls cs (sharedAfter p c) (sharedNoted l c (sharedAnswer p c)) (keeps-call c p l st)
+keeps-calls = along-kept sharedAnswer sharedAfter sharedNoted Stands keeps-call

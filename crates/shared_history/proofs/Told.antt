@@ -25,12 +25,13 @@ use Rattle.sharing.proofs.Numbers.{some-opened}
 use Rattle.history.specs.Calls.{Call, Lengths, lengthsOf, asksWith, frontAsks, Answer, answer, after}
 use Rattle.history.specs.Left.{leftWith}
 use Rattle.history.specs.Demand.{Accepted, takesVars}
+use Rattle.history.proofs.Along.{along-told}
 use Rattle.history.proofs.Outcomes.{past-yes, past-fits, then}
 use Rattle.history.proofs.Lengths.{lengths-kept}
 use Rattle.history.proofs.Told.{by-questions, number-left, told}
 use Rattle.shared_history.specs.Calls.{OwnState, SharedState, SharedCall, Open, On, ownAt, seen, sharesOf, lengthsFor, taken, frontNo, refusedWith, sharedAsks, sharedAnswer, ownAfter, actedOn, sharedAfter, SharedLedger, ownLedgerAt, judgedOn, sharedNoted}
 use Rattle.shared_history.specs.Left.{allocatorBy, sharedLeft}
-use Rattle.shared_history.specs.Demand.{FirstIs, AllSharedTold}
+use Rattle.shared_history.specs.Demand.{FirstIs, SharedTold, AllSharedTold}
 use Rattle.shared_history.proofs.Lists.{getD-past, set-keeps}
 use Rattle.shared_history.proofs.Fronts.{rest, outcome-on, asks-front, asks-settled}
 use Rattle.shared_history.proofs.Stands.{Stands, opened-in, own-at, agrees}
@@ -182,14 +183,14 @@ module _ (p : SharedState) (l : SharedLedger) (st : Stands p l) where
   by-left (Open width quota queries equations) = left-open p l st width quota queries equations
   by-left (On r stray c) = left-on p l st r stray c
 
+  shared-told : (c : SharedCall) → SharedTold p l c
+  shared-told c =
+      record {
+        answers = record { by-questions = answered p c; by-ledger = by-left c };
+        lengths = lengths-same c;
+        first = first-is c;
+      }
+
 -- every list
 pub told-calls : (cs : List SharedCall) (p : SharedState) (l : SharedLedger) → Stands p l → AllSharedTold p l cs
-told-calls [] p l st = tt
-told-calls (c ∷ cs) p l st = (
-  record {
-    answers = record { by-questions = answered p c; by-ledger = by-left p l st c };
-    lengths = lengths-same p l st c;
-    first = first-is p l st c;
-  },
-  told-calls cs (sharedAfter p c) (sharedNoted l c (sharedAnswer p c)) (keeps-call c p l st),
-)
+told-calls = along-told sharedAnswer sharedAfter sharedNoted Stands keeps-call SharedTold (λ c p l st. shared-told p l st c)

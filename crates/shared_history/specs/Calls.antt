@@ -14,6 +14,7 @@ use Rattle.sharing.specs.Opening.{withAllocatorAsks, withAllocatorNo, withAlloc
 use Rattle.sharing.specs.Answers.{offAllocator, withVars}
 use Rattle.sharing.specs.declared.VarAllocator.{VarAllocator}
 use Rattle.sharing.specs.declared.SharedRelation.{SharedRelation}
+use Rattle.history.specs.Along.{Logged, logBy, leftBy, ledgerBy}
 use Rattle.history.specs.Ledger.{Ledger}
 use Rattle.history.specs.Calls.{Call, Allocate, Set, SetList, Record, Mint, Equate, Tickets, State, state, Lengths, lengthsOf, asksWith, frontAsks, Answer, onAccepted, answer, after, ledger, firstLedger, noted}
 
@@ -178,20 +179,16 @@ sharedNoted l (On r stray c) a =
 -- ---- a list of openings and calls
 -- what is left after every call, each on what the last one left
 abbrev pub sharedFinal : SharedState → List SharedCall → SharedState
-sharedFinal p [] = p
-sharedFinal p (c ∷ cs) = sharedFinal (sharedAfter p c) cs
+sharedFinal = leftBy sharedAfter
 
 -- one call, and what it was answered
-pub record SharedEntry : Type 0 where
-  pub called : SharedCall
-  pub answered : Answer
+abbrev pub SharedEntry : Type 0
+SharedEntry = Logged SharedCall Answer
 
 -- the calls in order, each with its answer on what the calls before it left
 abbrev pub sharedLog : SharedState → List SharedCall → List SharedEntry
-sharedLog p [] = []
-sharedLog p (c ∷ cs) = record { called = c; answered = sharedAnswer p c } ∷ sharedLog (sharedAfter p c) cs
+sharedLog = logBy sharedAnswer sharedAfter
 
 -- the ledger after all entries, from calls and answers alone
 abbrev pub sharedLedgerOf : SharedLedger → List SharedEntry → SharedLedger
-sharedLedgerOf l [] = l
-sharedLedgerOf l (e ∷ es) = sharedLedgerOf (sharedNoted l (e .called) (e .answered)) es
+sharedLedgerOf = ledgerBy sharedNoted

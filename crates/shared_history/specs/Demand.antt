@@ -7,6 +7,7 @@ use lib.ListN.{length}
 use Rattle.limits.specs.Questions.{firstNo}
 use Rattle.words.specs.Store.{All}
 use Rattle.sharing.specs.Shares.{maxRelations}
+use Rattle.history.specs.Along.{Along}
 use Rattle.history.specs.Calls.{lengthsOf}
 use Rattle.history.specs.Demand.{Accepted, Answers, takesVars}
 use Rattle.shared_history.specs.Calls.{OwnState, SharedState, SharedCall, Open, On, ownAt, seen, lengthsFor, sharedAsks, sharedAnswer, sharedAfter, OwnLedger, SharedLedger, sharedNoted}
@@ -39,8 +40,7 @@ pub record SharedTold (p : SharedState) (l : SharedLedger) (c : SharedCall) : Ty
 
 -- call by call
 abbrev pub AllSharedTold : SharedState → SharedLedger → List SharedCall → Type 0
-AllSharedTold p l [] = Unit {0}
-AllSharedTold p l (c ∷ cs) = SharedTold p l c × AllSharedTold (sharedAfter p c) (sharedNoted l c (sharedAnswer p c)) cs
+AllSharedTold = Along sharedAnswer sharedAfter sharedNoted SharedTold
 
 -- wires: in the store there are 1 and what each relation obtained, by the records and by the ledger; each within its
 -- quota; at most 8 relations
