@@ -15,7 +15,7 @@ use Rattle.compile.specs.declared.Compiled.{Compiled}
 use Rattle.sharing.specs.Shares.{shares}
 use Rattle.sharing.specs.declared.VarAllocator.{VarAllocator}
 use Rattle.sharing.specs.declared.SharedRelation.{SharedRelation}
-use Rattle.sharing.proofs.Numbers.{puts-in, Among, among, counting, shown-on}
+use Rattle.sharing.proofs.Numbers.{puts-in, Subsequence, subsequence, counting, shown-on}
 use Rattle.shared_compile.specs.Gate.{compileOnNo, compileOn}
 
 -- 42 is among the questions of the front, and sharing only puts questions in
@@ -23,8 +23,8 @@ module _ (a : VarAllocator) (r : ℕ) (m : SharedRelation) (l : GateLent) where
   pub gate-asked : Puts 42 (ltb r (a .opened)) (compileFront (shares a r m) l)
   gate-asked = search puts-in depth 20
 
-  pub gate-inserted : Among (compileFront alone l) (compileFront (counting a r m true) l)
-  gate-inserted = search among depth 40
+  pub gate-inserted : Subsequence (compileFront alone l) (compileFront (counting a r m true) l)
+  gate-inserted = search subsequence depth 40
 
   pub compileOn-outcome : compileOn (shares a r m) l .outcome ≡ outcomeOf (firstNo (compileAsksWith (shares a r m) l))
   unfolding compileOnNo compileOn compileNo compile

@@ -21,7 +21,7 @@ use Rattle.compile.specs.Gate.{GateLent, lentStoresAsks, lentSoundAsks, madeAsk
 use Rattle.sharing.specs.Shares.{shares}
 use Rattle.sharing.specs.declared.VarAllocator.{VarAllocator}
 use Rattle.sharing.specs.declared.SharedRelation.{SharedRelation}
-use Rattle.sharing.proofs.Numbers.{puts-in, Among, among, counting, is-opened, shown-on}
+use Rattle.sharing.proofs.Numbers.{puts-in, Subsequence, subsequence, counting, is-opened, shown-on}
 use Rattle.history.specs.Calls.{Call, Allocate, Set, SetList, Record, Mint, Equate, Tickets, State, Lengths, lengthsOf, Answer, asksWith, frontAsks}
 
 -- ---- lists of questions
@@ -80,15 +80,15 @@ module _ (a : VarAllocator) (r : ℕ) (m : SharedRelation) (rel : PermutationRel
   asked (Tickets text) = search puts-in depth 20
 
   -- and sharing only puts questions in
-  inserted : (c : Call) → Among (frontAsks alone rel n c) (frontAsks (counting a r m true) rel n c)
+  inserted : (c : Call) → Subsequence (frontAsks alone rel n c) (frontAsks (counting a r m true) rel n c)
   unfolding frontAsks
-  inserted (Allocate x) = search among depth 40
-  inserted (Set p) = search among depth 40
-  inserted (SetList vars values) = search among depth 40
-  inserted (Record input output) = search among depth 40
-  inserted (Mint input) = search among depth 40
-  inserted (Equate terms image) = search among depth 40
-  inserted (Tickets text) = search among depth 40
+  inserted (Allocate x) = search subsequence depth 40
+  inserted (Set p) = search subsequence depth 40
+  inserted (SetList vars values) = search subsequence depth 40
+  inserted (Record input output) = search subsequence depth 40
+  inserted (Mint input) = search subsequence depth 40
+  inserted (Equate terms image) = search subsequence depth 40
+  inserted (Tickets text) = search subsequence depth 40
 
   -- let through: the relation is opened
   pub front-opened : (c : Call) → firstNo (frontAsks (shares a r m) rel n c) ≡ 0 → r < a .opened

@@ -12,6 +12,7 @@ use Rattle.limits.specs.Numbers.{maxWidth}
 use Rattle.words.specs.Store.{All}
 use Rattle.permutation.specs.State.{HoldsSlots}
 use Rattle.recording.specs.State.{HoldsQueries, HoldsEquations}
+use Rattle.sharing.specs.Shares.{maxRelations}
 use Rattle.history.proofs.Keeps.{Agrees}
 use Rattle.shared_history.specs.Calls.{OwnState, SharedState, ownAt, seen, OwnLedger, SharedLedger, newOwnLedger, ownLedgerAt, judgedOn}
 use Rattle.shared_history.specs.Demand.{obtainedBy, obtainedIn, Counted}
@@ -35,7 +36,7 @@ pub record Stands (p : SharedState) (l : SharedLedger) : Type 0 where
   pub each : Both Own (p .owns) (l .owns)
   pub openedIs : p .allocator .opened ≡ length (p .owns)
   pub least : 1 ≤ p .allocator .opened
-  pub few : p .allocator .opened ≤ 8
+  pub few : p .allocator .opened ≤ maxRelations
   pub sum : p .allocator .vars ≡ 1 + obtainedBy (p .owns)
 
 module _ (p : SharedState) (l : SharedLedger) (st : Stands p l) where

@@ -20,7 +20,7 @@ use Rattle.sharing.specs.Shares.{onAllocator, shares, quotaAsks}
 use Rattle.sharing.specs.Answers.{allocatedOn, allocatedNot}
 use Rattle.sharing.specs.declared.VarAllocator.{VarAllocator}
 use Rattle.sharing.specs.declared.SharedRelation.{SharedRelation}
-use Rattle.sharing.proofs.Numbers.{puts-in, among, front-alone, first-again}
+use Rattle.sharing.proofs.Numbers.{puts-in, subsequence, front-alone, first-again}
 use Rattle.shared_recording.specs.Answers.{allocatePermutationOnNo, mintFrontNo, allocatePermutationOn, allocatePermutationOnSlots, allocatePermutationOnQueries}
 
 -- by whether the quota holds the wires: handed on, or asked to the end
@@ -81,7 +81,7 @@ module _ (a : VarAllocator) (r : ℕ) (m : SharedRelation) (slots len : ℕ) (in
   unfolding allocatePermutationNo
   mint-number z =
       let s = sizes-yes z in
-      let y = front-alone a r m sizes (search puts-in depth 20) (search among depth 40) s in
+      let y = front-alone a r m sizes (search puts-in depth 20) (search subsequence depth 40) s in
       let q : firstNo quota ≡ 0 = join _ _ (ask-yes 43 _ (quota-says z)) refl in
       let n = firstNo-append (mintAsks rel input) quota ∙ ap (λ (k : ℕ). firstNo (mintAsks rel input) ▸ k) q ∙ ▸-zero _ in
       firstNo-append (sizes alone) (mintAsks rel input ++ allocatePermutationRest rel slots len)

@@ -19,7 +19,7 @@ use Rattle.sharing.specs.declared.VarAllocator.{VarAllocator}
 use Rattle.sharing.specs.declared.SharedRelation.{SharedRelation}
 use Rattle.sharing.specs.declared.AllocatedOn.{AllocatedOn}
 use Rattle.sharing.specs.declared.RecordedOn.{RecordedOn}
-use Rattle.sharing.proofs.Numbers.{puts-in, among, number-on}
+use Rattle.sharing.proofs.Numbers.{puts-in, subsequence, number-on}
 use Rattle.shared_recording.specs.Answers.{addPermutationOnNo, allocatePermutationOnNo, addEquationOnNo, addPermutationOn, allocatePermutationOn, addEquationOn}
 
 module _ (a : VarAllocator) (r : ℕ) (m : SharedRelation) where
@@ -35,7 +35,7 @@ module _ (a : VarAllocator) (r : ℕ) (m : SharedRelation) where
   unfolding addPermutationOnNo addPermutationNo
   addPermutationOn-number queries input output =
       number-on a r m (λ (g : Sharing). addPermutationFront g x (length queries) input output)
-      (search puts-in depth 20) (search among depth 40)
+      (search puts-in depth 20) (search subsequence depth 40)
       (λ (q : RecordedOn). outcomeNumber (q .outcome)) (addPermutationRest x (length queries) input output) _ _
       (outcome-number (addPermutationNo x (length queries) input output)) refl
 
@@ -45,7 +45,7 @@ module _ (a : VarAllocator) (r : ℕ) (m : SharedRelation) where
   unfolding allocatePermutationOnNo allocatePermutationNo
   allocatePermutationOn-number slots queries input =
       number-on a r m (λ (g : Sharing). allocatePermutationFront g x (length slots) (length queries) input)
-      (search puts-in depth 20) (search among depth 40)
+      (search puts-in depth 20) (search subsequence depth 40)
       (λ (q : AllocatedOn). firstNumber (q .first)) (allocatePermutationRest x (length slots) (length queries)) _ _
       (first-number (allocatePermutationNo x (length slots) (length queries) input) (a .vars)) refl
 
@@ -55,6 +55,6 @@ module _ (a : VarAllocator) (r : ℕ) (m : SharedRelation) where
   unfolding addEquationOnNo addEquationNo
   addEquationOn-number equations terms image =
       number-on a r m (λ (g : Sharing). addEquationFront g x (length equations))
-      (search puts-in depth 20) (search among depth 40)
+      (search puts-in depth 20) (search subsequence depth 40)
       (λ (q : RecordedOn). outcomeNumber (q .outcome)) (addEquationRest x (length equations) terms image) _ _
       (outcome-number (addEquationNo x (length equations) terms image)) refl

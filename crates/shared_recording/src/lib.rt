@@ -101,7 +101,7 @@ fn within_quota(rel: SharedRelation) -> bool
 }
 
 // The number of a mint before it is handed on. Where the quota holds the wires 9, 3 and 5 are left to the mint itself.
-fn allocate_permutation_on_no(
+fn mint_front_no(
     allocator: VarAllocator,
     index: u32,
     rel: SharedRelation,
@@ -135,7 +135,7 @@ pub fn allocate_permutation_on(
         (allocatePermutationOnQueries allocator index rel (now (slots .entry)) (now (queries .entry)) (now (input .entry)))
         r (now (slots .exit)) (now (queries .exit)) ⌝ }
 {
-    let no = allocate_permutation_on_no(allocator, index, rel, slots.len(), queries.len(), input);
+    let no = mint_front_no(allocator, index, rel, slots.len(), queries.len(), input);
     if no != 0 {
         return AllocatedOn {
             first: First::Refused(no),

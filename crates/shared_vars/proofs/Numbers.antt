@@ -24,7 +24,7 @@ use Rattle.sharing.specs.Shares.{onAllocator, shares}
 use Rattle.sharing.specs.declared.VarAllocator.{VarAllocator}
 use Rattle.sharing.specs.declared.SharedRelation.{SharedRelation}
 use Rattle.sharing.specs.declared.AllocatedOn.{AllocatedOn}
-use Rattle.sharing.proofs.Numbers.{puts-in, among, number-on}
+use Rattle.sharing.proofs.Numbers.{puts-in, subsequence, number-on}
 use Rattle.shared_vars.specs.Answers.{relationOnNo, allocateVarsOnNo, setVarsOnNo, isAllocatedOnNo, allocateVarsOn, setVarOn, setVarsOnRun, setTicketsOnRun, valueOfOn, isAllocatedOn}
 
 module _ (a : VarAllocator) (r : ℕ) (m : SharedRelation) where
@@ -40,7 +40,7 @@ module _ (a : VarAllocator) (r : ℕ) (m : SharedRelation) where
   unfolding allocateVarsOnNo allocateVarsNo
   allocateVarsOn-number slots n =
       number-on a r m (λ (g : Sharing). allocateVarsFront g x (length slots) n)
-      (search puts-in depth 20) (search among depth 40)
+      (search puts-in depth 20) (search subsequence depth 40)
       (λ (q : AllocatedOn). firstNumber (q .first)) (roomAsks (a .vars) (length slots) n) _ _
       (first-number (allocateVarsNo x (length slots) n) (a .vars)) refl
 
@@ -49,7 +49,7 @@ module _ (a : VarAllocator) (r : ℕ) (m : SharedRelation) where
   unfolding relationOnNo setVarNo
   setVarOn-number slots p =
       number-on a r m (λ (g : Sharing). relationFront g x (length slots))
-      (search puts-in depth 20) (search among depth 40)
+      (search puts-in depth 20) (search subsequence depth 40)
       outcomeNumber (pairAsks (a .vars) slots p) _ _ (outcome-number (setVarNo x slots p)) refl
 
   -- set list
@@ -58,7 +58,7 @@ module _ (a : VarAllocator) (r : ℕ) (m : SharedRelation) where
   unfolding setVarsOnNo setVarsOnRun
   setVarsOn-number slots vars values =
       number-on a r m (λ (g : Sharing). setVarsFront g x (length slots) vars values)
-      (search puts-in depth 20) (search among depth 40)
+      (search puts-in depth 20) (search subsequence depth 40)
       (λ (q : SetRun). q .number) _ _ _ (setVars-number x slots vars values) refl
 
   -- tickets
@@ -66,7 +66,7 @@ module _ (a : VarAllocator) (r : ℕ) (m : SharedRelation) where
   unfolding relationOnNo setTicketsOnRun
   setTicketsOn-number slots text =
       number-on a r m (λ (g : Sharing). relationFront g x (length slots))
-      (search puts-in depth 20) (search among depth 40)
+      (search puts-in depth 20) (search subsequence depth 40)
       (λ (q : SetRun). q .number) (linesAsks (a .vars) slots text) _ _ (setTickets-number x slots text) refl
 
   -- value of a wire
@@ -74,7 +74,7 @@ module _ (a : VarAllocator) (r : ℕ) (m : SharedRelation) where
   unfolding relationOnNo valueOfNo
   valueOfOn-number slots var =
       number-on a r m (λ (g : Sharing). relationFront g x (length slots))
-      (search puts-in depth 20) (search among depth 40)
+      (search puts-in depth 20) (search subsequence depth 40)
       valueNumber (varAsks var) _ _ (value-number x slots var) refl
 
   -- is it allocated
@@ -82,5 +82,5 @@ module _ (a : VarAllocator) (r : ℕ) (m : SharedRelation) where
   unfolding isAllocatedOnNo isAllocatedNo
   isAllocatedOn-number var =
       number-on a r m (λ (g : Sharing). isAllocatedFront g x)
-      (search puts-in depth 20) (search among depth 40)
+      (search puts-in depth 20) (search subsequence depth 40)
       isAllocatedNumber (varAsks var) _ _ (isAllocated-number x var) refl

@@ -16,6 +16,7 @@ use Rattle.limits.proofs.Questions.{▸-zero, puts-yes}
 use Rattle.limits.proofs.Answered.{outcome-refused, stays-by}
 use Rattle.allocator.specs.Slots.{fitAsks, slotsAsks}
 use Rattle.permutation.specs.Answers.{freshSlots}
+use Rattle.sharing.specs.Shares.{maxRelations}
 use Rattle.sharing.specs.Opening.{withAllocatorAsks, withAllocatorNo, newShared, oneOpened, withAllocator, withAllocatorSlots}
 use Rattle.sharing.specs.Answers.{Does, DoesBoth}
 use Rattle.sharing.specs.declared.VarAllocator.{VarAllocator}
@@ -68,11 +69,11 @@ module _ (n o : ℕ) where
 
 -- ---- an opening
 -- the store has a slot, and there is a number left
-pub record Opens (a : VarAllocator) (len : ℕ) : Type 0 where
+pub record CanOpen (a : VarAllocator) (len : ℕ) : Type 0 where
   pub room : 1 ≤ len
-  pub left : a .opened < 8
+  pub left : a .opened < maxRelations
 
-pub opens-yes : (a : VarAllocator) (width len : ℕ) → withAllocatorNo a width len ≡ 0 → Opens a len
+pub opens-yes : (a : VarAllocator) (width len : ℕ) → withAllocatorNo a width len ≡ 0 → CanOpen a len
 unfolding withAllocatorNo
 opens-yes a width len e =
     let says = puts-yes (withAllocatorAsks a width len) e in

@@ -32,19 +32,19 @@ puts-before (there p) qs = there (puts-before p qs)
 pub ruleset puts-in = (here, there, puts-after, puts-before)
 
 -- the first are among the second, in their order
-pub data Among : List Question → List Question → Type 0 where
-  none : Among [] []
-  kept : {q : Question} {ps qs : List Question} → Among ps qs → Among (q ∷ ps) (q ∷ qs)
-  put-in : {q : Question} {ps qs : List Question} → Among ps qs → Among ps (q ∷ qs)
+pub data Subsequence : List Question → List Question → Type 0 where
+  none : Subsequence [] []
+  kept : {q : Question} {ps qs : List Question} → Subsequence ps qs → Subsequence (q ∷ ps) (q ∷ qs)
+  put-in : {q : Question} {ps qs : List Question} → Subsequence ps qs → Subsequence ps (q ∷ qs)
 
--- found by `search among depth 40`
-pub ruleset among = (none, kept, put-in)
+-- found by `search subsequence depth 40`
+pub ruleset subsequence = (none, kept, put-in)
 
 -- where all say yes, those do
-among-yes : {ps qs : List Question} → Among ps qs → firstNo qs ≡ 0 → firstNo ps ≡ 0
-among-yes none e = e
-among-yes (kept p) e = join _ _ (both _ _ e .0) (among-yes p (both _ _ e .1))
-among-yes (put-in p) e = among-yes p (both _ _ e .1)
+subsequence-yes : {ps qs : List Question} → Subsequence ps qs → firstNo qs ≡ 0 → firstNo ps ≡ 0
+subsequence-yes none e = e
+subsequence-yes (kept p) e = join _ _ (both _ _ e .0) (subsequence-yes p (both _ _ e .1))
+subsequence-yes (put-in p) e = subsequence-yes p (both _ _ e .1)
 
 -- ---- what a call's answer shows, by the number of its front: `shows` takes it from the answer, `of` makes it of a number
 by-front : {A B : Type 0} (shows : A → B) (of : ℕ → B) (k rest : ℕ) (new old : A)
@@ -69,14 +69,14 @@ module _ (a : VarAllocator) (r : ℕ) (m : SharedRelation) where
 
   -- `front` is the front of a call's questions by what sharing puts in; 42 is one of them
   module _ (front : Sharing → List Question) (asked : Puts 42 (ltb r (a .opened)) (front (shares a r m)))
-      (inserted : Among (front alone) (front (counting true))) where
+      (inserted : Subsequence (front alone) (front (counting true))) where
     -- where it says yes everywhere, relation r is opened
     pub is-opened : firstNo (front (shares a r m)) ≡ 0 → r < a .opened
     is-opened e = ltb-true r (a .opened) (puts-yes (front (shares a r m)) e 42 _ tt asked)
 
     -- and a relation alone is let through
     pub front-alone : firstNo (front (shares a r m)) ≡ 0 → firstNo (front alone) ≡ 0
-    front-alone e = among-yes inserted (subst (λ (b : Bool). firstNo (front (counting b)) ≡ 0) (some-opened (is-opened e)) e)
+    front-alone e = subsequence-yes inserted (subst (λ (b : Bool). firstNo (front (counting b)) ≡ 0) (some-opened (is-opened e)) e)
 
     -- what an answer shows by the front: `new` is that of a relation alone, `old` the refusal
     pub shown-on : {A B : Type 0} (shows : A → B) (of : ℕ → B) (rest : List Question) (new old : A)

@@ -17,8 +17,8 @@ use borrow.Author.Needs.{needs}
 use Rattle.shared_recording.proofs.allocate_permutation_on.Statement.{statement}
 use Rattle.shared_recording.proofs.allocate_permutation_on.Tie as tie
 
-allocate-permutation-on-no-requires : tie.Need-allocate-permutation-on-no-requires
-allocate-permutation-on-no-requires c κs = search needs
+mint-front-no-requires : tie.Need-mint-front-no-requires
+mint-front-no-requires c κs = search needs
 
 returns : tie.Need-returns
 returns c =
@@ -27,7 +27,7 @@ returns c =
     let s = now (a .slots) in
     let q = now (a .queries) in
     let i = now (a .input) in
-    let e = c .before .allocate-permutation-on-no .ensures in
+    let e = c .before .mint-front-no .ensures in
     both-refused (allocatePermutationOnNo (a .allocator) (a .index) (a .rel) (length s) (length q) i) _
     (e ∙ mint-refused (a .allocator) (a .index) (a .rel) (length s) (length q) i (λ z. c .if1 .taken (e ∙ z))) (c .if1 .taken)
     (allocatedNot (a .allocator) (a .rel)) (allocatedOn (a .allocator) (a .rel) (allocatePermutation x s q i) (a .rel .obtained + a .rel .width))
@@ -37,7 +37,7 @@ add-more : tie.Need-add-more
 add-more c =
     let b = c .before in
     let a = b .before .before .before .before .before .args in
-    let y = mint-within (a .allocator) (a .index) (a .rel) (length (now (a .slots))) (length (now (a .queries))) (now (a .input)) (sym (b .before .allocate-permutation-on-no .ensures) ∙ b .if1 .left) in
+    let y = mint-within (a .allocator) (a .index) (a .rel) (length (now (a .slots))) (length (now (a .queries))) (now (a .input)) (sym (b .before .mint-front-no .ensures) ∙ b .if1 .left) in
     omega (arith, y, c .struct-known .given)
 
 on-allocator-requires : tie.Need-on-allocator-requires
@@ -63,7 +63,7 @@ returns-2 c =
     let s = now (a .slots) in
     let q = now (a .queries) in
     let i = now (a .input) in
-    let z = sym (b .before .allocate-permutation-on-no .ensures) ∙ b .if1 .left in
+    let z = sym (b .before .mint-front-no .ensures) ∙ b .if1 .left in
     let d = c .before .before .before .before .before .allocate-permutation .ensures in
     let e = c .before .before .before .before .before .before .before .before .on-allocator .ensures in
     let more = a .rel .obtained + a .rel .width in
@@ -80,7 +80,7 @@ pub allocate-permutation-on-spec : {M : Type 1} → statement M
 allocate-permutation-on-spec =
     tie.close
     (tie.spec
-    allocate-permutation-on-no-requires
+    mint-front-no-requires
     returns
     add-more
     on-allocator-requires

@@ -1,4 +1,4 @@
--- `shared_recording::allocate_permutation_on_no` meets its contract: its questions in a row.
+-- `shared_recording::mint_front_no` meets its contract: its questions in a row.
 -- Assumes nothing.
 use Prim.Native.Nat.{_+_}
 use denote.Ref.{now}
@@ -14,8 +14,8 @@ use Rattle.sharing.specs.Shares.{onAllocator, shares, quotaAsks}
 use Rattle.shared_recording.specs.Answers.{mintFrontNo}
 use Rattle.shared_recording.proofs.Answered.{mint-handed-on, mint-over}
 use borrow.Author.Needs.{needs}
-use Rattle.shared_recording.proofs.allocate_permutation_on_no.Statement.{statement}
-use Rattle.shared_recording.proofs.allocate_permutation_on_no.Tie as tie
+use Rattle.shared_recording.proofs.mint_front_no.Statement.{statement}
+use Rattle.shared_recording.proofs.mint_front_no.Tie as tie
 
 mint-sizes-on-requires : tie.Need-mint-sizes-on-requires
 mint-sizes-on-requires c κs = search needs
@@ -50,6 +50,6 @@ returns-2 c =
     ∙ firstNo-append (mintSizes (shares (a .allocator) (a .index) (a .rel)) (onAllocator (a .allocator) (a .rel)) (a .slots) (a .room) (now (a .input)))
     (mintAsks (onAllocator (a .allocator) (a .rel)) (now (a .input)) ++ quotaAsks (a .rel .quota) (a .rel .obtained) (a .rel .width))))
 
-pub allocate-permutation-on-no-spec : {M : Type 1} → statement M
-allocate-permutation-on-no-spec =
+pub mint-front-no-spec : {M : Type 1} → statement M
+mint-front-no-spec =
     tie.close (tie.spec mint-sizes-on-requires within-quota-requires returns asked-half-requires asked-quota-requires returns-2)
