@@ -2,7 +2,7 @@
 // were.
 
 ghost use mathlib.Core.Path.{_≡_};
-ghost use lib.ListN.{length, replicate};
+ghost use lib.ListN.{length};
 ghost use Rattle.limits.specs.Outcome.{outcomeNumber};
 ghost use Rattle.allocator.specs.Slots.{pair};
 ghost use Rattle.allocator.specs.Assign.{Runs};
@@ -15,7 +15,7 @@ ghost use Rattle.sharing.specs.Opening.{withAllocator, withAllocatorSlots};
 ghost use Rattle.sharing.specs.Answers.{Does, DoesBoth};
 ghost use Rattle.shared_vars.specs.Answers.{allocateVarsOn, allocateVarsOnSlots, setVarOn, setVarOnSlots, setVarsOnRun, setTicketsOnRun, valueOfOn, isAllocatedOn};
 ghost use Rattle.shared_recording.specs.Answers.{addPermutationOn, addPermutationOnQueries, allocatePermutationOn, allocatePermutationOnSlots, allocatePermutationOnQueries, addEquationOn, addEquationOnEquations};
-ghost use Rattle.shared_compile.specs.Gate.{compileOn, compilePublicsOn};
+ghost use Rattle.shared_compile.specs.Gate.{CompilesOn};
 ghost use Rattle.sfr.specs.Relation.{tallyOf, ticketTallyOf, valueAnswer, flagOf};
 ghost use Rattle.sfr.specs.Gate.{compiledAnswer};
 ghost use Rattle.sfr.specs.Shared.{openedAnswer, allocatedOnAnswer, recordedOnAnswer};
@@ -296,12 +296,9 @@ pub extern "C" fn sfr_compile_on(
     publics: &mut [u32],
     scratch: &mut [u32],
 ) -> SfrInstanceAnswer
-    ensures { λ r. ⌜ DoesBoth compiledAnswer
-        (compileOn (shares allocator index rel) (gateLent (onAllocator allocator rel) (now (label .entry)) (now (slots .entry)) (now (queries .entry)) (now (equations .entry))
-        (length (now (publics .entry))) (length (now (scratch .entry)))))
-        (compilePublicsOn (shares allocator index rel) (gateLent (onAllocator allocator rel) (now (label .entry)) (now (slots .entry)) (now (queries .entry)) (now (equations .entry))
-        (length (now (publics .entry))) (length (now (scratch .entry)))))
-        (replicate (length (now (scratch .entry))) 0) r (now (publics .exit)) (now (scratch .exit)) ⌝ }
+    ensures { λ r. ⌜ CompilesOn compiledAnswer (shares allocator index rel)
+        (gateLent (onAllocator allocator rel) (now (label .entry)) (now (slots .entry)) (now (queries .entry)) (now (equations .entry))
+        (length (now (publics .entry))) (length (now (scratch .entry)))) r (now (publics .exit)) (now (scratch .exit)) ⌝ }
 {
     let made = shared_compile::compile_on(
         allocator,

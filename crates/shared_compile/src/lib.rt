@@ -4,12 +4,11 @@
 // everybody's sets and on the relation's own queries and equations. It answers on every input.
 
 ghost use mathlib.Core.Path.{_≡_};
-ghost use lib.ListN.{length, replicate};
+ghost use lib.ListN.{length};
 ghost use Rattle.limits.specs.Outcome.{asIs};
 ghost use Rattle.compile.specs.Gate.{gateLent};
 ghost use Rattle.sharing.specs.Shares.{onAllocator, shares};
-ghost use Rattle.sharing.specs.Answers.{DoesBoth};
-ghost use Rattle.shared_compile.specs.Gate.{compileOnNo, compileOn, compilePublicsOn};
+ghost use Rattle.shared_compile.specs.Gate.{compileOnNo, CompilesOn};
 use compile::Compiled;
 use sharing::SharedRelation;
 use sharing::VarAllocator;
@@ -58,12 +57,9 @@ pub fn compile_on(
     publics: &mut [u32],
     scratch: &mut [u32],
 ) -> Compiled
-    ensures { λ r. ⌜ DoesBoth asIs
-        (compileOn (shares allocator index rel) (gateLent (onAllocator allocator rel) (now (label .entry)) (now (slots .entry)) (now (queries .entry)) (now (equations .entry))
-        (length (now (publics .entry))) (length (now (scratch .entry)))))
-        (compilePublicsOn (shares allocator index rel) (gateLent (onAllocator allocator rel) (now (label .entry)) (now (slots .entry)) (now (queries .entry)) (now (equations .entry))
-        (length (now (publics .entry))) (length (now (scratch .entry)))))
-        (replicate (length (now (scratch .entry))) 0) r (now (publics .exit)) (now (scratch .exit)) ⌝ }
+    ensures { λ r. ⌜ CompilesOn asIs (shares allocator index rel)
+        (gateLent (onAllocator allocator rel) (now (label .entry)) (now (slots .entry)) (now (queries .entry)) (now (equations .entry))
+        (length (now (publics .entry))) (length (now (scratch .entry)))) r (now (publics .exit)) (now (scratch .exit)) ⌝ }
 {
     let no = compile_on_no(
         allocator,

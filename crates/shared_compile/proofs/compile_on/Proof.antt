@@ -40,9 +40,9 @@ returns c =
     let n = compileOnNo (shares (a .allocator) (a .index) (a .rel)) l in
     let e = b .before .compile-on-no .ensures in
     record {
-      answers = c .refused .ensures ∙ refused-by refusedBy (compile l) n _ e (b .if1 .taken);
-      leaves = c .before .before .before .before .before .before .before .fill .ensures ∙ refused-by (λ j. replicate (length (now (a .publics))) 0) (compilePublics l) n _ e (b .if1 .taken);
-      leaves-too = c .before .before .before .fill2 .ensures;
+      answer = c .refused .ensures ∙ refused-by refusedBy (compile l) n _ e (b .if1 .taken);
+      publics = c .before .before .before .before .before .before .before .fill .ensures ∙ refused-by (λ j. replicate (length (now (a .publics))) 0) (compilePublics l) n _ e (b .if1 .taken);
+      scratch = c .before .before .before .fill2 .ensures;
     }
 
 on-allocator-requires : tie.Need-on-allocator-requires
@@ -70,10 +70,10 @@ returns-2 c =
     let d = c .before .before .before .before .compile .ensures in
     let o = c .before .before .before .before .before .before .before .on-allocator .ensures in
     record {
-      answers = d .answer ∙ ap (λ (y : PermutationRelation). compile (lent y)) o ∙ through-by (compile l) (refusedBy n) n _ e (b .if1 .left);
-      leaves = d .publics ∙ ap (λ (y : PermutationRelation). compilePublics (lent y)) o
+      answer = d .answer ∙ ap (λ (y : PermutationRelation). compile (lent y)) o ∙ through-by (compile l) (refusedBy n) n _ e (b .if1 .left);
+      publics = d .publics ∙ ap (λ (y : PermutationRelation). compilePublics (lent y)) o
           ∙ through-by (compilePublics l) (replicate (length (now (a .publics))) 0) n _ e (b .if1 .left);
-      leaves-too = d .scratch;
+      scratch = d .scratch;
     }
 
 pub compile-on-spec : {M : Type 1} → statement M

@@ -22,9 +22,9 @@ returns : tie.Need-returns
 returns c =
     let r = c .before .before .before .before .before .before .compile-on .ensures in
     record {
-      answers = rw (c .outcome-no .ensures) (ap compiledAnswer (r .answers));
-      leaves = r .leaves;
-      leaves-too = r .leaves-too;
+      answer = rw (c .outcome-no .ensures) (ap compiledAnswer (r .answer));
+      publics = r .publics;
+      scratch = r .scratch;
     }
 
 pub sfr-compile-on-spec : {M : Type 1} → statement M
