@@ -18,6 +18,10 @@ use Rattle.expr.specs.declared.Weighted.{Weighted}
 use Rattle.permutation.specs.Numbers.{allocateVarsNo, setVarNo, setVarsNo}
 use Rattle.permutation.specs.Answers.{relation, setVarsRun}
 use Rattle.recording.specs.Numbers.{addPermutationNo, allocatePermutationNo, addEquationNo}
+use Rattle.ticket.specs.Form.{ticketLine, readLine}
+use Rattle.ticket.specs.Steps.{gramsToSteps}
+use Rattle.tickets.specs.Lines.{linesOf, lineNo}
+use Rattle.tickets.specs.Tickets.{setTicketsRun}
 use Rattle.permute.specs.Permute.{addConstants, raise, timesMatrix, runRound, runRounds}
 use Rattle.permute.specs.Parameters.{roundsOf, rowsOf, parametersOf, soundKinds, unitConstants, unitRows, soundParameters, permuteNo, sameWords, isEvaluation}
 use Rattle.instance.specs.Parts.{partsOf}
@@ -38,7 +42,7 @@ use Rattle.decoding.specs.Answers.{instanceFromBytes, witnessFromBytes}
 use Rattle.sharing.specs.Opening.{withAllocatorNo, newShared}
 use Rattle.shared_compile.specs.Gate.{compileOnNo, compileOn, compilePublicsOn}
 use Rattle.history.specs.Sat.{Sat, Evaluates}
-use Rattle.history.specs.Calls.{Allocate, Set, SetList, Record, Mint, Equate, frontAsks, answer, after, noted}
+use Rattle.history.specs.Calls.{Allocate, Set, SetList, Record, Mint, Equate, Tickets, frontAsks, answer, after, noted}
 use Rattle.history.specs.Whole.{FileLent, TraceLent}
 use Rattle.history.proofs.Outcomes.{accepted-no}
 use Rattle.shared_history.specs.Calls.{OwnState, SharedState, SharedCall, Open, On, ownAt, frontNo, sharedAnswer, sharedAfter, SharedLedger, ownLedgerAt, judgedOn, sharedNoted, sharedFinal, SharedEntry, sharedLog}
@@ -72,12 +76,13 @@ abbrev calls : List SharedCall
 calls =
     On 1 (stray 25) (Allocate 0)
     ∷ On 1 (stray 1) (Allocate 1073741824)
+    ∷ On 1 (stray 1) (Tickets (32 ∷ []))
     ∷ Open 25 9 [] []
     ∷ Open 2 2 (9 ∷ 9 ∷ 9 ∷ 9 ∷ []) []
     ∷ On 0 (stray 1) (Allocate 1073741824)
     ∷ On 0 (stray 1) (Allocate 8)
     ∷ On 0 (stray 1) (Allocate 2)
-    ∷ On 1 (stray 1) (Set (pair 2 5))
+    ∷ On 1 (stray 1) (Tickets (ticketLine (record { wire = 2; grams = 249 })))
     ∷ On 0 (stray 1) (Set (pair 2 6))
     ∷ On 1 (stray 1) (Mint (1 ∷ 2 ∷ []))
     ∷ On 1 (stray 1) (SetList (3 ∷ 2 ∷ []) (7 ∷ 6 ∷ []))
@@ -95,19 +100,19 @@ first-accepted : sharedAnswer (noneOpened 77 slots 1 3 queries equations calls) 
 unfolding ask _▸_ withAllocatorNo sharedAnswer
 first-accepted = refl
 
--- 1 before 42; 42 before 5; 1 of an opening; 5 before 43; 43 before 6; 8 by another's set; a set list whose first pair stays;
+-- 1 before 42; 42 before 5 and before a ticket's 40; 1 of an opening; 5 before 43; 43 before 6; 8 by another's ticket; a set list whose first pair stays;
 -- 9 before 43; 43 of a mint; 0 wires with the quota used up; a mint that 10 refuses takes nothing, so one wire more is within
 -- the quota, and then none
 outcomes : map (λ (e : SharedEntry). e .answered .outcome) (sharedLog (sharedBegin 77 slots 1 3 queries equations calls) calls)
-    ≡ Refused 1 ∷ Refused 42 ∷ Refused 1 ∷ Accepted ∷ Refused 5 ∷ Refused 43 ∷ Accepted ∷ Accepted ∷ Refused 8 ∷ Accepted ∷ Refused 8 ∷ Refused 9
+    ≡ Refused 1 ∷ Refused 42 ∷ Refused 42 ∷ Refused 1 ∷ Accepted ∷ Refused 5 ∷ Refused 43 ∷ Accepted ∷ Accepted ∷ Refused 8 ∷ Accepted ∷ Refused 8 ∷ Refused 9
     ∷ Refused 43 ∷ Accepted ∷ Accepted ∷ Refused 10 ∷ Accepted ∷ Refused 43 ∷ Accepted ∷ []
-unfolding ask _▸_ withAllocatorNo frontAsks frontNo allocateVarsNo setVarNo setVarsNo addPermutationNo allocatePermutationNo addEquationNo pairNo setItems setVarsRun allBelow answer after sharedAnswer sharedAfter
+unfolding ask _▸_ withAllocatorNo frontAsks frontNo allocateVarsNo setVarNo setVarsNo addPermutationNo allocatePermutationNo addEquationNo pairNo setItems setVarsRun ticketLine gramsToSteps readLine linesOf lineNo setTicketsRun allBelow answer after sharedAnswer sharedAfter
 outcomes = refl
 
 -- the relation's number, and first wires of one count for all
 firsts : map (λ (e : SharedEntry). e .answered .first) (sharedLog (sharedBegin 77 slots 1 3 queries equations calls) calls)
-    ≡ 0 ∷ 0 ∷ 0 ∷ 1 ∷ 0 ∷ 0 ∷ 1 ∷ 0 ∷ 0 ∷ 3 ∷ 0 ∷ 0 ∷ 0 ∷ 5 ∷ 0 ∷ 0 ∷ 5 ∷ 0 ∷ 0 ∷ []
-unfolding ask _▸_ withAllocatorNo frontAsks frontNo allocateVarsNo setVarNo setVarsNo addPermutationNo allocatePermutationNo addEquationNo pairNo setItems setVarsRun allBelow answer after sharedAnswer sharedAfter
+    ≡ 0 ∷ 0 ∷ 0 ∷ 0 ∷ 1 ∷ 0 ∷ 0 ∷ 1 ∷ 0 ∷ 0 ∷ 3 ∷ 0 ∷ 0 ∷ 0 ∷ 5 ∷ 0 ∷ 0 ∷ 5 ∷ 0 ∷ 0 ∷ []
+unfolding ask _▸_ withAllocatorNo frontAsks frontNo allocateVarsNo setVarNo setVarsNo addPermutationNo allocatePermutationNo addEquationNo pairNo setItems setVarsRun ticketLine gramsToSteps readLine linesOf lineNo setTicketsRun allBelow answer after sharedAnswer sharedAfter
 firsts = refl
 
 -- one count and one list of sets; queries of 2 and of 4 cells
@@ -120,7 +125,7 @@ ledger-is : sharedLedger 77 slots 1 3 queries equations calls
           ∷ record { width = 2; quota = 2; obtained = 2; queries = (1 ∷ 2 ∷ 3 ∷ 4 ∷ []) ∷ []; equations = [] }
           ∷ [];
     }
-unfolding ask _▸_ withAllocatorNo frontAsks frontNo allocateVarsNo setVarNo setVarsNo addPermutationNo allocatePermutationNo addEquationNo pairNo setItems setVarsRun allBelow answer after noted sharedAnswer sharedAfter sharedNoted
+unfolding ask _▸_ withAllocatorNo frontAsks frontNo allocateVarsNo setVarNo setVarsNo addPermutationNo allocatePermutationNo addEquationNo pairNo setItems setVarsRun ticketLine gramsToSteps readLine linesOf lineNo setTicketsRun allBelow answer after noted sharedAnswer sharedAfter sharedNoted
 ledger-is = refl
 
 -- a ninth opening
@@ -134,12 +139,12 @@ abbrev at-gate : SharedState
 at-gate = sharedLast 77 slots 1 3 queries equations calls
 
 two-opened : at-gate .allocator .opened ≡ 2
-unfolding ask _▸_ withAllocatorNo frontAsks frontNo allocateVarsNo setVarNo setVarsNo addPermutationNo allocatePermutationNo addEquationNo pairNo setItems setVarsRun allBelow answer after sharedAnswer sharedAfter
+unfolding ask _▸_ withAllocatorNo frontAsks frontNo allocateVarsNo setVarNo setVarsNo addPermutationNo allocatePermutationNo addEquationNo pairNo setItems setVarsRun ticketLine gramsToSteps readLine linesOf lineNo setTicketsRun allBelow answer after sharedAnswer sharedAfter
 two-opened = refl
 
 -- six wires, three publics, one query, one equation of four words
 gate-0 : gateOn at-gate 0 (ownAt at-gate 0 (stray 1)) [] publics scratch .answer ≡ record { outcome = Accepted; instance = instanceOf (relation 1 6 1 1 4) 3 }
-unfolding ask _▸_ withAllocatorNo frontAsks frontNo allocateVarsNo setVarNo setVarsNo addPermutationNo allocatePermutationNo addEquationNo pairNo setItems setVarsRun allBelow answer after sharedAnswer sharedAfter compiledParts publicsOf equationAt sizeAt equationsSound slotsSound follow isUtf8 compileNo compile validatedNo gateNo compileOnNo compileOn
+unfolding ask _▸_ withAllocatorNo frontAsks frontNo allocateVarsNo setVarNo setVarsNo addPermutationNo allocatePermutationNo addEquationNo pairNo setItems setVarsRun ticketLine gramsToSteps readLine linesOf lineNo setTicketsRun allBelow answer after sharedAnswer sharedAfter compiledParts publicsOf equationAt sizeAt equationsSound slotsSound follow isUtf8 compileNo compile validatedNo gateNo compileOnNo compileOn
 gate-0 = refl
 
 gate-accepted : gateOn at-gate 0 (ownAt at-gate 0 (stray 1)) [] publics scratch .answer .outcome ≡ Accepted
@@ -168,7 +173,7 @@ Sat0 trace = Sat (Evaluates 1 (parametersOf 1 1 params)) (judgedOn ledger-at (ow
 -- everybody's sets with relation 0's query and equation are satisfied by the trace (2, 5): the equation's wire has no value
 -- but the one that relation 1 gave it
 pub satisfied : Sat0 ((2 ∷ 5 ∷ []) ∷ [])
-unfolding ask _▸_ withAllocatorNo frontAsks frontNo allocateVarsNo setVarNo setVarsNo addPermutationNo allocatePermutationNo addEquationNo pairNo setItems setVarsRun allBelow answer after sharedAnswer sharedAfter sharedNoted noted compiledParts publicsOf equationAt sizeAt equationsSound slotsSound follow isUtf8 compileNo compile validatedNo gateNo compileOnNo compileOn compilePublicsOn compilePublics publicsSound partsOf checkNo isWitnessValidNo isEvaluation permuteNo soundParameters roundsOf rowsOf soundKinds unitConstants unitRows sameWords runRounds runRound addConstants raise timesMatrix addUnit mulUnit seventh dotUnits instanceToBytesNo instanceBytes headerBytes u32Bytes instanceFromBytes readInstance readFile readHeader readMagic readLabel readParts readPublics readQueries readEquations word part below witnessToBytesNo witnessBytes witnessFromBytes readWitness readSteps
+unfolding ask _▸_ withAllocatorNo frontAsks frontNo allocateVarsNo setVarNo setVarsNo addPermutationNo allocatePermutationNo addEquationNo pairNo setItems setVarsRun ticketLine gramsToSteps readLine linesOf lineNo setTicketsRun allBelow answer after sharedAnswer sharedAfter sharedNoted noted compiledParts publicsOf equationAt sizeAt equationsSound slotsSound follow isUtf8 compileNo compile validatedNo gateNo compileOnNo compileOn compilePublicsOn compilePublics publicsSound partsOf checkNo isWitnessValidNo isEvaluation permuteNo soundParameters roundsOf rowsOf soundKinds unitConstants unitRows sameWords runRounds runRound addConstants raise timesMatrix addUnit mulUnit seventh dotUnits instanceToBytesNo instanceBytes headerBytes u32Bytes instanceFromBytes readInstance readFile readHeader readMagic readLabel readParts readPublics readQueries readEquations word part below witnessToBytesNo witnessBytes witnessFromBytes readWitness readSteps
 satisfied =
     shared-whole 77 slots 1 3 queries equations calls first-accepted .judged 0 (omega (arith, two-opened)) (stray 1) going-on ((λ e. absurd (omega (arith, e))), (tt, tt))
     .gated [] publics scratch gate-accepted .files lentFile
@@ -177,7 +182,7 @@ satisfied =
 
 -- and not by (3, 640), whose check is 33: relation 1 set wire 2 to 5, and nothing else is against it
 pub unsatisfied : Sat0 ((3 ∷ 640 ∷ []) ∷ []) → ⊥
-unfolding ask _▸_ withAllocatorNo frontAsks frontNo allocateVarsNo setVarNo setVarsNo addPermutationNo allocatePermutationNo addEquationNo pairNo setItems setVarsRun allBelow answer after sharedAnswer sharedAfter sharedNoted noted compiledParts publicsOf equationAt sizeAt equationsSound slotsSound follow isUtf8 compileNo compile validatedNo gateNo compileOnNo compileOn compilePublicsOn compilePublics publicsSound partsOf checkNo isWitnessValidNo isEvaluation permuteNo soundParameters roundsOf rowsOf soundKinds unitConstants unitRows sameWords runRounds runRound addConstants raise timesMatrix addUnit mulUnit seventh dotUnits instanceToBytesNo instanceBytes headerBytes u32Bytes instanceFromBytes readInstance readFile readHeader readMagic readLabel readParts readPublics readQueries readEquations word part below witnessToBytesNo witnessBytes witnessFromBytes readWitness readSteps
+unfolding ask _▸_ withAllocatorNo frontAsks frontNo allocateVarsNo setVarNo setVarsNo addPermutationNo allocatePermutationNo addEquationNo pairNo setItems setVarsRun ticketLine gramsToSteps readLine linesOf lineNo setTicketsRun allBelow answer after sharedAnswer sharedAfter sharedNoted noted compiledParts publicsOf equationAt sizeAt equationsSound slotsSound follow isUtf8 compileNo compile validatedNo gateNo compileOnNo compileOn compilePublicsOn compilePublics publicsSound partsOf checkNo isWitnessValidNo isEvaluation permuteNo soundParameters roundsOf rowsOf soundKinds unitConstants unitRows sameWords runRounds runRound addConstants raise timesMatrix addUnit mulUnit seventh dotUnits instanceToBytesNo instanceBytes headerBytes u32Bytes instanceFromBytes readInstance readFile readHeader readMagic readLabel readParts readPublics readQueries readEquations word part below witnessToBytesNo witnessBytes witnessFromBytes readWitness readSteps
 unsatisfied s =
     let z : _≡_ {A = ℕ} 33 0 = accepted-no 33
     (shared-whole 77 slots 1 3 queries equations calls first-accepted .judged 0 (omega (arith, two-opened)) (stray 1) going-on ((λ e. absurd (omega (arith, e))), (tt, tt))
@@ -210,6 +215,6 @@ counted = shared-whole 77 slots 1 3 queries equations taking first-accepted .cou
 
 -- the gate of a third
 pub not-opened-42 : gateOn at-gate 2 (stray 1) [] publics scratch .answer .outcome ≡ Refused 42
-unfolding ask _▸_ withAllocatorNo frontAsks frontNo allocateVarsNo setVarNo setVarsNo addPermutationNo allocatePermutationNo addEquationNo pairNo setItems setVarsRun allBelow answer after noted sharedAnswer sharedAfter sharedNoted
+unfolding ask _▸_ withAllocatorNo frontAsks frontNo allocateVarsNo setVarNo setVarsNo addPermutationNo allocatePermutationNo addEquationNo pairNo setItems setVarsRun ticketLine gramsToSteps readLine linesOf lineNo setTicketsRun allBelow answer after noted sharedAnswer sharedAfter sharedNoted
 not-opened-42 =
     shared-whole 77 slots 1 3 queries equations calls first-accepted .not-opened 2 (omega (arith, two-opened)) (stray 1) [] publics scratch .number refl
