@@ -15,10 +15,11 @@ pub record Sharing : Type 0 where
 abbrev pub afterFive : (ℕ → List Question) → Sharing
 afterFive within = record { counted = true; opened = []; within = within }
 
--- a relation that has its wires to itself: nothing is put in
+-- nothing comes there either
 abbrev pub nothing : ℕ → List Question
 nothing n = []
 
+-- a relation that has its wires to itself: nothing is put in
 abbrev pub alone : Sharing
 alone = afterFive nothing
 
