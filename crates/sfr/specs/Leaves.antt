@@ -1,14 +1,20 @@
--- The enums of the crate narg as structs for C: document 01's number, and the values of each case.
--- Assumes nothing.
+-- The answers of the crates utf8 and narg as structs for C: what a scan tells; of narg's enums document 01's number, and the
+-- values of each case. Assumes nothing.
 use Prim.Native.Nat.{ℕ}
+use Rattle.utf8.specs.declared.Utf8Scan.{Utf8Scan}
 use Rattle.narg.specs.declared.Word.{Word}
 use Rattle.narg.specs.declared.Word.the-variants.{Read, Short}
 use Rattle.narg.specs.declared.Put.{Put}
 use Rattle.narg.specs.declared.Put.the-variants.{Written, Full}
 use Rattle.narg.specs.declared.Item.{Item}
 use Rattle.narg.specs.declared.Item.the-variants.{Read as ReadItem, Refused}
+use Rattle.sfr.specs.declared.SfrUtf8Scan.{SfrUtf8Scan}
 use Rattle.sfr.specs.declared.SfrWord.{SfrWord}
 use Rattle.sfr.specs.declared.SfrPlace.{SfrPlace}
+
+-- what a scan tells
+abbrev pub utf8Scanned : Utf8Scan → SfrUtf8Scan
+utf8Scanned r = record { place = r .place; passes = r .passes }
 
 -- this number with this place
 abbrev pub place : ℕ → ℕ → SfrPlace

@@ -9,8 +9,9 @@ ghost use mathlib.Core.Logic.{_↔_};
 ghost use mathlib.Core.Bool.{true};
 ghost use Rattle.baby_bear.specs.Field.{addUnit, mulUnit};
 ghost use Rattle.utf8.specs.Utf8.{isUtf8, Utf8};
+ghost use Rattle.utf8.specs.Place.{FirstBad, scanUtf8};
 ghost use Rattle.narg.specs.Cursor.{readU32, putU32, putU32Out, readUnits, readUnitsOut, readVars, readVarsOut};
-ghost use Rattle.sfr.specs.Leaves.{wordRead, placeWritten, placeRead};
+ghost use Rattle.sfr.specs.Leaves.{utf8Scanned, wordRead, placeWritten, placeRead};
 use baby_bear::BabyBearUnit;
 use narg::Cursor;
 use narg::Item;
@@ -23,6 +24,13 @@ mod relation;
 mod sfri;
 mod shared;
 mod trace;
+
+// The place of the first bad byte, or how many bytes there are where none is bad; and whether the bytes are UTF-8.
+#[repr(C)]
+pub struct SfrUtf8Scan {
+    pub place: usize,
+    pub passes: bool,
+}
 
 // A word that was read: number 0 and the place after it, or 20, value 0 and the place that was given.
 #[repr(C)]
@@ -61,6 +69,20 @@ pub extern "C" fn sfr_is_utf8(bytes: &[u8]) -> bool
     ensures { λ r. ⌜ (r ≡ isUtf8 (now (bytes .entry))) × ((r ≡ true) ↔ Utf8 (now (bytes .entry))) ⌝ }
 {
     utf8::is_utf8(bytes)
+}
+
+// Which byte is the first bad one, and are the bytes UTF-8?
+#[no_mangle]
+pub extern "C" fn sfr_scan_utf8(bytes: &[u8]) -> SfrUtf8Scan
+    ensures { λ r. ⌜ (r ≡ utf8Scanned (scanUtf8 (now (bytes .entry))))
+        × FirstBad (now (bytes .entry)) (r .place)
+        × ((r .passes ≡ true) ↔ Utf8 (now (bytes .entry))) ⌝ }
+{
+    let scan = utf8::scan_utf8(bytes);
+    SfrUtf8Scan {
+        place: scan.place,
+        passes: scan.passes,
+    }
 }
 
 // The little-endian word at a place of the bytes.

@@ -92,6 +92,9 @@ begins-firstRow m ((f ∷ own) ∷ rs) t b r more among w =
           rw (above-fails f b (omega (arith, q .0))) (q .1),
         )
 
+pub row-firstRow : (b : ℕ) (r : Range) (more : List Range) → List·Memᴰ (r ∷ more) rows → Within b r → firstRow rows b ≡ asks more
+row-firstRow b r more among w = begins-firstRow 0 rows ascending b r more among w .1
+
 -- ---- what the test accepts
 nothing : Utf8 []
 unfolding flatten
@@ -160,7 +163,7 @@ character-passes : {c : List ℕ} {row : List Range} → Forall₂ Within c row 
 unfolding follow
 character-passes Forall₂·nil among s = refl
 character-passes (Forall₂·cons {a = b} {b = r} {l₂ = more} w f) among s =
-    rw (begins-firstRow 0 rows ascending b r more among w .1) (fits-passes f s)
+    rw (row-firstRow b r more among w) (fits-passes f s)
 
 characters-pass : (cs : List (List ℕ)) → ((c : List ℕ) → List·Memᴰ c cs → Character c) → follow [] (flatten cs) ≡ true
 unfolding follow flatten

@@ -1,4 +1,5 @@
 pub mod Laws
 pub mod Examples
-pub mod Table
-pub mod Steps
+pub mod Place
+pub mod Window
+pub mod Scan

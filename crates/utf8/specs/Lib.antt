@@ -1,2 +1,3 @@
 pub mod Utf8
+pub mod Place
 pub mod Scan

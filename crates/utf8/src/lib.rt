@@ -1,113 +1,235 @@
-// UTF-8 as RFC 3629 defines it: is a run of bytes a run of characters?
+// UTF-8 as RFC 3629 defines it: is a run of bytes a run of characters, and which byte of it is the first bad one?
 //
-// The nine rows of byte ranges are one constant table. The scan goes byte by byte and keeps what is due:
-// how many bytes the character that has begun still asks, and the range of the next one. It stops at the
-// first byte after which nothing can be UTF-8, and it answers for every input.
+// Bad is a byte after which nothing can be UTF-8. No character has more than four bytes, so a byte and the three
+// before it tell (`fits`), and where all bytes before a place fit, those from it on can be asked many at a time:
+// blocks of bytes below 80, blocks of any bytes, and single ones. The scan ends at the first bad byte, and it
+// answers for every input.
 
 ghost use mathlib.Core.Path.{_≡_};
-ghost use mathlib.Core.Bool.{true};
+ghost use mathlib.Core.Bool.{true, false};
 ghost use mathlib.Core.Logic.{_↔_};
-ghost use mathlib.Core.List.{List, [], _∷_};
-ghost use Prim.Native.Nat.{ℕ};
-ghost use lib.ListN.{replicate};
-ghost use Rattle.utf8.specs.Utf8.{Utf8, tailRange, isUtf8, follow};
-ghost use Rattle.utf8.specs.Scan.{dueRanges, afterStep};
+ghost use Prim.Native.Nat.{_+_, _≤_, _<_};
+ghost use lib.ListN.{length};
+ghost use Rattle.utf8.specs.Utf8.{Utf8, isUtf8};
+ghost use Rattle.utf8.specs.Place.{FirstBad, scanUtf8};
+ghost use Rattle.utf8.specs.Scan.{whole, tailLow, tailHigh, fits, byteBefore, wholeAt, fitsAt, Fit, Ascii};
 
-// How many rows there are.
-const ROW_COUNT: usize = 9;
+// How many bytes of any kind are asked at a time.
+const BLOCK: usize = 16;
 
-// A row: the least and the greatest first byte, the least and the greatest second byte, and how many
-// bytes follow the first. Those after the second are 80 to BF.
-const ROWS: [[u8; 5]; ROW_COUNT] = [
-    [0x00, 0x7f, 0x80, 0xbf, 0],
-    [0xc2, 0xdf, 0x80, 0xbf, 1],
-    [0xe0, 0xe0, 0xa0, 0xbf, 2],
-    [0xe1, 0xec, 0x80, 0xbf, 2],
-    [0xed, 0xed, 0x80, 0x9f, 2],
-    [0xee, 0xef, 0x80, 0xbf, 2],
-    [0xf0, 0xf0, 0x90, 0xbf, 3],
-    [0xf1, 0xf3, 0x80, 0xbf, 3],
-    [0xf4, 0xf4, 0x80, 0x8f, 3],
-];
+// How many bytes before a byte tell whether it fits.
+const BACK: usize = 3;
 
-// What is due: `left` bytes, the next of them from `lo` to `hi`. With nothing left a character may begin.
-struct Due {
-    left: u8,
-    lo: u8,
-    hi: u8,
+// How many bytes below 80 are passed at a time, while there are so many.
+const ASCII_BLOCK: usize = 128;
+
+// What a scan tells: the place of the first bad byte, or how many bytes there are where none is bad, and whether the
+// bytes are UTF-8. Bytes that end inside a character have no bad one and don't pass.
+pub struct Utf8Scan {
+    pub place: usize,
+    pub passes: bool,
 }
 
-// What one byte more leads to: more bytes due, or nothing that could still become UTF-8.
-enum Step {
-    On(Due),
-    Bad,
-}
-
-// `left` bytes from 80 to BF are due.
-fn tails(left: u8) -> Due
-    ensures { λ r. ⌜ dueRanges r ≡ replicate left tailRange ⌝ }
+// After a, b and c, no byte is due: not the fourth of a character, the third or the second.
+fn whole(a: u8, b: u8, c: u8) -> bool
+    ensures { λ r. ⌜ r ≡ whole a b c ⌝ }
 {
-    Due {
-        left,
-        lo: 0x80,
-        hi: 0xbf,
-    }
+    (a < 0xf0) & (b < 0xe0) & (c < 0xc2)
 }
 
-// What is due after a first byte: after one below 80, the most common, nothing; after another what its row
-// says, the first row whose first bytes hold it.
-fn begin(b: u8) -> Step
-    ensures { λ r. ⌜ ((s : List ℕ) → follow [] (b ∷ s) ≡ afterStep r s) ⌝ }
+// The least byte that may follow c, where one is due.
+fn tail_low(c: u8) -> u8
+    ensures { λ r. ⌜ r ≡ tailLow c ⌝ }
 {
-    if b < 0x80 {
-        return Step::On(tails(0));
+    if c == 0xe0 {
+        return 0xa0;
     }
-    let mut i = 0;
-    while i < ROW_COUNT {
-        let row = ROWS[i];
-        if row[0] <= b {
-            if b <= row[1] {
-                return Step::On(Due {
-                    left: row[4],
-                    lo: row[2],
-                    hi: row[3],
-                });
-            }
+    if c == 0xf0 { 0x90 } else { 0x80 }
+}
+
+// The greatest.
+fn tail_high(c: u8) -> u8
+    ensures { λ r. ⌜ r ≡ tailHigh c ⌝ }
+{
+    if c == 0xed {
+        return 0x9f;
+    }
+    if c == 0xf4 { 0x8f } else { 0xbf }
+}
+
+// Does d fit after a, b and c? Where no byte is due it begins a character, else it is from 80 to BF, or in what the
+// rows leave of that. (Both are asked, so that there is no branch.)
+fn fits(a: u8, b: u8, c: u8, d: u8) -> bool
+    ensures { λ r. ⌜ r ≡ fits a b c d ⌝ }
+{
+    let begins = (d < 0x80) | ((0xc2 <= d) & (d <= 0xf4));
+    let goes_on = (tail_low(c) <= d) & (d <= tail_high(c));
+    if whole(a, b, c) { begins } else { goes_on }
+}
+
+// The byte so many places before another; 0 where there is none.
+fn byte_before(bytes: &[u8], at: usize, back: usize) -> u8
+    requires { ⌜ (at ≤ length (now bytes)) × (1 ≤ back) ⌝ }
+    ensures { λ r. ⌜ r ≡ byteBefore (now (bytes .entry)) at back ⌝ }
+{
+    if at < back {
+        return 0;
+    }
+    bytes[at - back]
+}
+
+// Before a place, is no byte due?
+fn whole_at(bytes: &[u8], at: usize) -> bool
+    requires { ⌜ at ≤ length (now bytes) ⌝ }
+    ensures { λ r. ⌜ r ≡ wholeAt (now (bytes .entry)) at ⌝ }
+{
+    whole(
+        byte_before(bytes, at, 3),
+        byte_before(bytes, at, 2),
+        byte_before(bytes, at, 1),
+    )
+}
+
+// From a place on, the first byte before the end that doesn't fit; the end, or the place, where there is none.
+fn singles_end(bytes: &[u8], at: usize, end: usize) -> usize
+    requires { ⌜ (at ≤ length (now bytes)) × (end ≤ length (now bytes)) ⌝ }
+    ensures { λ r. ⌜ (at ≤ r) × (r ≤ length (now (bytes .entry))) × Fit (now (bytes .entry)) at r
+        × (r < end → fitsAt (now (bytes .entry)) r ≡ false) ⌝ }
+{
+    let mut a = byte_before(bytes, at, 3);
+    let mut b = byte_before(bytes, at, 2);
+    let mut c = byte_before(bytes, at, 1);
+    let mut i = at;
+    while i < end {
+        let d = bytes[i];
+        if !fits(a, b, c, d) {
+            return i;
         }
+        a = b;
+        b = c;
+        c = d;
         i += 1;
     }
-    Step::Bad
+    i
 }
 
-// What is due after one byte more.
-fn advance(due: Due, b: u8) -> Step
-    ensures { λ r. ⌜ ((s : List ℕ) → follow (dueRanges due) (b ∷ s) ≡ afterStep r s) ⌝ }
+// Do all bytes of the block at a place fit? (Each is asked, so that the loop has no exit of its own.)
+fn block_fits(bytes: &[u8], at: usize) -> bool
+    requires { ⌜ (3 ≤ at) × (at + 16 ≤ length (now bytes)) ⌝ }
+    ensures { λ r. ⌜ (r ≡ true → Fit (now (bytes .entry)) at (at + 16)) ⌝ }
 {
-    let left = due.left;
-    if left == 0 {
-        return begin(b);
+    let mut all = true;
+    let mut i = 0;
+    while i < BLOCK {
+        let d = at + i;
+        all = all & fits(bytes[d - 3], bytes[d - 2], bytes[d - 1], bytes[d]);
+        i += 1;
     }
-    if b < due.lo {
-        return Step::Bad;
+    all
+}
+
+// Are the n bytes at a place all below 80? (Each is asked, as above.)
+fn ascii(bytes: &[u8], at: usize, n: usize) -> bool
+    requires { ⌜ at + n ≤ length (now bytes) ⌝ }
+    ensures { λ r. ⌜ (r ≡ true → Ascii (now (bytes .entry)) at (at + n)) ⌝ }
+{
+    let mut all = true;
+    let mut i = 0;
+    while i < n {
+        all = all & (bytes[at + i] < 0x80);
+        i += 1;
     }
-    if due.hi < b {
-        return Step::Bad;
+    all
+}
+
+// The place after the bytes below 80 that stand at a place, n at a time.
+fn ascii_end(bytes: &[u8], at: usize, n: usize) -> usize
+    requires { ⌜ (at ≤ length (now bytes)) × (1 ≤ n) ⌝ }
+    ensures { λ r. ⌜ (at ≤ r) × (r ≤ length (now (bytes .entry))) × Ascii (now (bytes .entry)) at r ⌝ }
+{
+    let mut i = at;
+    while n <= bytes.len() - i {
+        if !ascii(bytes, i, n) {
+            return i;
+        }
+        i += n;
     }
-    Step::On(tails(left - 1))
+    i
+}
+
+// The place of the first byte of 80 or more, or how many bytes there are where none is.
+fn first_above(bytes: &[u8]) -> usize
+    ensures { λ r. ⌜ (r ≤ length (now (bytes .entry))) × Ascii (now (bytes .entry)) 0 r ⌝ }
+{
+    let far = ascii_end(bytes, 0, ASCII_BLOCK);
+    let near = ascii_end(bytes, far, BLOCK);
+    ascii_end(bytes, near, 1)
+}
+
+// From a place on, the end of the whole blocks that fit. Behind a block of bytes below 80 more such are passed.
+fn blocks_end(bytes: &[u8], at: usize) -> usize
+    requires { ⌜ (3 ≤ at) × (at ≤ length (now bytes)) ⌝ }
+    ensures { λ r. ⌜ (at ≤ r) × (r ≤ length (now (bytes .entry))) × Fit (now (bytes .entry)) at r ⌝ }
+{
+    let mut i = at;
+    while BLOCK <= bytes.len() - i {
+        if ascii(bytes, i, BLOCK) & whole_at(bytes, i) {
+            i = ascii_end(bytes, i + BLOCK, ASCII_BLOCK);
+        } else {
+            if !block_fits(bytes, i) {
+                return i;
+            }
+            i += BLOCK;
+        }
+    }
+    i
+}
+
+// From a place on, as far as blocks tell: single bytes up to the first block, blocks, and a last one that ends where the
+// bytes end and may begin before another's end.
+fn far_end(bytes: &[u8], at: usize) -> usize
+    requires { ⌜ at ≤ length (now bytes) ⌝ }
+    ensures { λ r. ⌜ (at ≤ r) × (r ≤ length (now (bytes .entry))) × Fit (now (bytes .entry)) at r ⌝ }
+{
+    if bytes.len() < BACK + BLOCK {
+        return at;
+    }
+    let head = singles_end(bytes, at, BACK);
+    if head < BACK {
+        return head;
+    }
+    let end = blocks_end(bytes, head);
+    if bytes.len() - end < BLOCK {
+        if block_fits(bytes, bytes.len() - BLOCK) {
+            return bytes.len();
+        }
+    }
+    end
+}
+
+// The place of the first bad byte, or how many bytes there are where none is bad, and whether they are UTF-8.
+pub fn scan_utf8(bytes: &[u8]) -> Utf8Scan
+    ensures { λ r. ⌜ (r ≡ scanUtf8 (now (bytes .entry)))
+        × FirstBad (now (bytes .entry)) (r .place)
+        × ((r .passes ≡ true) ↔ Utf8 (now (bytes .entry))) ⌝ }
+{
+    let above = first_above(bytes);
+    if above == bytes.len() {
+        return Utf8Scan {
+            place: above,
+            passes: true,
+        };
+    }
+    let place = singles_end(bytes, far_end(bytes, above), bytes.len());
+    Utf8Scan {
+        place,
+        passes: (place == bytes.len()) & whole_at(bytes, place),
+    }
 }
 
 // Are the bytes UTF-8?
 pub fn is_utf8(bytes: &[u8]) -> bool
     ensures { λ r. ⌜ (r ≡ isUtf8 (now (bytes .entry))) × ((r ≡ true) ↔ Utf8 (now (bytes .entry))) ⌝ }
 {
-    let mut due = tails(0);
-    let mut i = 0;
-    while i < bytes.len() {
-        let Step::On(next) = advance(due, bytes[i]) else {
-            return false;
-        };
-        due = next;
-        i += 1;
-    }
-    due.left == 0
+    scan_utf8(bytes).passes
 }
