@@ -1,7 +1,7 @@
 //! Units, UTF-8, and words in bytes. In each call, a pointer and the length after it are those of
 //! one slice.
 
-use crate::{sys, Place, Word};
+use crate::{sys, Place, Utf8Scan, Word};
 
 /// The sum of two units modulo p. No questions: a word of p or more counts as what it leaves
 /// modulo p.
@@ -21,6 +21,26 @@ pub fn mul_unit(a: u32, b: u32) -> u32 {
 pub fn is_utf8(bytes: &[u8]) -> bool {
     // SAFETY: see the head of this file.
     unsafe { sys::sfr_is_utf8(bytes.as_ptr(), bytes.len()) }
+}
+
+/// Scans the bytes for UTF-8 and ends at the place that it answers.
+///
+/// No questions: there is no number. `passes` is what [`is_utf8`] answers. The empty slice passes,
+/// with place 0.
+///
+/// ```
+/// let scan = |bytes: &[u8]| {
+///     let scan = sfr::scan_utf8(bytes);
+///     (scan.place, scan.passes)
+/// };
+/// assert_eq!(scan(b"\xC0\x80"), (0, false));
+/// assert_eq!(scan(b"\xED\xA0\x80"), (1, false));
+/// assert_eq!(scan(b"\xC3\xA9"), (2, true));
+/// assert_eq!(scan(b"\xC3"), (1, false)); // cut off: its length, and yet it fails
+/// ```
+pub fn scan_utf8(bytes: &[u8]) -> Utf8Scan {
+    // SAFETY: see the head of this file.
+    unsafe { sys::sfr_scan_utf8(bytes.as_ptr(), bytes.len()) }
 }
 
 /// The little-endian word at `bytes[at..at + 4]`.

@@ -6,6 +6,7 @@ unsafe extern "C" {
     pub safe fn sfr_add_unit(a: u32, b: u32) -> u32;
     pub safe fn sfr_mul_unit(a: u32, b: u32) -> u32;
     pub fn sfr_is_utf8(bytes: *const u8, len: usize) -> bool;
+    pub fn sfr_scan_utf8(bytes: *const u8, len: usize) -> Utf8Scan;
     pub fn sfr_read_u32(bytes: *const u8, len: usize, at: usize) -> Word;
     pub fn sfr_put_u32(out: *mut u8, len: usize, at: usize, value: u32) -> Place;
     pub fn sfr_read_units(
