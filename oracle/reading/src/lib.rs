@@ -39,7 +39,7 @@ pub use shared::{
     SharedAnswer, SharedRelation, VarAllocator, MAX_RELATIONS,
 };
 pub use ticket::{set_tickets, ticket, TICKET_LINE};
-pub use utf8::is_utf8;
+pub use utf8::{is_utf8, scan_utf8, Utf8Scan};
 pub use witness::{append_step, evaluate_step, is_witness_valid, permute, Params};
 
 /// The order of the field: a unit is a word below it.

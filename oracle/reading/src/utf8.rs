@@ -1,4 +1,5 @@
-//! UTF-8 by document 01's nine rows of first-byte and second-byte ranges.
+//! UTF-8 by document 01's nine rows of first-byte and second-byte ranges, and where a scan for it
+//! ends (02, R-3).
 
 use std::ops::RangeInclusive;
 
@@ -33,13 +34,62 @@ fn first_char(bytes: &[u8]) -> Option<usize> {
     sound.then_some(len)
 }
 
-pub fn is_utf8(bytes: &[u8]) -> bool {
+/// What follows the whole characters that the bytes begin with.
+fn after_chars(bytes: &[u8]) -> &[u8] {
     let mut rest = bytes;
-    while !rest.is_empty() {
-        match first_char(rest) {
-            Some(len) => rest = &rest[len..],
-            None => return false,
-        }
+    while let Some(len) = first_char(rest) {
+        rest = &rest[len..];
     }
-    true
+    rest
+}
+
+pub fn is_utf8(bytes: &[u8]) -> bool {
+    after_chars(bytes).is_empty()
+}
+
+/// Where a scan ends and whether the label passes, two answers: a label cut off inside a character
+/// has its length as place, and fails.
+#[derive(Clone, Copy, Debug, PartialEq, Eq)]
+pub struct Utf8Scan {
+    pub place: usize,
+    pub passes: bool,
+}
+
+/// 02: "the first byte after which no continuation can be UTF-8", counted from 0, or the length.
+///
+/// Each byte is tried, from the first one that is in no whole character. Within the characters
+/// before it none is bad, as the rest of these is a continuation; and they change nothing for what
+/// comes after, which is UTF-8 with them exactly where it is without. No character stands at the
+/// start of the rest, so within four bytes one is bad or the label ends.
+pub fn scan_utf8(bytes: &[u8]) -> Utf8Scan {
+    let rest = after_chars(bytes);
+    let mut begun = Vec::new();
+    let bad = rest.iter().position(|&byte| {
+        begun.push(byte);
+        !goes_on(&mut begun, 3)
+    });
+    let before = bytes.len() - rest.len();
+    Utf8Scan {
+        place: before + bad.unwrap_or(rest.len()),
+        passes: is_utf8(bytes),
+    }
+}
+
+/// The bytes that continuations are made of. Each row's range of second bytes has one of the two, and
+/// 80 to BF has both, so where some byte goes on, one of these does (`tests/utf8.rs` tries all).
+const CONTINUATIONS: [u8; 2] = [0x80, 0xBF];
+
+/// Can `more` bytes or fewer be put after these so that all are UTF-8? Three are as good as any
+/// number: a continuation may be cut after the character in which the last of these bytes lies.
+pub(crate) fn goes_on(bytes: &mut Vec<u8>, more: usize) -> bool {
+    let yes = is_utf8(bytes);
+    if yes || more == 0 {
+        return yes;
+    }
+    CONTINUATIONS.into_iter().any(|byte| {
+        bytes.push(byte);
+        let further = goes_on(bytes, more - 1);
+        bytes.pop();
+        further
+    })
 }

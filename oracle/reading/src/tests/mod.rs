@@ -8,6 +8,7 @@ mod gate;
 mod relation;
 mod shared;
 mod ticket;
+mod utf8;
 
 use crate::*;
 
