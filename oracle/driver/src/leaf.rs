@@ -17,6 +17,30 @@ pub fn is_utf8(bytes: &[u8]) -> bool {
     std::str::from_utf8(bytes).is_ok()
 }
 
+/// Where a scan for UTF-8 ends and whether the bytes pass (02, R-3), by the standard library's
+/// error: how its places and 02's are related is said here and nowhere else.
+///
+/// The error's place is where the character begins that isn't one, and its length counts the bytes
+/// from there on with which some character begins, so that the bad byte follows them; it has no
+/// length where the bytes end first. Where no character begins with the first of them, the length
+/// is 1 all the same, and that byte is the bad one.
+pub fn scan_utf8(bytes: &[u8]) -> (usize, bool) {
+    let Err(error) = std::str::from_utf8(bytes) else {
+        return (bytes.len(), true);
+    };
+    let start = error.valid_up_to();
+    let place = match error.error_len() {
+        None => return (bytes.len(), false),
+        Some(begun) if (0xC2..=0xF4).contains(&bytes[start]) => start + begun,
+        Some(len) => {
+            assert_eq!(len, 1, "no character begins at {start}");
+            start
+        }
+    };
+    assert!(place < bytes.len(), "a bad byte is one of the bytes");
+    (place, false)
+}
+
 /// The word that starts at a place, where the bytes hold it.
 pub fn word_at(bytes: &[u8], at: u128) -> Option<u32> {
     let at = usize::try_from(at).ok()?;
@@ -173,4 +197,37 @@ fn random_char(rng: &mut Rng) -> char {
         0 => char::from_u32(rng.word() % 0x11_0000).unwrap_or('a'),
         _ => *rng.pick(&ends),
     }
+}
+
+/// So many ASCII bytes.
+pub fn ascii(rng: &mut Rng, len: usize) -> impl Iterator<Item = u8> + '_ {
+    (0..len).map(|_| rng.byte() % 0x80)
+}
+
+/// A text of up to 200 bytes: runs of ASCII, many of which end around a multiple of 8, 16, 32 or 64,
+/// with characters after each; every second time with a row end put somewhere or cut off anywhere.
+pub fn random_label(rng: &mut Rng) -> Vec<u8> {
+    let mut bytes = Vec::new();
+    for _ in 0..rng.between(1, 4) {
+        let block = *rng.pick(&[8, 16, 32, 64]);
+        let to_its_end = block - bytes.len() % block;
+        let run = match rng.below(3) {
+            0 => rng.below(16),
+            1 => to_its_end + rng.below(6),
+            _ => to_its_end.saturating_sub(rng.below(6)),
+        };
+        bytes.extend(ascii(rng, run));
+        for _ in 0..rng.below(4) {
+            bytes.extend(random_char(rng).to_string().bytes());
+        }
+    }
+    bytes.truncate(200);
+    if !bytes.is_empty() && rng.once_in(2) {
+        let at = rng.below(bytes.len());
+        bytes[at] = *rng.pick(&ROW_ENDS);
+    }
+    if rng.once_in(3) {
+        bytes.truncate(rng.below(bytes.len() + 1));
+    }
+    bytes
 }

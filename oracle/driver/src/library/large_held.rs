@@ -1,5 +1,5 @@
 //! `large`: stores of 2^30 words and of one more, and labels of 2^32 bytes, lent to the calls
-//! on traces and instances; and a ticket text of more bytes than that.
+//! on traces and instances; such a label scanned; and a ticket text of more bytes than that.
 //!
 //! Zeroed pages take no memory until somebody writes to them; a store that a call clears
 //! takes 4 GiB, one such store at a time, and the text takes as much.
@@ -45,6 +45,7 @@ pub fn run(_: &Options) -> bool {
     let mut cases = 0;
     let compared = large::compare(&[None])
         .and_then(|()| tickets::long())
+        .and_then(|()| scans())
         .and_then(|()| read_only(&mut cases))
         .and_then(|()| cleared(&mut cases));
     if let Err(difference) = compared {
@@ -52,9 +53,32 @@ pub fn run(_: &Options) -> bool {
         return false;
     }
     println!(
-        "large: the calls on relations, a long ticket text, and {cases} on traces and instances, no difference"
+        "large: the calls on relations, a long ticket text, a long label, and {cases} on traces and instances, no difference"
     );
     true
+}
+
+/// A label of 2^32 bytes that passes, one that its last byte cuts off, and one of which that byte is
+/// bad.
+fn scans() -> Compared {
+    let len = 1 << 32;
+    let mut label = vec![0; len];
+    let expected = [
+        (0x00, (len, true)),
+        (0xC3, (len, false)),
+        (0x80, (len - 1, false)),
+    ];
+    for (last, expected) in expected {
+        label[len - 1] = last;
+        let scan = sfr::scan_utf8(&label);
+        let what = format!("large, a label that ends in {last:02X}");
+        same(
+            &what,
+            ("library", (scan.place, scan.passes)),
+            ("02", expected),
+        )?;
+    }
+    Ok(())
 }
 
 /// What is lent, by the names of its stores.

@@ -1,5 +1,5 @@
-//! `leaves`: the proved library's leaves beside the standard library: units, UTF-8, words
-//! in bytes, and items read into a store.
+//! `leaves`: the proved library's leaves beside the standard library: units, UTF-8 (the place of
+//! the first bad byte beside the second reading too), words in bytes, and items read into a store.
 
 use crate::{
     calls::DIRT,
@@ -30,18 +30,22 @@ pub fn run(options: &Options) -> bool {
         .and_then(|()| words(&mut rng, count, &mut counts))
         .and_then(|()| items(&mut rng, count, &mut counts));
     let seed = options.seed;
-    if let Err(difference) = compared {
-        println!("leaves: a difference, seed {seed}: {}", difference.0);
-        return false;
-    }
     let Counts {
         pairs,
         texts,
         words,
         items,
     } = counts;
+    if let Err(difference) = compared {
+        let commands = pairs + texts + words + items;
+        println!(
+            "leaves: a difference after {commands} commands, seed {seed}: {}",
+            difference.0
+        );
+        return false;
+    }
     println!(
-        "leaves: seed {seed}, {pairs} pairs of units added and multiplied, {texts} texts, \
+        "leaves: seed {seed}, {pairs} pairs of units added and multiplied, {texts} texts scanned, \
          {words} words read and written, {items} items, no difference"
     );
     true
@@ -76,15 +80,20 @@ fn pair(a: u32, b: u32, counts: &mut Counts) -> Compared {
     same(&what, ("library", library), ("standard", expected))
 }
 
-/// Every string of up to 3 bytes, every one of 4 row ends, and random longer ones.
+/// Every string of up to 3 bytes, every one of 4 row ends, and longer ones.
 fn utf8(rng: &mut Rng, count: u64, counts: &mut Counts) -> Compared {
     text(&[], counts)?;
     for a in 0..=255 {
         text(&[a], counts)?;
         for b in 0..=255 {
-            text(&[a, b], counts)?;
+            let two = reading::scan_utf8(&[a, b]);
+            text_as_read(&[a, b], two, counts)?;
             for c in 0..=255 {
-                text(&[a, b, c], counts)?;
+                let bytes = [a, b, c];
+                // After a bad byte no continuation, so no third byte, changes anything.
+                let bad = two.place < 2;
+                let three = if bad { two } else { reading::scan_utf8(&bytes) };
+                text_as_read(&bytes, three, counts)?;
             }
         }
     }
@@ -100,17 +109,109 @@ fn utf8(rng: &mut Rng, count: u64, counts: &mut Counts) -> Compared {
     for _ in 0..count {
         text(&leaf::random_text(rng), counts)?;
     }
-    Ok(())
+    labels(rng, count, counts)
 }
 
 fn text(bytes: &[u8], counts: &mut Counts) -> Compared {
+    text_as_read(bytes, reading::scan_utf8(bytes), counts)
+}
+
+/// Where a scan ends and whether the bytes pass, beside the second reading's answer and the standard
+/// library's; and that `is_utf8` says so too.
+fn text_as_read(bytes: &[u8], read: reading::Utf8Scan, counts: &mut Counts) -> Compared {
     counts.texts += 1;
-    let (library, expected) = (sfr::is_utf8(bytes), leaf::is_utf8(bytes));
-    if library == expected {
+    let scan = sfr::scan_utf8(bytes);
+    let library = (scan.place, scan.passes, sfr::is_utf8(bytes));
+    let (place, passes) = leaf::scan_utf8(bytes);
+    let standard = (place, passes, passes);
+    let reading = (read.place, read.passes, read.passes);
+    if library == standard && library == reading {
         return Ok(());
     }
-    let what = format!("UTF-8, {bytes:02X?}");
-    same(&what, ("library", library), ("standard", expected))
+    let what = format!("place, passes and is UTF-8, {bytes:02X?}");
+    same(&what, ("library", library), ("standard", standard))?;
+    same(&what, ("library", library), ("reading", reading))
+}
+
+/// The first and the last character of each row but ASCII's.
+const ROW_CHARS: [char; 16] = [
+    '\u{80}',
+    '\u{7FF}',
+    '\u{800}',
+    '\u{FFF}',
+    '\u{1000}',
+    '\u{CFFF}',
+    '\u{D000}',
+    '\u{D7FF}',
+    '\u{E000}',
+    '\u{FFFF}',
+    '\u{10000}',
+    '\u{3FFFF}',
+    '\u{40000}',
+    '\u{FFFFF}',
+    '\u{100000}',
+    '\u{10FFFF}',
+];
+
+/// What stands among ASCII: each of these characters cut off after any of its bytes, by the end of
+/// the text or by a row end, or not at all.
+fn pieces() -> Vec<Vec<u8>> {
+    let mut pieces = Vec::new();
+    for character in ROW_CHARS {
+        let bytes = character.to_string().into_bytes();
+        for cut in 1..=bytes.len() {
+            pieces.push(bytes[..cut].to_vec());
+            for end in ROW_ENDS {
+                pieces.push([&bytes[..cut], &[end]].concat());
+            }
+        }
+    }
+    pieces.extend(ROW_ENDS.map(|end| vec![end]));
+    pieces.sort();
+    pieces.dedup();
+    pieces
+}
+
+/// Where a text lies: anywhere in a few cache lines, with bytes around it that aren't its own.
+#[repr(align(64))]
+struct Page([u8; 512]);
+
+impl Page {
+    fn text(&mut self, rng: &mut Rng, bytes: &[u8], counts: &mut Counts) -> Compared {
+        let Self(page) = self;
+        let (start, len) = (rng.between(1, 64), bytes.len());
+        page.fill(*rng.pick(&[0x41, 0x80, 0xBF, 0xFF]));
+        page[start..start + len].copy_from_slice(bytes);
+        text(&page[start..start + len], counts)
+    }
+}
+
+/// ASCII of every length; bad bytes, cut-offs and characters at every place of ASCII texts that are
+/// longer than two blocks of 64 bytes, at a text's end and before it; and random texts of that kind.
+fn labels(rng: &mut Rng, count: u64, counts: &mut Counts) -> Compared {
+    let mut page = Page([0; 512]);
+    for len in 0..=200 {
+        for _ in 0..64 {
+            let bytes: Vec<u8> = leaf::ascii(rng, len).collect();
+            page.text(rng, &bytes, counts)?;
+        }
+    }
+    let pieces = pieces();
+    for place in 0..=132 {
+        for piece in &pieces {
+            for after in [0, rng.below(80)] {
+                let mut bytes: Vec<u8> = leaf::ascii(rng, place).collect();
+                bytes.extend(piece);
+                bytes.extend(leaf::ascii(rng, after));
+                page.text(rng, &bytes, counts)?;
+            }
+        }
+    }
+    for _ in 0..count {
+        let bytes = leaf::random_label(rng);
+        page.text(rng, &bytes, counts)?;
+    }
+    Ok(())
 }
 
 /// Places within, at the end of and far beyond short strings of bytes.
