@@ -1,5 +1,7 @@
 //! Where documents 01 and 02 and the sources part, each with the smallest input that shows it.
 
+use std::str::from_utf8;
+
 use source::Parts;
 
 use crate::held::{self, Held, Room};
@@ -82,4 +84,22 @@ fn a_ninth_relation_and_a_wire_beyond_the_quota() {
             assert_eq!(answer.number, 43);
         }
     }
+}
+
+/// The sources refuse a label with the standard library's error, whose place is where the
+/// character begins that isn't one. 02: the place of the first byte after which no continuation
+/// can be UTF-8, or the length. C2 alone, and C2 and any first byte after it, show it; on a byte
+/// with which no character begins both are the same.
+#[test]
+fn the_place_of_a_bad_byte() {
+    let places = |bytes: &[u8]| {
+        let error = from_utf8(bytes).unwrap_err();
+        let scan = reading::scan_utf8(bytes);
+        (error.valid_up_to(), error.error_len(), scan.place)
+    };
+    assert_eq!(places(b"\xC2"), (0, None, 1));
+    assert_eq!(places(b"\xC2\x00"), (0, Some(1), 1));
+    assert_eq!(places(b"\xE1\x80\x00"), (0, Some(2), 2));
+    assert_eq!(places(b"\xF1\x80\x80\x00"), (0, Some(3), 3));
+    assert_eq!(places(b"\x80"), (0, Some(1), 0));
 }
