@@ -1,4 +1,4 @@
-// Operations 1 to 6: units added and multiplied, UTF-8, and words read from bytes.
+// Operations 1 to 7: units added and multiplied, UTF-8, and words read from bytes.
 
 use crate::answer::SIZE;
 use crate::answer::three;
@@ -61,6 +61,12 @@ fn read_vars(text: &[u8], x: u32, y: u32, n: u32, store: &mut [u32]) -> [u32; SI
     )
 }
 
+// 7: bytes; 1 where they are UTF-8, else 0, and the place at which the scan ends.
+fn scan_utf8(text: &[u8]) -> [u32; SIZE] {
+    let scan = utf8::scan_utf8(text);
+    three(limits::asked(0, !scan.passes, 1), low(scan.place), 0)
+}
+
 // A leaf, by its operation.
 pub(crate) fn call(op: u32, given: &[u32], text: &[u8], store: &mut [u32]) -> [u32; SIZE] {
     let x = word(given, 0);
@@ -72,6 +78,7 @@ pub(crate) fn call(op: u32, given: &[u32], text: &[u8], store: &mut [u32]) -> [u
         3 => is_utf8(text),
         4 => read_u32(text, x),
         5 => read_units(text, x, y, n, store),
-        _ => read_vars(text, x, y, n, store),
+        6 => read_vars(text, x, y, n, store),
+        _ => scan_utf8(text),
     }
 }

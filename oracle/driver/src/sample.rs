@@ -27,23 +27,25 @@ use crate::{
 
 use case::{Case, FIRST, FIRST_AFTER, TEXT};
 
-/// Random cases of leaves, of calls on a relation, of tickets and each call on a trace, of each
-/// call on an instance, and of calls on a shared allocator, where no count is given: with the fixed
-/// ones they stay below 1 MiB.
+/// Random cases of leaves, of scans for UTF-8, of calls on a relation, of tickets and each call on a
+/// trace, of each call on an instance, and of calls on a shared allocator, where no count is given:
+/// with the fixed ones they stay below 1 MiB.
 const LEAVES: u64 = 2_500;
+const SCANS: u64 = 120;
 const RELATIONS: u64 = 1_200;
 const TRACES: u64 = 120;
 const INSTANCES: u64 = 200;
 const SHARED: u64 = 160;
 
 /// What the cases of an operation are.
-const OPERATIONS: [(u32, &str); 29] = [
+const OPERATIONS: [(u32, &str); 30] = [
     (1, "sums"),
     (2, "products"),
     (3, "texts"),
     (4, "words"),
     (5, "items of units"),
     (6, "items of wires"),
+    (7, "scans"),
     (10, "ticket texts"),
     (11, "fresh relations"),
     (12, "allocations"),
@@ -69,6 +71,36 @@ const OPERATIONS: [(u32, &str); 29] = [
     (36, "checks"),
 ];
 
+/// Document 01's and RFC 3629's texts.
+const TEXTS: [&[u8]; 8] = [
+    b"\xF4\x8F\xBF\xBF",
+    b"\xED\xA0\x80",
+    b"\x41\xE2\x89\xA2\xCE\x91\x2E",
+    b"\xED\x95\x9C\xEA\xB5\xAD\xEC\x96\xB4",
+    b"\xE6\x97\xA5\xE6\x9C\xAC\xE8\xAA\x9E",
+    b"\xEF\xBB\xBF\xF0\xA3\x8E\xB4",
+    b"\xED\xA1\x8C\xED\xBE\xB4",
+    b"\x2F\xC0\xAE\x2E\x2F",
+];
+
+/// Labels that begin badly, or are cut off.
+const BAD: [&[u8]; 14] = [
+    b"\xC0\x80",
+    b"\x80",
+    b"\xF5",
+    b"\xE0\x80",
+    b"\xF0\x8F",
+    b"\xF4\x90",
+    b"\xC3\x41",
+    b"\xE1\x80\x41",
+    b"\xF1\x80\x80\x41",
+    b"\xC3",
+    b"\xE0",
+    b"\xED\x9F",
+    b"\xF4\x8F\xBF",
+    b"\xC3\xA9\xC3",
+];
+
 /// An operation's number is below this.
 const OPERATION_END: usize = 37;
 
@@ -85,11 +117,16 @@ pub fn run(options: &Options) -> bool {
     let mut more = Rng::new(options.seed ^ (1 << 63));
     let mut tickets = Rng::new(!options.seed ^ (1 << 63));
     let mut shared = Rng::new(options.seed ^ (1 << 62));
+    let mut scans = Rng::new(!options.seed ^ (1 << 62));
     let mut sample = Sample::default();
     sample.names();
     sample.fixed();
     for _ in 0..options.count.unwrap_or(LEAVES) {
         sample.random(&mut rng);
+    }
+    sample.fixed_scans();
+    for _ in 0..options.count.unwrap_or(SCANS) {
+        sample.scan(&leaf::random_label(&mut scans));
     }
     sample.fixed_relations();
     sample.fixed_tickets();
@@ -148,7 +185,8 @@ impl Sample {
         self.words.extend(case::laid_out(0, &lists));
     }
 
-    /// A case more; what it answers begins with the number that it expects.
+    /// A case more; what it answers begins with the number that it expects (of a scan, with whether
+    /// the bytes pass).
     fn push(&mut self, case: Case) {
         let operation = case.operation;
         *self.cases.entry(operation).or_default() += 1;
@@ -180,6 +218,12 @@ impl Sample {
     fn utf8(&mut self, bytes: &[u8]) {
         let number = if leaf::is_utf8(bytes) { 0 } else { 25 };
         self.push(Case::new(3).bytes(TEXT, bytes).answer(&[number]));
+    }
+
+    fn scan(&mut self, bytes: &[u8]) {
+        let (place, passes) = leaf::scan_utf8(bytes);
+        let case = Case::new(7).bytes(TEXT, bytes);
+        self.push(case.answer(&[u32::from(passes), place as u32]));
     }
 
     fn word(&mut self, bytes: &[u8], at: u32) {
@@ -222,17 +266,7 @@ impl Sample {
                 self.utf8(&[a, b]);
             }
         }
-        let texts: [&[u8]; 8] = [
-            b"\xF4\x8F\xBF\xBF",
-            b"\xED\xA0\x80",
-            b"\x41\xE2\x89\xA2\xCE\x91\x2E",
-            b"\xED\x95\x9C\xEA\xB5\xAD\xEC\x96\xB4",
-            b"\xE6\x97\xA5\xE6\x9C\xAC\xE8\xAA\x9E",
-            b"\xEF\xBB\xBF\xF0\xA3\x8E\xB4",
-            b"\xED\xA1\x8C\xED\xBE\xB4",
-            b"\x2F\xC0\xAE\x2E\x2F",
-        ];
-        for text in texts {
+        for text in TEXTS {
             self.utf8(text);
         }
         let bytes = [0xFF, 0x01, 0x02, 0x80, 0x7F, 0x00, 0x10];
@@ -240,6 +274,21 @@ impl Sample {
             for at in (0..9).chain([u32::MAX - 4, u32::MAX - 3, u32::MAX]) {
                 self.word(&bytes[..len], at);
             }
+        }
+    }
+
+    /// Scans of these texts, and of bad ones alone and at both ends of blocks of ASCII.
+    fn fixed_scans(&mut self) {
+        self.scan(&[]);
+        for text in TEXTS {
+            self.scan(text);
+        }
+        for text in BAD {
+            self.scan(text);
+            for before in [31, 32, 64] {
+                self.scan(&[&vec![b'a'; before], text].concat());
+            }
+            self.scan(&[text, &[b'a'; 32]].concat());
         }
     }
 
