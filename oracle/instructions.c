@@ -1,6 +1,6 @@
 /* Each call on files of a batch once, for oracle/instructions to count what it takes: items as the argument says. An item is
- * a query of width 8, a public and an equation of two terms; of tickets a line; on a shared allocator a mint, and of its
- * gate what that makes. */
+ * a query of width 8, a public and an equation of two terms; of a label that is scanned 64 bytes; of tickets a line; on a
+ * shared allocator a mint, and of its gate what that makes. */
 #include <stdio.h>
 #include <stdlib.h>
 #include <string.h>
@@ -22,6 +22,21 @@ static void accepted(const char *call, uint32_t number) {
         printf("%s: %u\n", call, number);
         exit(1);
     }
+}
+
+/* sfr_scan_utf8 under a name of its own for each kind of text. They use different halves of the answer: of two functions
+ * alike the compiler makes one. */
+__attribute__((noinline)) static bool scan_ascii(const uint8_t *text, size_t len) { return sfr_scan_utf8(text, len).passes; }
+__attribute__((noinline)) static size_t scan_two_bytes(const uint8_t *text, size_t len) { return sfr_scan_utf8(text, len).place; }
+
+/* A label of ASCII, and one of characters of two bytes. */
+static void labels(size_t items) {
+    const size_t len = 64 * items;
+    uint8_t *text = lent(len, 1);
+    memset(text, 'b', len);
+    accepted("scan of ASCII", !scan_ascii(text, len));
+    for (size_t i = 0; i < len; i += 2) memcpy(text + i, "\xC3\xA9", 2);
+    accepted("scan of two bytes", scan_two_bytes(text, len) != len);
 }
 
 /* The mints of a relation on an allocator for several, and its gate: wire 0 alone is public. */
@@ -81,6 +96,7 @@ int main(int argc, char **argv) {
     accepted("read SFRW", sfr_witness_from_bytes(WIDTH, sfrw, sfrw_len, trace, cells).number);
     accepted("check", sfr_is_witness_valid(ins, label, LABEL, publics, pairs, queries, cells, equations, words, steps.steps, trace,
                                            cells, 0, params, WIDTH * WIDTH, scratch, vars));
+    labels(items);
     shared(items);
     return 0;
 }

@@ -6,6 +6,7 @@
 mod evaluate;
 mod forms;
 mod input;
+mod labels;
 mod shared;
 mod tickets;
 
@@ -182,6 +183,9 @@ pub fn run(options: &Options) -> bool {
     input::tables(last);
     tickets::tables(last);
     shared::tables(last);
+    if asked_for("labels") {
+        labels::tables(last);
+    }
     if asked_for("evaluate") {
         evaluate::tables(last);
     }
