@@ -72,5 +72,8 @@ int main(void)
 {
     printf("hopper 3, sack 1, by hand 2: %u\n", (unsigned)batch((uint32_t[]){3, 2})); /* yes */
     printf("hopper 3, sack 1, by hand 3: %u\n", (unsigned)batch((uint32_t[]){3, 3})); /* no: the sum isn't the image */
+    const uint8_t edited[] = {0xED, 0xA0, 0x80, ' ', 'b', 'a', 't', 'c', 'h', ' ', '7'}; /* from the recipe editor */
+    sfr_utf8_scan scan = sfr_scan_utf8(LENT(edited));
+    printf("label ED A0 80 ..: passes %s, place %zu\n", scan.passes ? "true" : "false", scan.place); /* no A0 after ED */
     return 0;
 }

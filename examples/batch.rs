@@ -6,7 +6,7 @@
 //! cargo run --offline --manifest-path rust/Cargo.toml --example batch
 //! ```
 
-use sfr::{Refused, Trace, Weighted, PRIME};
+use sfr::{Refused, Trace, Utf8Scan, Weighted, PRIME};
 
 const LABEL: &[u8] = b"batch 7";
 /// The recipe: one round that makes x to 5(x - 1)^7.
@@ -51,5 +51,8 @@ fn batch(by_hopper: u32, by_hand: u32) -> Result<u32, Refused> {
 fn main() -> Result<(), Refused> {
     println!("hopper 3, sack 1, by hand 2: {}", batch(3, 2)?); // yes
     println!("hopper 3, sack 1, by hand 3: {}", batch(3, 3)?); // no: the sum isn't the image
+    let edited = b"\xED\xA0\x80 batch 7"; // a label as the recipe editor began it
+    let Utf8Scan { place, passes } = sfr::scan_utf8(edited);
+    println!("label ED A0 80 ..: passes {passes}, place {place}"); // no A0 after ED
     Ok(())
 }
