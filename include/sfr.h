@@ -94,7 +94,7 @@ typedef struct {
 uint32_t sfr_add_unit(uint32_t a, uint32_t b);
 uint32_t sfr_mul_unit(uint32_t a, uint32_t b);
 
-/* Are the bytes UTF-8 by RFC 3629? No questions; no bytes are. Lent: bytes, only read. */
+/* Are the bytes UTF-8 by RFC 3629? No questions; a length of 0 passes. Lent: bytes, only read. */
 bool sfr_is_utf8(const uint8_t *bytes, size_t len);
 
 /* Scans the bytes for UTF-8 and ends at the place that it answers: C0 80 has place 0, ED A0 80 place 1; C3 alone has

@@ -16,7 +16,7 @@ pub fn mul_unit(a: u32, b: u32) -> u32 {
     sys::sfr_mul_unit(a, b)
 }
 
-/// Are the bytes UTF-8 by RFC 3629? No questions; no bytes are.
+/// Are the bytes UTF-8 by RFC 3629? No questions; the empty slice is.
 #[must_use]
 pub fn is_utf8(bytes: &[u8]) -> bool {
     // SAFETY: see the head of this file.
