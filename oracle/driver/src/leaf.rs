@@ -204,24 +204,25 @@ pub fn ascii(rng: &mut Rng, len: usize) -> impl Iterator<Item = u8> + '_ {
     (0..len).map(|_| rng.byte() % 0x80)
 }
 
-/// A text of up to 200 bytes: runs of ASCII, many of which end around a multiple of 8, 16, 32 or 64,
-/// with characters after each; every second time with a row end put somewhere or cut off anywhere.
-pub fn random_label(rng: &mut Rng) -> Vec<u8> {
+/// A text of at most so many bytes: runs of ASCII, many of which end around a multiple of 8, 16, 32, 64 or
+/// 128, with characters after each; every second time with a row end put somewhere, every third time
+/// cut off anywhere.
+pub fn random_label(rng: &mut Rng, most: usize) -> Vec<u8> {
     let mut bytes = Vec::new();
     for _ in 0..rng.between(1, 4) {
-        let block = *rng.pick(&[8, 16, 32, 64]);
+        let block = *rng.pick(&[8, 16, 32, 64, 128]);
         let to_its_end = block - bytes.len() % block;
         let run = match rng.below(3) {
             0 => rng.below(16),
-            1 => to_its_end + rng.below(6),
+            1 => to_its_end + rng.below(6) + 128 * rng.below(2),
             _ => to_its_end.saturating_sub(rng.below(6)),
         };
         bytes.extend(ascii(rng, run));
-        for _ in 0..rng.below(4) {
+        for _ in 0..rng.below(8) {
             bytes.extend(random_char(rng).to_string().bytes());
         }
     }
-    bytes.truncate(200);
+    bytes.truncate(most);
     if !bytes.is_empty() && rng.once_in(2) {
         let at = rng.below(bytes.len());
         bytes[at] = *rng.pick(&ROW_ENDS);

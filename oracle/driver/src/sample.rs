@@ -126,7 +126,7 @@ pub fn run(options: &Options) -> bool {
     }
     sample.fixed_scans();
     for _ in 0..options.count.unwrap_or(SCANS) {
-        sample.scan(&leaf::random_label(&mut scans));
+        sample.scan(&leaf::random_label(&mut scans, 150));
     }
     sample.fixed_relations();
     sample.fixed_tickets();

@@ -2,12 +2,14 @@
 
 use std::{hint::black_box, iter, str::from_utf8};
 
-use super::{best, timed, Run, FIRST, LAST};
+use super::{best, timed, Run, LAST};
 use crate::rng::Rng;
 
 /// Times are told for so many bytes.
 const PIECE: f64 = 64.0;
-/// So many calls that end at once are a run.
+/// Labels have so many bytes and more.
+const SHORTEST: usize = 10;
+/// So many calls that end at once are a run, or more.
 const CALLS: usize = 10_000;
 
 /// What a label is made of, piece by piece.
@@ -136,7 +138,8 @@ pub fn tables(last: usize) {
         let mut labels = Labels::new(ascii, bytes);
         let firsts = labels.all.iter_mut().step_by(bytes);
         firsts.for_each(|first| *first = 0x80);
-        let [is, scan, from] = labels.times(CALLS * bytes / labels.all.len(), false);
+        let rounds = (CALLS * bytes / labels.all.len()).max(1);
+        let [is, scan, from] = labels.times(rounds, false);
         println!("| {bytes} | {is:.1} | {scan:.1} | {from:.1} |");
     }
 }
@@ -162,5 +165,6 @@ fn passing(name: &str, piece: Text, last: usize) {
 
 /// How many bytes labels have.
 fn sizes(last: usize) -> impl Iterator<Item = usize> {
-    iter::successors(Some(FIRST), |bytes| Some(10 * bytes)).take_while(move |bytes| *bytes <= last)
+    iter::successors(Some(SHORTEST), |bytes| Some(10 * bytes))
+        .take_while(move |bytes| *bytes <= last)
 }

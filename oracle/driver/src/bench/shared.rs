@@ -21,7 +21,8 @@ pub fn tables(last: usize) {
     line("shared allocate", "a wire", allocate);
     line("shared set", "a fresh wire and its value", set);
     line("shared mint", "a query with its outputs", mint);
-    let kept = "The source keeps the sum that it is given: one is made for each call, within the time.";
+    let kept =
+        "The source keeps the sum that it is given: one is made for each call, within the time.";
     let equation_note = format!("{} {kept}", note("an equation of three terms"));
     table("shared equation", &equation_note, last, equation);
     let share = Share {

@@ -174,7 +174,7 @@ fn pieces() -> Vec<Vec<u8>> {
 
 /// Where a text lies: anywhere in a few cache lines, with bytes around it that aren't its own.
 #[repr(align(64))]
-struct Page([u8; 512]);
+struct Page([u8; 1024]);
 
 impl Page {
     fn text(&mut self, rng: &mut Rng, bytes: &[u8], counts: &mut Counts) -> Compared {
@@ -187,9 +187,10 @@ impl Page {
 }
 
 /// ASCII of every length; bad bytes, cut-offs and characters at every place of ASCII texts that are
-/// longer than two blocks of 64 bytes, at a text's end and before it; and random texts of that kind.
+/// longer than two blocks of 64 bytes, at a text's end and before it; random texts of that kind; and
+/// texts with no ASCII among their characters.
 fn labels(rng: &mut Rng, count: u64, counts: &mut Counts) -> Compared {
-    let mut page = Page([0; 512]);
+    let mut page = Page([0; 1024]);
     for len in 0..=200 {
         for _ in 0..64 {
             let bytes: Vec<u8> = leaf::ascii(rng, len).collect();
@@ -208,8 +209,30 @@ fn labels(rng: &mut Rng, count: u64, counts: &mut Counts) -> Compared {
         }
     }
     for _ in 0..count {
-        let bytes = leaf::random_label(rng);
+        let bytes = leaf::random_label(rng, 600);
         page.text(rng, &bytes, counts)?;
+    }
+    dense(rng, &mut page, counts)
+}
+
+/// Labels of one character again and again, after up to four bytes of ASCII: cut off at every place,
+/// and with a row end put at every place.
+fn dense(rng: &mut Rng, page: &mut Page, counts: &mut Counts) -> Compared {
+    for character in ROW_CHARS {
+        for before in 0..4 {
+            let mut label: Vec<u8> = leaf::ascii(rng, before).collect();
+            while label.len() < 60 {
+                label.extend(character.to_string().bytes());
+            }
+            for place in 0..label.len() {
+                page.text(rng, &label[..place], counts)?;
+                for end in ROW_ENDS {
+                    let mut bytes = label.clone();
+                    bytes[place] = end;
+                    page.text(rng, &bytes, counts)?;
+                }
+            }
+        }
     }
     Ok(())
 }
