@@ -1,8 +1,10 @@
-// RFC 3629's examples, and the ends of its nine rows, put to `utf8::is_utf8`.
+// RFC 3629's examples, and the ends of its nine rows, put to `utf8::scan_utf8`.
 //
-// A line for each example: its bytes, what `is_utf8` answers, and what the bytes are; DIFFERENT stands at
-// the end of a line where the RFC says otherwise. The last line has the counts.
+// A line for each example: its bytes, whether they are UTF-8 and the place of the first bad byte, as `scan_utf8`
+// answers (without one, their number), and what the bytes are; DIFFERENT stands at the end of a line where the RFC
+// says otherwise. The last line has the counts.
 use libc::STDOUT_FILENO;
+use utf8::Utf8Scan;
 ghost use Prim.Native.Nat.{_≤_};
 
 // Examples that are UTF-8: those of section 7, and of each row of section 4 the least and the greatest first
@@ -197,19 +199,21 @@ fn print_bytes(bytes: &[u8]) {
 }
 
 // The line of an example, which by the RFC is UTF-8 where `expected`.
-fn print_example(example: &[u8; 11], expected: bool, answer: bool) {
+fn print_example(example: &[u8; 11], expected: bool, scan: Utf8Scan) {
     print_bytes(bytes_of(example));
-    if answer {
+    if scan.passes {
         io::write_all(STDOUT_FILENO, b" UTF-8      ");
     } else {
         io::write_all(STDOUT_FILENO, b" not UTF-8  ");
     }
+    io::print_decimal(STDOUT_FILENO, scan.place as u64);
+    io::write_all(STDOUT_FILENO, b"  ");
     if expected {
         print_character(example[0]);
     } else {
         print_fault(example[0]);
     }
-    if answer != expected {
+    if scan.passes != expected {
         io::write_all(STDOUT_FILENO, b"  DIFFERENT");
     }
     io::write_all(STDOUT_FILENO, b"\n");
@@ -235,17 +239,21 @@ fn one_if(says: bool) -> u64
 }
 
 fn main() {
-    io::write_all(STDOUT_FILENO, b"RFC 3629: which bytes are UTF-8\n\n");
+    io::write_all(
+        STDOUT_FILENO,
+        b"RFC 3629: which bytes are UTF-8, and the place of the first bad one\n\n",
+    );
     let mut accepted: u64 = 0;
     let mut different: u64 = 0;
     let mut i: u64 = 0;
     while i < 84 {
         let expected = i < 31;
         let example = example_at(i);
-        let answer = utf8::is_utf8(bytes_of(&example));
-        print_example(&example, expected, answer);
-        accepted += one_if(answer);
-        different += one_if(answer != expected);
+        let scan = utf8::scan_utf8(bytes_of(&example));
+        let passes = scan.passes;
+        print_example(&example, expected, scan);
+        accepted += one_if(passes);
+        different += one_if(passes != expected);
         i += 1;
     }
     io::write_all(STDOUT_FILENO, b"\n");

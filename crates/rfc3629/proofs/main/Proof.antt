@@ -25,8 +25,8 @@ example-at-requires c κs = search needs
 bytes-of-requires : tie.Need-bytes-of-requires Inv-loop μ-loop
 bytes-of-requires c κs = search needs
 
-is-utf8-requires : tie.Need-is-utf8-requires Inv-loop μ-loop
-is-utf8-requires c κs = search needs
+scan-utf8-requires : tie.Need-scan-utf8-requires Inv-loop μ-loop
+scan-utf8-requires c κs = search needs
 
 print-example-requires : tie.Need-print-example-requires Inv-loop μ-loop
 print-example-requires c κs = search needs
@@ -78,7 +78,7 @@ main-spec =
     loop-holds
     example-at-requires
     bytes-of-requires
-    is-utf8-requires
+    scan-utf8-requires
     print-example-requires
     one-if-requires
     add-accepted
