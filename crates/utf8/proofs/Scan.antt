@@ -12,9 +12,9 @@ use borrow.Author.Tests.{lt-ltb, le-ltb, eq-eqb, ne-eqb}
 use lib.Dec.{eqb}
 use lib.ListN.{length, drop, getD, drop-of-length-le}
 use lib.Seq.{drop-cons}
-use Rattle.utf8.specs.Utf8.{Range, After, asks, noRow, onRow, follow, Utf8, isUtf8}
+use Rattle.utf8.specs.Utf8.{Range, After, asks, onRow, follow, Utf8, isUtf8}
 use Rattle.utf8.specs.Place.{FirstBad, afterByte, oneMore, goodBytes, firstBad, scanUtf8}
-use Rattle.utf8.specs.Scan.{whole, fits, byteBefore, wholeAt, fitsAt, Each, Fit, Ascii}
+use Rattle.utf8.specs.Scan.{fits, byteBefore, wholeAt, fitsAt, Each, Fit, Ascii}
 use Rattle.utf8.specs.declared.Utf8Scan.{Utf8Scan}
 use Rattle.utf8.proofs.Laws.{isUtf8-says}
 use Rattle.utf8.proofs.Place.{follow-step, firstBad-iff}

@@ -1,5 +1,6 @@
--- What is asked after a byte is told by it and the two before it (`asked`), and whether the next byte is what is
--- asked by it and these three (`fits-step`). Assumes nothing.
+-- What is asked after a byte is told by it and the two before it (`asked`). So whether the next byte is what is asked is
+-- told by it and these three: where it fits, what is asked then is told in the same way (`fits-yes`), and where it doesn't,
+-- nothing can follow (`fits-not`). Assumes nothing.
 use Prim.Native.Nat.{ℕ, _≤_, _<_}
 use mathlib.Core.Path.{_≡_, refl, sym, ap, _∙_}
 use mathlib.Core.Bool.{Bool, true, false, _&&_, _||_, and-false, or-true, and-eq-true-iff, true≢false, false≢true}
@@ -10,7 +11,7 @@ use borrow.Author.Tests.{lt-ltb, le-ltb, ltb-true, ltb-false, le-leb, lt-leb, le
 use lib.Dec.{eqb, ltb, leb}
 use lib.ListN.{replicate}
 use Rattle.limits.specs.Questions.{pick}
-use Rattle.utf8.specs.Utf8.{Range, _to_, tailRange, rows, Within, holds, asks, noRow, firstRow}
+use Rattle.utf8.specs.Utf8.{Range, _to_, tailRange, rows, holds, asks, noRow, firstRow}
 use Rattle.utf8.specs.Place.{afterByte}
 use Rattle.utf8.specs.Scan.{whole, tailLow, tailHigh, fits}
 use Rattle.utf8.proofs.Laws.{row-firstRow}
@@ -19,10 +20,15 @@ use Rattle.utf8.proofs.Laws.{row-firstRow}
 abbrev left : ℕ → ℕ → ℕ
 left b c = pick (ltb c 0xC2) (pick (ltb b 0xF0) 0 1) (pick (ltb c 0xE0) 0 (pick (ltb c 0xF0) 1 2))
 
+-- what is due after b and c, where a byte is
+abbrev due : ℕ → ℕ → List Range
+due b c = tailLow c to tailHigh c ∷ replicate (left b c) tailRange
+
 -- what is asked after a, b and c
 abbrev pub asked : ℕ → ℕ → ℕ → List Range
-asked a b c = pick (whole a b c) [] (tailLow c to tailHigh c ∷ replicate (left b c) tailRange)
+asked a b c = pick (whole a b c) [] (due b c)
 
+-- either way round
 pub side : (a b : ℕ) → (a < b) ⊎ (b ≤ a)
 side a b = go (ltb a b) refl
   where
@@ -31,44 +37,40 @@ side a b = go (ltb a b) refl
     go false e = inr (ltb-false a b e)
 
 -- ---- the row of a first byte
--- what a first byte asks, b standing before it
-abbrev begun : ℕ → ℕ → List Range
-begun b d = tailLow d to tailHigh d ∷ replicate (left b d) tailRange
-
 module _ (b d : ℕ) where
   -- a row that narrows no second byte
   plain : (lo hi n : ℕ) → List·Memᴰ (lo to hi ∷ tailRange ∷ replicate n tailRange) rows → lo ≤ d → d ≤ hi
-      → (d ≡ 0xE0 → ⊥) → (d ≡ 0xED → ⊥) → (d ≡ 0xF0 → ⊥) → (d ≡ 0xF4 → ⊥) → left b d ≡ n → firstRow rows d ≡ asks (begun b d)
+      → (d ≡ 0xE0 → ⊥) → (d ≡ 0xED → ⊥) → (d ≡ 0xF0 → ⊥) → (d ≡ 0xF4 → ⊥) → left b d ≡ n → firstRow rows d ≡ asks (due b d)
   plain lo hi n among p q e0 ed f0 f4 size =
       row-firstRow d (lo to hi) (tailRange ∷ replicate n tailRange) among (record { above = p; below = q })
       ∙ simp (ne-eqb d 0xE0 e0, ne-eqb d 0xED ed, ne-eqb d 0xF0 f0, ne-eqb d 0xF4 f4, size)
 
-  begins-row : 0xC2 ≤ d → d ≤ 0xF4 → firstRow rows d ≡ asks (begun b d)
+  begins-row : 0xC2 ≤ d → d ≤ 0xF4 → firstRow rows d ≡ asks (due b d)
   unfolding rows
   begins-row p q = go (side d 0xE0) (side d 0xE1) (side d 0xED) (side d 0xEE) (side d 0xF0) (side d 0xF1) (side d 0xF4)
     where
-      more : {r : List Range} {rs : List (List Range)} {x : List Range} → List·Memᴰ r rs → List·Memᴰ r (x ∷ rs)
-      more m = List·Memᴰ·tail m
+      later : {r : List Range} {rs : List (List Range)} {x : List Range} → List·Memᴰ r rs → List·Memᴰ r (x ∷ rs)
+      later m = List·Memᴰ·tail m
 
       go : (d < 0xE0) ⊎ (0xE0 ≤ d) → (d < 0xE1) ⊎ (0xE1 ≤ d) → (d < 0xED) ⊎ (0xED ≤ d) → (d < 0xEE) ⊎ (0xEE ≤ d)
-          → (d < 0xF0) ⊎ (0xF0 ≤ d) → (d < 0xF1) ⊎ (0xF1 ≤ d) → (d < 0xF4) ⊎ (0xF4 ≤ d) → firstRow rows d ≡ asks (begun b d)
+          → (d < 0xF0) ⊎ (0xF0 ≤ d) → (d < 0xF1) ⊎ (0xF1 ≤ d) → (d < 0xF4) ⊎ (0xF4 ≤ d) → firstRow rows d ≡ asks (due b d)
       go (inl a1) a2 a3 a4 a5 a6 a7 =
-          plain 0xC2 0xDF 0 (more (List·Memᴰ·head refl)) p (omega arith)
+          plain 0xC2 0xDF 0 (later (List·Memᴰ·head refl)) p (omega arith)
           (λ e. omega arith) (λ e. omega arith) (λ e. omega arith) (λ e. omega arith)
           (simp (le-ltb d 0xC2 p, lt-ltb d 0xE0 a1))
       go (inr a1) (inl a2) a3 a4 a5 a6 a7 = let e : d ≡ 0xE0 = omega arith in rw e refl
       go (inr a1) (inr a2) (inl a3) a4 a5 a6 a7 =
-          plain 0xE1 0xEC 1 (more (more (more (List·Memᴰ·head refl)))) a2 (omega arith)
+          plain 0xE1 0xEC 1 (later (later (later (List·Memᴰ·head refl)))) a2 (omega arith)
           (λ e. omega arith) (λ e. omega arith) (λ e. omega arith) (λ e. omega arith)
           (simp (le-ltb d 0xC2 p, le-ltb d 0xE0 a1, lt-ltb d 0xF0 (omega arith)))
       go (inr a1) (inr a2) (inr a3) (inl a4) a5 a6 a7 = let e : d ≡ 0xED = omega arith in rw e refl
       go (inr a1) (inr a2) (inr a3) (inr a4) (inl a5) a6 a7 =
-          plain 0xEE 0xEF 1 (more (more (more (more (more (List·Memᴰ·head refl)))))) a4 (omega arith)
+          plain 0xEE 0xEF 1 (later (later (later (later (later (List·Memᴰ·head refl)))))) a4 (omega arith)
           (λ e. omega arith) (λ e. omega arith) (λ e. omega arith) (λ e. omega arith)
           (simp (le-ltb d 0xC2 p, le-ltb d 0xE0 a1, lt-ltb d 0xF0 a5))
       go (inr a1) (inr a2) (inr a3) (inr a4) (inr a5) (inl a6) a7 = let e : d ≡ 0xF0 = omega arith in rw e refl
       go (inr a1) (inr a2) (inr a3) (inr a4) (inr a5) (inr a6) (inl a7) =
-          plain 0xF1 0xF3 2 (more (more (more (more (more (more (more (List·Memᴰ·head refl)))))))) a6 (omega arith)
+          plain 0xF1 0xF3 2 (later (later (later (later (later (later (later (List·Memᴰ·head refl)))))))) a6 (omega arith)
           (λ e. omega arith) (λ e. omega arith) (λ e. omega arith) (λ e. omega arith)
           (simp (le-ltb d 0xC2 p, le-ltb d 0xE0 a1, le-ltb d 0xF0 a5))
       go (inr a1) (inr a2) (inr a3) (inr a4) (inr a5) (inr a6) (inr a7) = let e : d ≡ 0xF4 = omega arith in rw e refl
@@ -201,12 +203,12 @@ module _ (a b c d : ℕ) (w : whole a b c ≡ false) where
   one-due : afterByte (asked a b c) d ≡ pick (fits a b c d) (asks (replicate (left b c) tailRange)) noRow
   one-due = rw w refl
 
-  due : fits a b c d ≡ holds (tailLow c to tailHigh c) d
-  due = rw w refl
+  goes-on : fits a b c d ≡ holds (tailLow c to tailHigh c) d
+  goes-on = rw w refl
 
   due-yes : (0xC2 ≤ c → b < 0xF0) → fits a b c d ≡ true → OneMore a b c d
   due-yes lead e =
-      let h : d ≤ tailHigh c = leb-true d (tailHigh c) (and-eq-true-iff (leb (tailLow c) d) (leb d (tailHigh c)) .0 (sym due ∙ e) .1) in
+      let h : d ≤ tailHigh c = leb-true d (tailHigh c) (and-eq-true-iff (leb (tailLow c) d) (leb d (tailHigh c)) .0 (sym goes-on ∙ e) .1) in
       let k : d < 0xC2 = omega (arith, h, high-tail c) in
       record {
         asks-then = one-due ∙ rw e (ap asks (sym (asked-less b c d lead k)));
