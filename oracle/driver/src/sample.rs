@@ -285,7 +285,7 @@ impl Sample {
         }
         for text in BAD {
             self.scan(text);
-            for before in [31, 32, 64] {
+            for before in [15, 16, 128] {
                 self.scan(&[&vec![b'a'; before], text].concat());
             }
             self.scan(&[text, &[b'a'; 32]].concat());
