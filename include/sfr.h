@@ -82,8 +82,8 @@ typedef struct {
     size_t next;
 } sfr_place;
 
-/* Where a scan for UTF-8 ends, and whether the bytes pass. place is that of the first byte, counted from 0, after which
- * no continuation can be UTF-8, or the length where there is none. Don't take passes for place = length: bytes cut off
+/* What a scan for UTF-8 tells: where, counted from 0, the first byte stands after which no continuation can be UTF-8, or
+ * the length where there is none; and whether the bytes pass. place = length doesn't mean that they pass: bytes cut off
  * inside a character have their length as place, and don't pass. */
 typedef struct {
     size_t place;
@@ -97,9 +97,9 @@ uint32_t sfr_mul_unit(uint32_t a, uint32_t b);
 /* Are the bytes UTF-8 by RFC 3629? No questions; a length of 0 passes. Lent: bytes, only read. */
 bool sfr_is_utf8(const uint8_t *bytes, size_t len);
 
-/* Scans the bytes for UTF-8 and ends at the place that it answers: C0 80 has place 0, ED A0 80 place 1; C3 alone has
- * place 1, its length, and doesn't pass. passes is what sfr_is_utf8 answers. No questions: there is no number. A length
- * of 0 passes, with place 0. Lent: bytes, only read. */
+/* Scans the bytes for UTF-8 up to the place that it answers; of what lies behind it at most 127 bytes are looked at.
+ * C0 80 has place 0, ED A0 80 place 1; C3 alone has place 1, its length, and doesn't pass. passes is what sfr_is_utf8
+ * answers. No questions: there is no number. A length of 0 passes, with place 0. Lent: bytes, only read. */
 sfr_utf8_scan sfr_scan_utf8(const uint8_t *bytes, size_t len);
 
 /* The little-endian word at bytes[at..at+4). Question 20; a place beyond the bytes holds nothing. Lent: bytes, only

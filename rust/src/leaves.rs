@@ -23,7 +23,8 @@ pub fn is_utf8(bytes: &[u8]) -> bool {
     unsafe { sys::sfr_is_utf8(bytes.as_ptr(), bytes.len()) }
 }
 
-/// Scans the bytes for UTF-8 and ends at the place that it answers.
+/// Scans the bytes for UTF-8 up to the place that it answers; of what lies behind it at most 127
+/// bytes are looked at.
 ///
 /// No questions: there is no number. `passes` is what [`is_utf8`] answers. The empty slice passes,
 /// with place 0.

@@ -30,13 +30,13 @@ pub struct Place {
 
 /// The answer of a scan for UTF-8.
 ///
-/// Don't take `passes` for `place` = length: bytes cut off inside a character have their length
-/// as place, and don't pass.
+/// `place` = length doesn't mean that the bytes pass: bytes cut off inside a character have their
+/// length as place, and don't pass.
 #[repr(C)]
 #[derive(Clone, Copy, Debug, PartialEq, Eq)]
 #[must_use]
 pub struct Utf8Scan {
-    /// The place of the first byte, counted from 0, after which no continuation can be UTF-8; the
+    /// Where, counted from 0, the first byte stands after which no continuation can be UTF-8; the
     /// length where there is none.
     pub place: usize,
     /// Whether the bytes are UTF-8.

@@ -1,7 +1,7 @@
 -- `firstBad` is the place of the first bad byte, on every list of numbers: the one place that `FirstBad` has.
 --
--- Both `follow` and `goodBytes` take a byte by what is asked after it (`follow-step`). Where that is nothing, no bytes can
--- follow (`bad-stops`). Where ranges are asked, their least bytes complete what is there (`good-completes`), since no range
+-- Both `follow` and `goodBytes` take a byte by what is asked after it (`follow-step`). Where it is not what was asked, no bytes
+-- can follow (`bad-stops`). Where ranges are asked, their least bytes complete what is there (`good-completes`), since no range
 -- of the rows is empty, which is computed once over the rows (`rows-filled`). Assumes nothing.
 use Prim.Native.Nat.{ℕ, zero, suc, _+_, _≤_, _<_}
 use mathlib.Core.Path.{_≡_, refl, sym, _∙_}
@@ -14,7 +14,7 @@ use native.Mathlib.Omega.{arith}
 use borrow.Author.Tests.{le-leb, ltb-true, ltb-false}
 use lib.Dec.{leb, ltb}
 use lib.ListN.{length, take, drop, take-append-drop}
-use lib.Seq.{take-length}
+use lib.Seq.{take-length, take-take}
 use Rattle.limits.specs.Questions.{pick}
 use Rattle.utf8.specs.Utf8.{Range, rows, Utf8, holds, After, asks, noRow, firstRow, onRow, follow, isUtf8}
 use Rattle.utf8.specs.Place.{GoesOn, Bad, FirstBad, afterByte, goodBytes, firstBad}
@@ -184,9 +184,20 @@ one-firstBad s i j f g = omega (arith, FirstBad-not-before s i j f g, FirstBad-n
 pub firstBad-iff : (s : List ℕ) (i : ℕ) → (i ≡ firstBad s) ↔ FirstBad s i
 firstBad-iff s i = (λ e. rw e (firstBad-meets s), λ f. one-firstBad s i (firstBad s) f (firstBad-meets s))
 
--- no bad byte stands before it
-pub firstBad-least : (s : List ℕ) (i : ℕ) → Bad s i → firstBad s ≤ i
-firstBad-least s i bad = omega (arith, bad-not-before s i (firstBad s) bad (firstBad-meets s))
+-- from it on, and only from it on, every byte is bad
+pub bad-iff : (s : List ℕ) (i : ℕ) → Bad s i ↔ ((firstBad s ≤ i) × (i < length s))
+bad-iff s i = (λ bad. (omega (arith, bad-not-before s i (firstBad s) bad (firstBad-meets s)), bad .there), λ h. after (h .0) (h .1))
+  where
+    after : firstBad s ≤ i → i < length s → Bad s i
+    after p q =
+        let bad = firstBad-bad s (omega arith) in
+        let l : firstBad s + 1 ≤ i + 1 = omega arith in
+        record {
+          there = q;
+          never = λ more u.
+              let g = goes-on-take (take (i + 1) s) (firstBad s + 1) (record { more = more; whole = u }) in
+              bad .never (g .more) (rw (take-take (firstBad s + 1) (i + 1) s l) at (g .whole));
+        }
 
 -- it is the length exactly where some bytes, put after all of them, make UTF-8
 pub length-iff : (s : List ℕ) → (firstBad s ≡ length s) ↔ GoesOn s

@@ -142,7 +142,7 @@ asked-less b c d lead h = go (side c 0xC2) (side b 0xF0) (side c 0xE0) (side c 0
 
 -- ---- one byte more
 -- where it fits, it and the two before it tell what is asked then; and before a first byte stands none of a fourth row
-pub record OneMore (a b c d : ℕ) : Type 0 where
+pub record Passed (a b c d : ℕ) : Type 0 where
   pub asks-then : afterByte (asked a b c) d ≡ asks (asked b c d)
   pub lead-then : 0xC2 ≤ d → c < 0xF0
 
@@ -163,7 +163,7 @@ module _ (a b c d : ℕ) (w : whole a b c ≡ true) where
   begins : fits a b c d ≡ (ltb d 0x80 || (leb 0xC2 d && leb d 0xF4))
   begins = rw w refl
 
-  begins-ascii : d < 0x80 → OneMore a b c d
+  begins-ascii : d < 0x80 → Passed a b c d
   begins-ascii x =
       record {
         asks-then =
@@ -173,17 +173,17 @@ module _ (a b c d : ℕ) (w : whole a b c ≡ true) where
         lead-then = λ z. omega arith;
       }
 
-  begins-more : 0xC2 ≤ d → d ≤ 0xF4 → OneMore a b c d
+  begins-more : 0xC2 ≤ d → d ≤ 0xF4 → Passed a b c d
   begins-more x y =
       record {
         asks-then = none-due ∙ begins-row c d x y ∙ sym (ap asks (simp (le-ltb d 0xC2 x, and-false)));
         lead-then = λ z. omega (arith, c-below);
       }
 
-  begins-yes : fits a b c d ≡ true → OneMore a b c d
+  begins-yes : fits a b c d ≡ true → Passed a b c d
   begins-yes e = go (side d 0x80) (side d 0xC2) (side 0xF4 d)
     where
-      go : (d < 0x80) ⊎ (0x80 ≤ d) → (d < 0xC2) ⊎ (0xC2 ≤ d) → (0xF4 < d) ⊎ (d ≤ 0xF4) → OneMore a b c d
+      go : (d < 0x80) ⊎ (0x80 ≤ d) → (d < 0xC2) ⊎ (0xC2 ≤ d) → (0xF4 < d) ⊎ (d ≤ 0xF4) → Passed a b c d
       go (inl x) y z = begins-ascii x
       go (inr x) (inr y) (inr z) = begins-more y z
       go (inr x) (inl y) z = absurd (true≢false (sym e ∙ begins ∙ simp (le-ltb d 0x80 x, lt-leb 0xC2 d y)))
@@ -206,7 +206,7 @@ module _ (a b c d : ℕ) (w : whole a b c ≡ false) where
   goes-on : fits a b c d ≡ holds (tailLow c to tailHigh c) d
   goes-on = rw w refl
 
-  due-yes : (0xC2 ≤ c → b < 0xF0) → fits a b c d ≡ true → OneMore a b c d
+  due-yes : (0xC2 ≤ c → b < 0xF0) → fits a b c d ≡ true → Passed a b c d
   due-yes lead e =
       let h : d ≤ tailHigh c = leb-true d (tailHigh c) (and-eq-true-iff (leb (tailLow c) d) (leb d (tailHigh c)) .0 (sym goes-on ∙ e) .1) in
       let k : d < 0xC2 = omega (arith, h, high-tail c) in
@@ -218,10 +218,10 @@ module _ (a b c d : ℕ) (w : whole a b c ≡ false) where
   due-not : fits a b c d ≡ false → afterByte (asked a b c) d ≡ noRow
   due-not e = one-due ∙ rw e refl
 
-pub fits-yes : (a b c d : ℕ) → (0xC2 ≤ c → b < 0xF0) → fits a b c d ≡ true → OneMore a b c d
+pub fits-yes : (a b c d : ℕ) → (0xC2 ≤ c → b < 0xF0) → fits a b c d ≡ true → Passed a b c d
 fits-yes a b c d lead e = go (whole a b c) refl
   where
-    go : (t : Bool) → whole a b c ≡ t → OneMore a b c d
+    go : (t : Bool) → whole a b c ≡ t → Passed a b c d
     go true w = begins-yes a b c d w e
     go false w = due-yes a b c d w lead e
 

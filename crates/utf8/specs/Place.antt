@@ -32,12 +32,12 @@ pub record FirstBad (s : List ℕ) (i : ℕ) : Type 0 where
 
 -- ---- the same as a number, byte by byte
 
--- what is asked after the byte b where ps were asked; nothing where b is not what was asked
+-- what is asked after the byte b where ps were asked; noRow where b is not what was asked
 abbrev pub afterByte : List Range → ℕ → After
 afterByte [] b = firstRow rows b
 afterByte (p ∷ ps) b = pick (holds p b) (asks ps) noRow
 
--- one byte and k of what is then asked; where nothing is, none
+-- 1 more than k of what is then asked; 0 for noRow
 abbrev pub oneMore : After → (List Range → ℕ) → ℕ
 oneMore (asks ps) k = suc (k ps)
 oneMore noRow k = 0

@@ -2,8 +2,10 @@
 //
 // Bad is a byte after which nothing can be UTF-8. No character has more than four bytes, so a byte and the three
 // before it tell (`fits`), and where all bytes before a place fit, those from it on can be asked many at a time:
-// blocks of bytes below 80, blocks of any bytes, and single ones. The scan ends at the first bad byte, and it
-// answers for every input.
+// blocks of bytes below 80, blocks of any bytes, and single ones. The scan ends at the first bad byte, having looked
+// at none behind the block that holds it, and it answers for every input.
+//
+// What blocks say is for speed only: where one says no, smaller ones and single bytes are asked.
 
 ghost use mathlib.Core.Path.{_≡_};
 ghost use mathlib.Core.Bool.{true, false};
@@ -20,8 +22,11 @@ const BLOCK: usize = 16;
 // How many bytes before a byte tell whether it fits.
 const BACK: usize = 3;
 
-// How many bytes below 80 are passed at a time, while there are so many.
-const ASCII_BLOCK: usize = 128;
+// How many bytes below 80 are passed at a time, at the front.
+const ASCII_FRONT: usize = 128;
+
+// The same behind a block of such bytes, where others are near.
+const ASCII_BEHIND: usize = 32;
 
 // What a scan tells: the place of the first bad byte, or how many bytes there are where none is bad, and whether the
 // bytes are UTF-8. Bytes that end inside a character have no bad one and don't pass.
@@ -161,7 +166,7 @@ fn ascii_end(bytes: &[u8], at: usize, n: usize) -> usize
 fn first_above(bytes: &[u8]) -> usize
     ensures { λ r. ⌜ (r ≤ length (now (bytes .entry))) × Ascii (now (bytes .entry)) 0 r ⌝ }
 {
-    let far = ascii_end(bytes, 0, ASCII_BLOCK);
+    let far = ascii_end(bytes, 0, ASCII_FRONT);
     let near = ascii_end(bytes, far, BLOCK);
     ascii_end(bytes, near, 1)
 }
@@ -174,7 +179,7 @@ fn blocks_end(bytes: &[u8], at: usize) -> usize
     let mut i = at;
     while BLOCK <= bytes.len() - i {
         if ascii(bytes, i, BLOCK) & whole_at(bytes, i) {
-            i = ascii_end(bytes, i + BLOCK, ASCII_BLOCK);
+            i = ascii_end(bytes, i + BLOCK, ASCII_BEHIND);
         } else {
             if !block_fits(bytes, i) {
                 return i;

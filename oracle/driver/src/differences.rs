@@ -88,8 +88,8 @@ fn a_ninth_relation_and_a_wire_beyond_the_quota() {
 
 /// The sources refuse a label with the standard library's error, whose place is where the
 /// character begins that isn't one. 02: the place of the first byte after which no continuation
-/// can be UTF-8, or the length. C2 alone, and C2 and any first byte after it, show it; on a byte
-/// with which no character begins both are the same.
+/// can be UTF-8, or the length. C2 alone, and C2 and any byte after it but 80 to BF, show it; on a
+/// byte with which no character begins both are the same.
 #[test]
 fn the_place_of_a_bad_byte() {
     let places = |bytes: &[u8]| {

@@ -6,7 +6,7 @@ use native.Mathlib.Omega.{arith}
 use borrow.Author.Needs.{needs}
 use borrow.Author.Tests.{ltb-true}
 use Rattle.utf8.specs.Scan.{Ascii}
-use Rattle.utf8.proofs.Scan.{each-so-far}
+use Rattle.utf8.proofs.Scan.{each-none, each-so-far}
 use Rattle.utf8.proofs.ascii.Statement.{statement}
 use Rattle.utf8.proofs.ascii.Tie as tie
 
@@ -17,7 +17,7 @@ abbrev μ-loop : tie.MeasureT-loop
 μ-loop bytes at n all₀ i₀ all i = n - i
 
 loop-holds : tie.Need-loop-holds Inv-loop μ-loop
-loop-holds c = (omega arith, λ e k p q. omega arith)
+loop-holds c = (omega arith, λ e. each-none _ _ _ (omega arith))
 
 add-all : tie.Need-add-all Inv-loop μ-loop
 add-all c = search needs

@@ -15,8 +15,9 @@ const CALLS: usize = 10_000;
 /// What a label is made of, piece by piece.
 type Text = fn(&mut Rng, &mut String);
 
-const TEXTS: [(&str, Text); 5] = [
+const TEXTS: [(&str, Text); 6] = [
     ("ASCII", ascii),
+    ("sparse", sparse),
     ("Latin", latin),
     ("two bytes", greek),
     ("three bytes", three_bytes),
@@ -34,7 +35,17 @@ fn ascii(rng: &mut Rng, text: &mut String) {
 
 /// A letter of two bytes after every 20 letters or so.
 fn latin(rng: &mut Rng, text: &mut String) {
-    for _ in 0..rng.between(8, 32) {
+    after(rng, 8, 32, text);
+}
+
+/// A letter of two bytes after every 100 letters or so.
+fn sparse(rng: &mut Rng, text: &mut String) {
+    after(rng, 40, 160, text);
+}
+
+/// A letter of two bytes after so many others.
+fn after(rng: &mut Rng, least: usize, most: usize, text: &mut String) {
+    for _ in 0..rng.between(least, most) {
         ascii(rng, text);
     }
     text.push(any(rng, 'à', 'ÿ'));
@@ -117,7 +128,7 @@ pub fn tables(last: usize) {
     println!(
         "Nanoseconds for {PIECE} bytes of a label that passes; growth is the time beside that of a tenth of the bytes. A run goes \
          over a million bytes: of shorter labels over several, no two of them alike. `from_utf8` is the standard library's, to \
-         which the sources leave a label. `Latin` is ASCII with a letter of two bytes after 8 to 32 others, `two bytes` are \
+         which the sources leave a label. `sparse` and `Latin` are ASCII with a letter of two bytes after 40 to 160 and after 8 to 32 others, `two bytes` are \
          Greek words with a space between them, `three bytes` has no others, and in `all widths` each character has any of \
          the four.\n"
     );

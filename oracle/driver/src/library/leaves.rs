@@ -186,9 +186,9 @@ impl Page {
     }
 }
 
-/// ASCII of every length; bad bytes, cut-offs and characters at every place of ASCII texts that are
-/// longer than two blocks of 64 bytes, at a text's end and before it; random texts of that kind; and
-/// texts with no ASCII among their characters.
+/// ASCII of every length; characters, bad bytes and cut-offs at every place of a run of ASCII, every
+/// second time with a character before it, at a text's end and before a short or a long run more;
+/// random texts of that kind; and texts with no ASCII among their characters.
 fn labels(rng: &mut Rng, count: u64, counts: &mut Counts) -> Compared {
     let mut page = Page([0; 1024]);
     for len in 0..=200 {
@@ -200,8 +200,12 @@ fn labels(rng: &mut Rng, count: u64, counts: &mut Counts) -> Compared {
     let pieces = pieces();
     for place in 0..=132 {
         for piece in &pieces {
-            for after in [0, rng.below(80)] {
-                let mut bytes: Vec<u8> = leaf::ascii(rng, place).collect();
+            for after in [0, rng.below(80), 128 + rng.below(40)] {
+                let mut bytes = Vec::new();
+                if rng.once_in(2) {
+                    bytes.extend("\u{E9}".bytes());
+                }
+                bytes.extend(leaf::ascii(rng, place));
                 bytes.extend(piece);
                 bytes.extend(leaf::ascii(rng, after));
                 page.text(rng, &bytes, counts)?;
@@ -215,7 +219,7 @@ fn labels(rng: &mut Rng, count: u64, counts: &mut Counts) -> Compared {
     dense(rng, &mut page, counts)
 }
 
-/// Labels of one character again and again, after up to four bytes of ASCII: cut off at every place,
+/// Labels of one character again and again, after up to three bytes of ASCII: cut off at every place,
 /// and with a row end put at every place.
 fn dense(rng: &mut Rng, page: &mut Page, counts: &mut Counts) -> Compared {
     for character in ROW_CHARS {
