@@ -162,12 +162,20 @@ fn ascii_end(bytes: &[u8], at: usize, n: usize) -> usize
     i
 }
 
-// The place of the first byte of 80 or more, or how many bytes there are where none is.
+// The place of the first byte of 80 or more, or how many bytes there are where none is. The last block ends where the
+// bytes end and may begin before another's end.
 fn first_above(bytes: &[u8]) -> usize
     ensures { λ r. ⌜ (r ≤ length (now (bytes .entry))) × Ascii (now (bytes .entry)) 0 r ⌝ }
 {
     let far = ascii_end(bytes, 0, ASCII_FRONT);
     let near = ascii_end(bytes, far, BLOCK);
+    if BLOCK <= bytes.len() {
+        if bytes.len() - near < BLOCK {
+            if ascii(bytes, bytes.len() - BLOCK, BLOCK) {
+                return bytes.len();
+            }
+        }
+    }
     ascii_end(bytes, near, 1)
 }
 
@@ -190,8 +198,7 @@ fn blocks_end(bytes: &[u8], at: usize) -> usize
     i
 }
 
-// From a place on, as far as blocks tell: single bytes up to the first block, blocks, and a last one that ends where the
-// bytes end and may begin before another's end.
+// From a place on, as far as blocks tell: single bytes up to the first block, blocks, and a last one as above.
 fn far_end(bytes: &[u8], at: usize) -> usize
     requires { ⌜ at ≤ length (now bytes) ⌝ }
     ensures { λ r. ⌜ (at ≤ r) × (r ≤ length (now (bytes .entry))) × Fit (now (bytes .entry)) at r ⌝ }
