@@ -100,6 +100,7 @@ mulUnit-addUnit a b c =
 
 -- ---- powers
 pub powerUnit-is : (a n : ℕ) → Same prime (powerUnit a n) (a ^ n)
+unfolding powerUnit
 powerUnit-is a zero = same (sym (pow-zero a))
 powerUnit-is a (suc n) =
     mulUnit-is (powerUnit a n) a ⟫ powerUnit-is a n ⊗ keep {a = a} ⟫ same (sym (pow-suc a n))
@@ -111,16 +112,21 @@ sixth a =
 -- by squares
 pub seventh-squares : (a x2 x4 x6 x7 : ℕ) → x2 ≡ mulUnit a a → x4 ≡ mulUnit x2 x2 → x6 ≡ mulUnit x4 x2
     → x7 ≡ mulUnit x6 a → x7 ≡ seventh a
-unfolding seventh
+unfolding seventh powerUnit
 seventh-squares a x2 x4 x6 x7 e2 e4 e6 e7 =
     let s2 : Same prime x2 (a * a) = same e2 ⟫ mulUnit-is a a in
     let s4 : Same prime x4 (a * a * (a * a)) = same e4 ⟫ mulUnit-is x2 x2 ⟫ s2 ⊗ s2 in
     let s6 : Same prime x6 (a * a * (a * a) * (a * a)) = same e6 ⟫ mulUnit-is x4 x2 ⟫ s4 ⊗ s2 in
     e7 ∙ mulUnit-same (s6 ⟫ same (sym (sixth a)) ⟫ back (powerUnit-is a 6)) keep
 
+pub powerUnit-below : (a n : ℕ) → powerUnit a n < prime
+unfolding powerUnit
+powerUnit-below a zero = lit< tt
+powerUnit-below a (suc n) = mulUnit-below (powerUnit a n) a
+
 pub seventh-below : (a : ℕ) → seventh a < prime
 unfolding seventh
-seventh-below a = mulUnit-below (powerUnit a 6) a
+seventh-below a = powerUnit-below a 7
 
 -- ---- lists: one reduction at the end is enough
 pub sumUnits-is : (l : List ℕ) → sumUnits l ≡ sum l % prime

@@ -19,7 +19,7 @@ abbrev pub areUnits : List ℕ → Bool
 areUnits l = allBelow prime l
 
 -- a times itself, n times in all
-abbrev pub powerUnit : ℕ → ℕ → ℕ
+unfoldable pub powerUnit : ℕ → ℕ → ℕ
 powerUnit a zero = 1
 powerUnit a (suc n) = mulUnit (powerUnit a n) a
 

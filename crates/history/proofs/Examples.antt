@@ -12,7 +12,7 @@ use Rattle.limits.specs.declared.Outcome.{Outcome}
 use Rattle.limits.specs.declared.Outcome.the-variants.{Accepted, Refused}
 use Rattle.words.specs.Store.{allBelow}
 use Rattle.utf8.specs.Utf8.{follow, isUtf8}
-use Rattle.baby_bear.specs.Field.{addUnit, mulUnit, seventh, dotUnits}
+use Rattle.baby_bear.specs.Field.{addUnit, mulUnit, powerUnit, seventh, dotUnits}
 use Rattle.allocator.specs.Slots.{pair, pairNo, setItems}
 use Rattle.expr.specs.Equation.{Term, equation, equationAt, sizeAt}
 use Rattle.expr.specs.declared.Weighted.{Weighted}
@@ -23,7 +23,7 @@ use Rattle.ticket.specs.Form.{ticketLine, readLine}
 use Rattle.ticket.specs.Steps.{gramsToSteps}
 use Rattle.tickets.specs.Lines.{linesOf, lineNo}
 use Rattle.tickets.specs.Tickets.{setTicketsRun}
-use Rattle.permute.specs.Permute.{addConstants, raise, timesMatrix, runRound, runRounds, permute}
+use Rattle.permute.specs.Permute.{pairwise, onKind, timesMatrix, runRound, runRounds, permute}
 use Rattle.permute.specs.Parameters.{roundsOf, rowsOf, parametersOf, soundKinds, unitConstants, unitRows, soundParameters, permuteNo, sameWords, isEvaluation}
 use Rattle.instance.specs.Parts.{partsOf}
 use Rattle.held.specs.Held.{equationsSound, publicsSound, slotsSound}
@@ -134,7 +134,7 @@ SatA trace = Sat (Evaluates 1 (parametersOf 1 1 params)) (lastLedger 1 slots que
 
 -- the ledger of those calls is satisfied by the trace (2, 5)
 pub satisfied : SatA ((2 ∷ 5 ∷ []) ∷ [])
-unfolding ask _▸_ newRelationNo allocateVarsNo setVarNo setVarsNo addPermutationNo allocatePermutationNo addEquationNo pairNo setItems setVarsRun ticketLine gramsToSteps readLine linesOf lineNo setTicketsRun allBelow answer after compiledParts publicsOf equationAt sizeAt equationsSound slotsSound follow isUtf8 compileNo compile validatedNo gateNo compilePublics publicsSound partsOf checkNo isWitnessValidNo isEvaluation permuteNo soundParameters roundsOf rowsOf soundKinds unitConstants unitRows sameWords runRounds runRound addConstants raise timesMatrix addUnit mulUnit seventh dotUnits instanceToBytesNo instanceBytes headerBytes u32Bytes instanceFromBytes readInstance readFile readHeader readMagic readLabel readParts readPublics readQueries readEquations word part below witnessToBytesNo witnessBytes witnessFromBytes readWitness readSteps
+unfolding ask _▸_ newRelationNo allocateVarsNo setVarNo setVarsNo addPermutationNo allocatePermutationNo addEquationNo pairNo setItems setVarsRun ticketLine gramsToSteps readLine linesOf lineNo setTicketsRun allBelow answer after compiledParts publicsOf equationAt sizeAt equationsSound slotsSound follow isUtf8 compileNo compile validatedNo gateNo compilePublics publicsSound partsOf checkNo isWitnessValidNo isEvaluation permuteNo soundParameters roundsOf rowsOf soundKinds unitConstants unitRows sameWords runRounds runRound pairwise onKind timesMatrix addUnit mulUnit powerUnit seventh dotUnits instanceToBytesNo instanceBytes headerBytes u32Bytes instanceFromBytes readInstance readFile readHeader readMagic readLabel readParts readPublics readQueries readEquations word part below witnessToBytesNo witnessBytes witnessFromBytes readWitness readSteps
 satisfied =
     whole 1 slots queries equations fresh-accepted calls .judged .gated [] publics scratch gate-accepted .files lentFile
     .checks refl refl (lentTrace (2 ∷ 5 ∷ 9 ∷ [])) refl refl 1 params refl 3 (omega arith) (omega arith)
@@ -142,7 +142,7 @@ satisfied =
 
 -- with no bytes between too
 pub satisfied-held : SatA ((2 ∷ 5 ∷ []) ∷ [])
-unfolding ask _▸_ newRelationNo allocateVarsNo setVarNo setVarsNo addPermutationNo allocatePermutationNo addEquationNo pairNo setItems setVarsRun ticketLine gramsToSteps readLine linesOf lineNo setTicketsRun allBelow answer after compiledParts publicsOf equationAt sizeAt equationsSound slotsSound follow isUtf8 compileNo compile validatedNo gateNo compilePublics publicsSound partsOf checkNo isWitnessValidNo isEvaluation permuteNo soundParameters roundsOf rowsOf soundKinds unitConstants unitRows sameWords runRounds runRound addConstants raise timesMatrix addUnit mulUnit seventh dotUnits
+unfolding ask _▸_ newRelationNo allocateVarsNo setVarNo setVarsNo addPermutationNo allocatePermutationNo addEquationNo pairNo setItems setVarsRun ticketLine gramsToSteps readLine linesOf lineNo setTicketsRun allBelow answer after compiledParts publicsOf equationAt sizeAt equationsSound slotsSound follow isUtf8 compileNo compile validatedNo gateNo compilePublics publicsSound partsOf checkNo isWitnessValidNo isEvaluation permuteNo soundParameters roundsOf rowsOf soundKinds unitConstants unitRows sameWords runRounds runRound pairwise onKind timesMatrix addUnit mulUnit powerUnit seventh dotUnits
 satisfied-held =
     whole 1 slots queries equations fresh-accepted calls .judged .gated [] publics scratch gate-accepted
     .checks 1 (2 ∷ 5 ∷ 9 ∷ []) (record { size = omega arith; room = omega arith; units = refl }) 1 params refl 3 (omega arith) (omega arith)
@@ -150,7 +150,7 @@ satisfied-held =
 
 -- and not by (3, 640), whose check is 33: no assignment gives wire 2 both 5 and 640
 pub unsatisfied : SatA ((3 ∷ 640 ∷ []) ∷ []) → ⊥
-unfolding ask _▸_ newRelationNo allocateVarsNo setVarNo setVarsNo addPermutationNo allocatePermutationNo addEquationNo pairNo setItems setVarsRun ticketLine gramsToSteps readLine linesOf lineNo setTicketsRun allBelow answer after compiledParts publicsOf equationAt sizeAt equationsSound slotsSound follow isUtf8 compileNo compile validatedNo gateNo compilePublics publicsSound partsOf checkNo isWitnessValidNo isEvaluation permuteNo soundParameters roundsOf rowsOf soundKinds unitConstants unitRows sameWords runRounds runRound addConstants raise timesMatrix addUnit mulUnit seventh dotUnits instanceToBytesNo instanceBytes headerBytes u32Bytes instanceFromBytes readInstance readFile readHeader readMagic readLabel readParts readPublics readQueries readEquations word part below witnessToBytesNo witnessBytes witnessFromBytes readWitness readSteps
+unfolding ask _▸_ newRelationNo allocateVarsNo setVarNo setVarsNo addPermutationNo allocatePermutationNo addEquationNo pairNo setItems setVarsRun ticketLine gramsToSteps readLine linesOf lineNo setTicketsRun allBelow answer after compiledParts publicsOf equationAt sizeAt equationsSound slotsSound follow isUtf8 compileNo compile validatedNo gateNo compilePublics publicsSound partsOf checkNo isWitnessValidNo isEvaluation permuteNo soundParameters roundsOf rowsOf soundKinds unitConstants unitRows sameWords runRounds runRound pairwise onKind timesMatrix addUnit mulUnit powerUnit seventh dotUnits instanceToBytesNo instanceBytes headerBytes u32Bytes instanceFromBytes readInstance readFile readHeader readMagic readLabel readParts readPublics readQueries readEquations word part below witnessToBytesNo witnessBytes witnessFromBytes readWitness readSteps
 unsatisfied s =
     let z : _≡_ {A = ℕ} 33 0 = accepted-no 33
     (whole 1 slots queries equations fresh-accepted calls .judged .gated [] publics scratch gate-accepted .files lentFile
@@ -217,7 +217,7 @@ pub record Starred : Type 0 where
       × (checkA 1 (2 ∷ 6 ∷ []) ≡ Refused 32) × (checkA 1 (3 ∷ 640 ∷ []) ≡ Refused 33)
 
 pub starred : Starred
-unfolding ask _▸_ allBelow compiledParts publicsOf equationAt sizeAt equationsSound slotsSound follow isUtf8 compileNo compile validatedNo gateNo compilePublics publicsSound partsOf checkNo isWitnessValidNo isEvaluation permuteNo soundParameters roundsOf rowsOf soundKinds unitConstants unitRows sameWords runRounds runRound addConstants raise timesMatrix addUnit mulUnit seventh dotUnits
+unfolding ask _▸_ allBelow compiledParts publicsOf equationAt sizeAt equationsSound slotsSound follow isUtf8 compileNo compile validatedNo gateNo compilePublics publicsSound partsOf checkNo isWitnessValidNo isEvaluation permuteNo soundParameters roundsOf rowsOf soundKinds unitConstants unitRows sameWords runRounds runRound pairwise onKind timesMatrix addUnit mulUnit powerUnit seventh dotUnits
 starred =
     record {
       calls-are = examples;
@@ -230,5 +230,5 @@ starred =
 
 -- 36 comes of parts that no gate has seen
 no-36 : check (instanceOf (relation 1 1 0 0 0) 1) (1 ∷ 0 ∷ []) [] [] 0 [] ≡ Refused 36
-unfolding ask _▸_ allBelow compiledParts publicsOf equationAt sizeAt equationsSound slotsSound follow isUtf8 compileNo compile validatedNo gateNo compilePublics publicsSound partsOf checkNo isWitnessValidNo isEvaluation permuteNo soundParameters roundsOf rowsOf soundKinds unitConstants unitRows sameWords runRounds runRound addConstants raise timesMatrix addUnit mulUnit seventh dotUnits
+unfolding ask _▸_ allBelow compiledParts publicsOf equationAt sizeAt equationsSound slotsSound follow isUtf8 compileNo compile validatedNo gateNo compilePublics publicsSound partsOf checkNo isWitnessValidNo isEvaluation permuteNo soundParameters roundsOf rowsOf soundKinds unitConstants unitRows sameWords runRounds runRound pairwise onKind timesMatrix addUnit mulUnit powerUnit seventh dotUnits
 no-36 = refl

@@ -6,8 +6,8 @@ use mathlib.Core.List.{List, [], _∷_}
 use Rattle.limits.specs.Below.{allBelow}
 use Rattle.limits.specs.Questions.{ask, _▸_}
 use Rattle.words.specs.Pieces.{pieces}
-use Rattle.baby_bear.specs.Field.{addUnit, mulUnit, seventh, dotUnits}
-use Rattle.permute.specs.Permute.{addConstants, raise, timesMatrix, runRound, runRounds, permute}
+use Rattle.baby_bear.specs.Field.{addUnit, mulUnit, powerUnit, seventh, dotUnits}
+use Rattle.permute.specs.Permute.{pairwise, onKind, timesMatrix, runRound, runRounds, permute}
 use Rattle.permute.specs.Parameters.{roundsOf, rowsOf, parametersOf, soundKinds, unitConstants, unitRows, soundParameters, permuteNo, sameWords, isEvaluation, leading}
 
 -- ---- document 01's: w = 1, one round, kind 0, constant 2013265920, matrix 5. 2 gives 5 and 3 gives 640; (2, 5)
@@ -21,7 +21,7 @@ pub worked : (soundParameters 1 1 words ≡ true)
     × (isEvaluation 1 1 words (2 ∷ 5 ∷ []) ≡ true) × (isEvaluation 1 1 words (3 ∷ 640 ∷ []) ≡ true)
     × (isEvaluation 1 1 words (2 ∷ 6 ∷ []) ≡ false)
     × (leading (isEvaluation 1 1 words) (pieces 2 3 (2 ∷ 5 ∷ 2 ∷ 6 ∷ 3 ∷ 640 ∷ [])) ≡ 1)
-unfolding ask _▸_ addUnit mulUnit seventh allBelow dotUnits addConstants raise timesMatrix runRound runRounds roundsOf rowsOf soundKinds unitConstants unitRows soundParameters permuteNo sameWords isEvaluation leading
+unfolding ask _▸_ addUnit mulUnit powerUnit seventh allBelow dotUnits pairwise onKind timesMatrix runRound runRounds roundsOf rowsOf soundKinds unitConstants unitRows soundParameters permuteNo sameWords isEvaluation leading
 worked = (refl, refl, refl, refl, refl, refl, refl)
 
 -- ---- w = 2, one round, constants 1 and 2, matrix rows 1 2 and 3 4, input 1 1: rows and columns are told apart, and
@@ -32,5 +32,5 @@ wide kind = kind ∷ 1 ∷ 2 ∷ 1 ∷ 2 ∷ 3 ∷ 4 ∷ []
 pub two-wide : (soundParameters 2 1 (wide 0) ≡ true) × (soundParameters 2 1 (wide 1) ≡ true)
     × (permute (parametersOf 2 1 (wide 1)) (1 ∷ 1 ∷ []) ≡ 134 ∷ 396 ∷ [])
     × (permute (parametersOf 2 1 (wide 0)) (1 ∷ 1 ∷ []) ≡ 4502 ∷ 9132 ∷ [])
-unfolding addUnit mulUnit seventh allBelow dotUnits addConstants raise timesMatrix runRound runRounds roundsOf rowsOf soundKinds unitConstants unitRows soundParameters
+unfolding addUnit mulUnit powerUnit seventh allBelow dotUnits pairwise onKind timesMatrix runRound runRounds roundsOf rowsOf soundKinds unitConstants unitRows soundParameters
 two-wide = (refl, refl, refl, refl)

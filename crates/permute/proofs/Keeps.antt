@@ -9,23 +9,23 @@ use lib.ListN.{length, drop, length-map}
 use Rattle.limits.specs.Numbers.{prime}
 use Rattle.limits.specs.Below.{allBelow}
 use Rattle.limits.proofs.Below.{below-cons, cons-below}
-use Rattle.baby_bear.specs.Field.{areUnits, addUnit, mulUnit, seventh, sumUnits, productUnits, dotUnits}
-use Rattle.baby_bear.proofs.Ring.{addUnit-below, seventh-below}
-use Rattle.permute.specs.Permute.{Round, addConstants, raise, timesMatrix, runRound, runRounds}
+use Rattle.baby_bear.specs.Field.{areUnits, mulUnit, sumUnits, productUnits, dotUnits}
+use Rattle.baby_bear.proofs.Ring.{addUnit-below}
+use Rattle.permute.specs.Permute.{Round, pairwise, onKind, addConstants, raise, timesMatrix, runRound, runRounds}
 use Rattle.permute.specs.Parameters.{rowsOf}
 
 -- ---- how many
-pub addConstants-length : (cs x : List ℕ) → length (addConstants cs x) ≡ length x
-unfolding addConstants
-addConstants-length cs [] = refl
-addConstants-length [] (a ∷ x) = refl
-addConstants-length (c ∷ cs) (a ∷ x) = ap suc (addConstants-length cs x)
+pub pairwise-length : (f : ℕ → ℕ → ℕ) (cs x : List ℕ) → length (pairwise f cs x) ≡ length x
+unfolding pairwise
+pairwise-length f cs [] = refl
+pairwise-length f [] (a ∷ x) = refl
+pairwise-length f (c ∷ cs) (a ∷ x) = ap suc (pairwise-length f cs x)
 
-pub raise-length : (kind : ℕ) (x : List ℕ) → length (raise kind x) ≡ length x
-unfolding raise
-raise-length kind [] = refl
-raise-length zero (a ∷ x) = ap suc (length-map x seventh)
-raise-length (suc kind) (a ∷ x) = refl
+pub onKind-length : (f : ℕ → ℕ) (kind : ℕ) (x : List ℕ) → length (onKind f kind x) ≡ length x
+unfolding onKind
+onKind-length f kind [] = refl
+onKind-length f zero (a ∷ x) = ap suc (length-map x f)
+onKind-length f (suc kind) (a ∷ x) = refl
 
 pub timesMatrix-length : (m : List (List ℕ)) (x : List ℕ) → length (timesMatrix m x) ≡ length m
 unfolding timesMatrix
@@ -44,23 +44,25 @@ dotUnits-below [] x = lit< tt
 dotUnits-below (a ∷ r) [] = lit< tt
 dotUnits-below (a ∷ r) (b ∷ x) = addUnit-below (mulUnit a b) (sumUnits (productUnits r x))
 
-pub addConstants-units : (cs x : List ℕ) → areUnits x ≡ true → areUnits (addConstants cs x) ≡ true
-unfolding addConstants
-addConstants-units cs [] e = e
-addConstants-units [] (a ∷ x) e = e
-addConstants-units (c ∷ cs) (a ∷ x) e =
-    cons-below prime (addUnit a c) (addConstants cs x) (addUnit-below a c) (addConstants-units cs x (below-cons prime a x e .1))
+module _ (f : ℕ → ℕ → ℕ) (below : (a b : ℕ) → f a b < prime) where
+  pub pairwise-units : (cs x : List ℕ) → areUnits x ≡ true → areUnits (pairwise f cs x) ≡ true
+  unfolding pairwise
+  pairwise-units cs [] e = e
+  pairwise-units [] (a ∷ x) e = e
+  pairwise-units (c ∷ cs) (a ∷ x) e =
+      cons-below prime (f a c) (pairwise f cs x) (below a c) (pairwise-units cs x (below-cons prime a x e .1))
 
-sevenths-units : (x : List ℕ) → areUnits (map seventh x) ≡ true
-unfolding allBelow
-sevenths-units [] = refl
-sevenths-units (a ∷ x) = cons-below prime (seventh a) (map seventh x) (seventh-below a) (sevenths-units x)
+module _ (f : ℕ → ℕ) (below : (a : ℕ) → f a < prime) where
+  pub map-units : (x : List ℕ) → areUnits (map f x) ≡ true
+  unfolding allBelow
+  map-units [] = refl
+  map-units (a ∷ x) = cons-below prime (f a) (map f x) (below a) (map-units x)
 
-pub raise-units : (kind : ℕ) (x : List ℕ) → areUnits x ≡ true → areUnits (raise kind x) ≡ true
-unfolding raise
-raise-units kind [] e = e
-raise-units zero (a ∷ x) e = sevenths-units (a ∷ x)
-raise-units (suc kind) (a ∷ x) e = cons-below prime (seventh a) x (seventh-below a) (below-cons prime a x e .1)
+  pub onKind-units : (kind : ℕ) (x : List ℕ) → areUnits x ≡ true → areUnits (onKind f kind x) ≡ true
+  unfolding onKind
+  onKind-units kind [] e = e
+  onKind-units zero (a ∷ x) e = map-units (a ∷ x)
+  onKind-units (suc kind) (a ∷ x) e = cons-below prime (f a) x (below a) (below-cons prime a x e .1)
 
 pub timesMatrix-units : (m : List (List ℕ)) (x : List ℕ) → areUnits (timesMatrix m x) ≡ true
 unfolding timesMatrix allBelow

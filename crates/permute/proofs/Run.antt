@@ -12,25 +12,26 @@ use lib.ListN.{length, getD, take, drop, length-take, length-drop}
 use lib.Seq.{take-all}
 use Rattle.limits.specs.Numbers.{prime, maxWidth}
 use Rattle.limits.proofs.Below.{below-take, below-drop}
-use Rattle.baby_bear.specs.Field.{areUnits}
+use Rattle.baby_bear.specs.Field.{areUnits, addUnit, seventh}
+use Rattle.baby_bear.proofs.Ring.{addUnit-below, seventh-below}
 use Rattle.permute.specs.Permute.{Round, roundOf, addConstants, raise, timesMatrix, runRound, runRounds, permute}
 use Rattle.permute.specs.Parameters.{roundsOf, rowsOf, parametersOf}
 use Rattle.permute.specs.Columns.{turnedRows}
 use Rattle.permute.specs.Walks.{MatrixAsked, Turned, ProductAsked, MixAsked, Ready}
-use Rattle.permute.proofs.Keeps.{addConstants-length, addConstants-units, raise-length, raise-units, runRound-length, runRound-units, rowsOf-length}
+use Rattle.permute.proofs.Keeps.{pairwise-length, pairwise-units, onKind-length, onKind-units, runRound-length, runRound-units, rowsOf-length}
 use Rattle.permute.proofs.Parameters.{Sound, sound-is, round-at}
 
 -- ---- one round: what stands between its halves is as many units
 module _ (columns cs state mixed : List ℕ) (kind : ℕ) (e : mixed ≡ raise kind (addConstants cs state)) where
   mixed-length : length mixed ≡ length state
-  mixed-length = ap length e ∙ raise-length kind (addConstants cs state) ∙ addConstants-length cs state
+  mixed-length = ap length e ∙ onKind-length seventh kind (addConstants cs state) ∙ pairwise-length addUnit cs state
 
   pub times-asked : areUnits state ≡ true → ProductAsked columns state → ProductAsked columns mixed × (length state ≡ length mixed)
   times-asked us p =
       let l = mixed-length in (
         record {
           units = p .units;
-          state-units = ap areUnits e ∙ raise-units kind (addConstants cs state) (addConstants-units cs state us);
+          state-units = ap areUnits e ∙ onKind-units seventh seventh-below kind (addConstants cs state) (pairwise-units addUnit addUnit-below cs state us);
           room = rw l (p .room);
           wide = omega (arith, l, p .wide);
         },

@@ -18,17 +18,25 @@ pub record Parameters : Type 0 where
   pub rounds : List Round
   pub matrix : List (List ℕ)
 
+-- f of each element and the word at its place in another list; an element that has none there stays
+unfoldable pub pairwise : (ℕ → ℕ → ℕ) → List ℕ → List ℕ → List ℕ
+pairwise f cs [] = []
+pairwise f [] (a ∷ x) = a ∷ x
+pairwise f (c ∷ cs) (a ∷ x) = f a c ∷ pairwise f cs x
+
+-- f of every element (kind 0) or only of element 0 (kind 1)
+unfoldable pub onKind : (ℕ → ℕ) → ℕ → List ℕ → List ℕ
+onKind f kind [] = []
+onKind f zero (a ∷ x) = f a ∷ map f x
+onKind f (suc k) (a ∷ x) = f a ∷ x
+
 -- "a round adds constant i to element i,"
-unfoldable pub addConstants : List ℕ → List ℕ → List ℕ
-addConstants cs [] = []
-addConstants [] (a ∷ x) = a ∷ x
-addConstants (c ∷ cs) (a ∷ x) = addUnit a c ∷ addConstants cs x
+abbrev pub addConstants : List ℕ → List ℕ → List ℕ
+addConstants cs x = pairwise addUnit cs x
 
 -- "raises every element (kind 0) or only element 0 (kind 1) to the 7th power,"
-unfoldable pub raise : ℕ → List ℕ → List ℕ
-raise kind [] = []
-raise zero (a ∷ x) = seventh a ∷ map seventh x
-raise (suc k) (a ∷ x) = seventh a ∷ x
+abbrev pub raise : ℕ → List ℕ → List ℕ
+raise kind x = onKind seventh kind x
 
 -- "and replaces element i by the sum over j of M[i][j] times element j"
 unfoldable pub timesMatrix : List (List ℕ) → List ℕ → List ℕ

@@ -11,7 +11,7 @@ use Rattle.limits.specs.Questions.{ask, _▸_}
 use Rattle.limits.specs.declared.Outcome.the-variants.{Accepted, Refused}
 use Rattle.words.specs.Store.{allBelow}
 use Rattle.utf8.specs.Utf8.{follow, isUtf8}
-use Rattle.baby_bear.specs.Field.{addUnit, mulUnit, seventh, dotUnits}
+use Rattle.baby_bear.specs.Field.{addUnit, mulUnit, powerUnit, seventh, dotUnits}
 use Rattle.allocator.specs.Slots.{pair, pairNo, setItems}
 use Rattle.expr.specs.Equation.{equation, equationAt, sizeAt}
 use Rattle.expr.specs.declared.Weighted.{Weighted}
@@ -22,7 +22,7 @@ use Rattle.ticket.specs.Form.{ticketLine, readLine}
 use Rattle.ticket.specs.Steps.{gramsToSteps}
 use Rattle.tickets.specs.Lines.{linesOf, lineNo}
 use Rattle.tickets.specs.Tickets.{setTicketsRun}
-use Rattle.permute.specs.Permute.{addConstants, raise, timesMatrix, runRound, runRounds}
+use Rattle.permute.specs.Permute.{pairwise, onKind, timesMatrix, runRound, runRounds}
 use Rattle.permute.specs.Parameters.{roundsOf, rowsOf, parametersOf, soundKinds, unitConstants, unitRows, soundParameters, permuteNo, sameWords, isEvaluation}
 use Rattle.instance.specs.Parts.{partsOf}
 use Rattle.held.specs.Held.{equationsSound, publicsSound, slotsSound}
@@ -173,7 +173,7 @@ Sat0 trace = Sat (Evaluates 1 (parametersOf 1 1 params)) (judgedOn ledger-at (ow
 -- everybody's sets with relation 0's query and equation are satisfied by the trace (2, 5): the equation's wire has no value
 -- but the one that relation 1 gave it
 pub satisfied : Sat0 ((2 ∷ 5 ∷ []) ∷ [])
-unfolding ask _▸_ withAllocatorNo frontAsks frontNo allocateVarsNo setVarNo setVarsNo addPermutationNo allocatePermutationNo addEquationNo pairNo setItems setVarsRun ticketLine gramsToSteps readLine linesOf lineNo setTicketsRun allBelow answer after sharedAnswer sharedAfter sharedNoted noted compiledParts publicsOf equationAt sizeAt equationsSound slotsSound follow isUtf8 compileNo compile validatedNo gateNo compileOnNo compileOn compilePublicsOn compilePublics publicsSound partsOf checkNo isWitnessValidNo isEvaluation permuteNo soundParameters roundsOf rowsOf soundKinds unitConstants unitRows sameWords runRounds runRound addConstants raise timesMatrix addUnit mulUnit seventh dotUnits instanceToBytesNo instanceBytes headerBytes u32Bytes instanceFromBytes readInstance readFile readHeader readMagic readLabel readParts readPublics readQueries readEquations word part below witnessToBytesNo witnessBytes witnessFromBytes readWitness readSteps
+unfolding ask _▸_ withAllocatorNo frontAsks frontNo allocateVarsNo setVarNo setVarsNo addPermutationNo allocatePermutationNo addEquationNo pairNo setItems setVarsRun ticketLine gramsToSteps readLine linesOf lineNo setTicketsRun allBelow answer after sharedAnswer sharedAfter sharedNoted noted compiledParts publicsOf equationAt sizeAt equationsSound slotsSound follow isUtf8 compileNo compile validatedNo gateNo compileOnNo compileOn compilePublicsOn compilePublics publicsSound partsOf checkNo isWitnessValidNo isEvaluation permuteNo soundParameters roundsOf rowsOf soundKinds unitConstants unitRows sameWords runRounds runRound pairwise onKind timesMatrix addUnit mulUnit powerUnit seventh dotUnits instanceToBytesNo instanceBytes headerBytes u32Bytes instanceFromBytes readInstance readFile readHeader readMagic readLabel readParts readPublics readQueries readEquations word part below witnessToBytesNo witnessBytes witnessFromBytes readWitness readSteps
 satisfied =
     shared-whole 77 slots 1 3 queries equations calls first-accepted .judged 0 (omega (arith, two-opened)) (stray 1) going-on ((λ e. absurd (omega (arith, e))), (tt, tt))
     .gated [] publics scratch gate-accepted .files lentFile
@@ -182,7 +182,7 @@ satisfied =
 
 -- and not by (3, 640), whose check is 33: relation 1 set wire 2 to 5, and nothing else is against it
 pub unsatisfied : Sat0 ((3 ∷ 640 ∷ []) ∷ []) → ⊥
-unfolding ask _▸_ withAllocatorNo frontAsks frontNo allocateVarsNo setVarNo setVarsNo addPermutationNo allocatePermutationNo addEquationNo pairNo setItems setVarsRun ticketLine gramsToSteps readLine linesOf lineNo setTicketsRun allBelow answer after sharedAnswer sharedAfter sharedNoted noted compiledParts publicsOf equationAt sizeAt equationsSound slotsSound follow isUtf8 compileNo compile validatedNo gateNo compileOnNo compileOn compilePublicsOn compilePublics publicsSound partsOf checkNo isWitnessValidNo isEvaluation permuteNo soundParameters roundsOf rowsOf soundKinds unitConstants unitRows sameWords runRounds runRound addConstants raise timesMatrix addUnit mulUnit seventh dotUnits instanceToBytesNo instanceBytes headerBytes u32Bytes instanceFromBytes readInstance readFile readHeader readMagic readLabel readParts readPublics readQueries readEquations word part below witnessToBytesNo witnessBytes witnessFromBytes readWitness readSteps
+unfolding ask _▸_ withAllocatorNo frontAsks frontNo allocateVarsNo setVarNo setVarsNo addPermutationNo allocatePermutationNo addEquationNo pairNo setItems setVarsRun ticketLine gramsToSteps readLine linesOf lineNo setTicketsRun allBelow answer after sharedAnswer sharedAfter sharedNoted noted compiledParts publicsOf equationAt sizeAt equationsSound slotsSound follow isUtf8 compileNo compile validatedNo gateNo compileOnNo compileOn compilePublicsOn compilePublics publicsSound partsOf checkNo isWitnessValidNo isEvaluation permuteNo soundParameters roundsOf rowsOf soundKinds unitConstants unitRows sameWords runRounds runRound pairwise onKind timesMatrix addUnit mulUnit powerUnit seventh dotUnits instanceToBytesNo instanceBytes headerBytes u32Bytes instanceFromBytes readInstance readFile readHeader readMagic readLabel readParts readPublics readQueries readEquations word part below witnessToBytesNo witnessBytes witnessFromBytes readWitness readSteps
 unsatisfied s =
     let z : _≡_ {A = ℕ} 33 0 = accepted-no 33
     (shared-whole 77 slots 1 3 queries equations calls first-accepted .judged 0 (omega (arith, two-opened)) (stray 1) going-on ((λ e. absurd (omega (arith, e))), (tt, tt))

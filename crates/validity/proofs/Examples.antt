@@ -5,10 +5,10 @@ use mathlib.Core.Path.{_≡_, refl}
 use mathlib.Core.List.{List, [], _∷_}
 use Rattle.limits.specs.Questions.{ask, _▸_}
 use Rattle.words.specs.Store.{allBelow}
-use Rattle.baby_bear.specs.Field.{addUnit, mulUnit, seventh, dotUnits}
+use Rattle.baby_bear.specs.Field.{addUnit, mulUnit, powerUnit, seventh, dotUnits}
 use Rattle.utf8.specs.Utf8.{isUtf8, follow}
 use Rattle.expr.specs.Equation.{equationAt, sizeAt}
-use Rattle.permute.specs.Permute.{addConstants, raise, timesMatrix, runRound, runRounds}
+use Rattle.permute.specs.Permute.{pairwise, onKind, timesMatrix, runRound, runRounds}
 use Rattle.permute.specs.Parameters.{roundsOf, rowsOf, soundKinds, unitConstants, unitRows, soundParameters, permuteNo, sameWords, isEvaluation}
 use Rattle.limits.specs.declared.Outcome.{Outcome}
 use Rattle.limits.specs.declared.Outcome.the-variants.{Accepted, Refused}
@@ -42,5 +42,5 @@ instanceA steps trace =
 
 pub batch-examples : unbound ∷ termless 0 ∷ termless 1 ∷ instanceA 1 (2 ∷ 5 ∷ []) ∷ instanceA 0 [] ∷ instanceA 1 (2 ∷ 6 ∷ []) ∷ instanceA 1 (3 ∷ 640 ∷ []) ∷ []
     ≡ Refused 34 ∷ Accepted ∷ Refused 35 ∷ Accepted ∷ Refused 31 ∷ Refused 32 ∷ Refused 33 ∷ []
-unfolding ask _▸_ allBelow addUnit mulUnit seventh dotUnits isUtf8 follow equationAt sizeAt addConstants raise timesMatrix runRound runRounds roundsOf rowsOf soundKinds unitConstants unitRows soundParameters permuteNo sameWords isEvaluation partsOf equationsSound publicsSound checkNo isWitnessValidNo
+unfolding ask _▸_ allBelow addUnit mulUnit powerUnit seventh dotUnits isUtf8 follow equationAt sizeAt pairwise onKind timesMatrix runRound runRounds roundsOf rowsOf soundKinds unitConstants unitRows soundParameters permuteNo sameWords isEvaluation partsOf equationsSound publicsSound checkNo isWitnessValidNo
 batch-examples = refl

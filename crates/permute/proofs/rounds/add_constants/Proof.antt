@@ -8,7 +8,7 @@ use borrow.Author.Needs.{needs}
 use lib.ListN.{length, take, drop, length-set}
 use Rattle.baby_bear.proofs.Units.{units-at}
 use Rattle.permute.specs.Permute.{addConstants}
-use Rattle.permute.proofs.Mix.{add-turn, add-done}
+use Rattle.permute.proofs.Mix.{pairwise-turn, pairwise-done}
 use Rattle.permute.proofs.rounds.add_constants.Statement.{statement}
 use Rattle.permute.proofs.rounds.add_constants.Tie as tie
 
@@ -56,7 +56,7 @@ loop-again : tie.Need-loop-again Inv-loop μ-loop
 loop-again c =
     let l = c .before .before .before .before .loop in
     let p = c .before .before .before .before .before .before .before .before .pre in (
-      add-turn _ _ (l .out) (l .i) (l .inv .0) (l .inv .1) _ (c .before .before .before .loop-test .taken) (p .constants-long) (c .add-units .ensures),
+      pairwise-turn _ _ _ (l .out) (l .i) (l .inv .0) (l .inv .1) _ (c .before .before .before .loop-test .taken) (p .constants-long) (c .add-units .ensures),
       length-set (l .out) (l .i) _ ∙ l .inv .1,
       omega arith,
     )
@@ -65,7 +65,7 @@ same-length : tie.Need-same-length Inv-loop μ-loop
 same-length c = search needs
 
 returns : tie.Need-returns Inv-loop μ-loop
-returns c = add-done _ _ _ _ (c .before .loop .inv .0) (c .before .loop .inv .1) (c .loop-test .left)
+returns c = pairwise-done _ _ _ _ _ (c .before .loop .inv .0) (c .before .loop .inv .1) (c .loop-test .left)
 
 pub add-constants-spec : {M : Type 1} → statement M
 add-constants-spec =

@@ -5,7 +5,7 @@ use mathlib.Core.List.{map}
 use borrow.Author.Needs.{needs}
 use Rattle.baby_bear.specs.Field.{seventh}
 use Rattle.permute.specs.Permute.{raise}
-use Rattle.permute.proofs.Mix.{raise-every, raise-first}
+use Rattle.permute.proofs.Mix.{kind-every, kind-first}
 use Rattle.permute.proofs.rounds.mix.Statement.{statement}
 use Rattle.permute.proofs.rounds.mix.Tie as tie
 
@@ -32,7 +32,7 @@ same-length c = search needs
 
 returns : tie.Need-returns
 returns c =
-    raise-every _ _ _ (c .before .before .before .before .if1 .taken) (c .before .before .raise-all .ensures ∙ ap (map seventh) (c .before .before .before .before .before .before .before .add-constants .ensures))
+    kind-every seventh _ _ _ (c .before .before .before .before .if1 .taken) (c .before .before .raise-all .ensures ∙ ap (map seventh) (c .before .before .before .before .before .before .before .add-constants .ensures))
 
 same-length-2 : tie.Need-same-length-2
 same-length-2 c = search needs
@@ -40,7 +40,7 @@ same-length-2 c = search needs
 returns-2 : tie.Need-returns-2
 returns-2 c =
     let g = c .before .before .before .before .before .before .before .before .before .before .before .before .args in
-    raise-first (g .kind) _ _ (c .before .before .before .before .if1 .left) (c .before .before .raise-all2 .ensures)
+    kind-first seventh (g .kind) _ _ (c .before .before .before .before .if1 .left) (c .before .before .raise-all2 .ensures)
     ∙ ap (raise (g .kind)) (c .before .before .before .before .before .before .before .add-constants .ensures)
 
 pub mix-spec : {M : Type 1} → statement M

@@ -7,7 +7,7 @@ use native.Mathlib.Omega.{arith}
 use borrow.Author.Needs.{needs}
 use lib.ListN.{length, take, drop, length-set}
 use Rattle.baby_bear.specs.Field.{seventh}
-use Rattle.permute.proofs.Mix.{raise-turn, raise-done}
+use Rattle.permute.proofs.Mix.{map-turn, map-done}
 use Rattle.permute.proofs.rounds.raise_all.Statement.{statement}
 use Rattle.permute.proofs.rounds.raise_all.Tie as tie
 
@@ -44,7 +44,7 @@ loop-less c = search needs
 loop-again : tie.Need-loop-again Inv-loop μ-loop
 loop-again c =
     let l = c .before .before .before .loop in (
-      raise-turn (c .before .before .before .before .before .args .x .now) (l .x) (l .i) (l .inv .0) _ (omega arith) (c .seventh .ensures),
+      map-turn seventh (c .before .before .before .before .before .args .x .now) (l .x) (l .i) (l .inv .0) _ (omega arith) (c .seventh .ensures),
       length-set (l .x) (l .i) _ ∙ l .inv .1,
       omega arith,
     )
@@ -53,7 +53,7 @@ same-length : tie.Need-same-length Inv-loop μ-loop
 same-length c = search needs
 
 returns : tie.Need-returns Inv-loop μ-loop
-returns c = raise-done (c .before .before .before .args .x .now) (c .before .loop .x) (c .before .loop .i) (c .before .loop .inv .0) (omega arith)
+returns c = map-done seventh (c .before .before .before .args .x .now) (c .before .loop .x) (c .before .loop .i) (c .before .loop .inv .0) (omega arith)
 
 pub raise-all-spec : {M : Type 1} → statement M
 raise-all-spec =
