@@ -210,7 +210,7 @@ module _ {u : ℕ → ℕ} {w : ℕ} {low₀ high₀ low high : List ℕ} {i : �
         }
 
 -- ---- four products
-unit-product : {a b : ℕ} → a < prime → b < prime → a * b ≤ 4053239664633446400
+pub unit-product : {a b : ℕ} → a < prime → b < prime → a * b ≤ 4053239664633446400
 unit-product {a} {b} h l = mul-le-mul {n₁ = a} {m₁ = b} {n₂ = 2013265920} {m₂ = 2013265920} (omega arith) (omega arith)
 
 product-fits : (words : List ℕ) → areUnits words ≡ true → (a i : ℕ) → a < prime → getD words i 0 * a ≤ 4053239664633446400
@@ -237,12 +237,12 @@ unfolding four
 four-is words step a b c d i e f g h = omega (arith, e, f, g, h)
 
 -- ---- all columns added up
-dot-turn : (r x : List ℕ) (j k : ℕ) → k ≡ j + 1 → j < length r → j < length x
+pub dot-turn : (r x : List ℕ) (j k : ℕ) → k ≡ j + 1 → j < length r → j < length x
     → dot (drop j r) (drop j x) ≡ getD r j 0 * getD x j 0 + dot (drop k r) (drop k x)
 unfolding dot
 dot-turn r x j k e h l = rw (e, add-one, drop-cons r j 0, drop-cons x j 0)
 
-dot-end : (r x : List ℕ) (j : ℕ) → length r ≤ j → dot (drop j r) (drop j x) ≡ 0
+pub dot-end : (r x : List ℕ) (j : ℕ) → length r ≤ j → dot (drop j r) (drop j x) ≡ 0
 unfolding dot
 dot-end r x j h = rw (drop-of-length-le r h)
 

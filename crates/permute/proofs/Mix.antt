@@ -24,6 +24,21 @@ module _ (f : ℕ → ℕ → ℕ) (cs x out : List ℕ) (i : ℕ) (e : take i o
   unfolding pairwise
   pairwise-done h = fill-done _ out _ i (omega arith) (rw (drop-of-length-le x h)) e
 
+-- ---- the same written over the second
+module _ (f : ℕ → ℕ → ℕ) (s x₀ x : List ℕ) (i : ℕ) (e : take i x ++ pairwise f (drop i s) (drop i x) ≡ pairwise f s x₀) where
+  -- one place more is written
+  pub over-turn : (v : ℕ) → i < length x → length s ≡ length x → v ≡ f (getD x i 0) (getD s i 0)
+      → take (i + 1) (set x i v) ++ pairwise f (drop (i + 1) s) (drop (i + 1) (set x i v)) ≡ pairwise f s x₀
+  unfolding pairwise
+  over-turn v h l ev =
+      let hs : i < length s = omega arith in
+      rw (drop-set-lt (i + 1) x i v (omega arith)) (fill-turn _ x _ _ i v h (rw (ev, add-one, drop-cons x i 0, drop-cons s i 0)) e)
+
+  -- all of them are
+  pub over-done : length x ≤ i → x ≡ pairwise f s x₀
+  unfolding pairwise
+  over-done h = fill-done _ x _ i h (rw (drop-of-length-le x h)) e
+
 -- ---- one list, in place
 module _ (f : ℕ → ℕ) (x₀ x : List ℕ) (i : ℕ) (e : take i x ++ map f (drop i x) ≡ map f x₀) where
   pub map-turn : (v : ℕ) → i < length x → v ≡ f (getD x i 0)

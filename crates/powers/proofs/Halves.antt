@@ -1,7 +1,7 @@
 -- A power by its half: what a call of the recursion gives, from the call that it makes.
 -- Assumes nothing.
 use Prim.Native.Nat.{ℕ, zero, suc, _+_, _*_, _/_, _%_, _^_, _<_}
-use mathlib.Core.Path.{_≡_, refl, sym, ap, _∙_}
+use mathlib.Core.Path.{_≡_, sym, ap, _∙_}
 use native.Mathlib.Omega.{arith}
 use native.Mathlib.Nat.{pow-suc, pow-zero, mod-eq-of-lt}
 use Rattle.limits.specs.Numbers.{prime}

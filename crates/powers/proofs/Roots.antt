@@ -9,7 +9,7 @@ use lib.Pow.{pow-add}
 use Rattle.limits.specs.Numbers.{prime}
 use Rattle.baby_bear.specs.Field.{powerUnit, seventh}
 use Rattle.baby_bear.proofs.Mod.{Same, same, keep, back, _⟫_, _⊗_, rest, below}
-use Rattle.baby_bear.proofs.Ring.{powerUnit-is, powerUnit-below, seventh-below}
+use Rattle.baby_bear.proofs.Ring.{powerUnit-is, powerUnit-below}
 use Rattle.powers.specs.Powers.{Prime, seventhRoot, invertUnit}
 use Rattle.powers.proofs.Residues.{same-power}
 use Rattle.powers.proofs.Primes.{p-prime}

@@ -1,0 +1,12 @@
+pub mod Lists
+pub mod Dots
+pub mod Exchange
+pub mod Units
+pub mod Steps
+pub mod Found
+pub mod Places
+pub mod Walks
+pub mod Parts
+pub mod Inverted
+pub mod Laws
+pub mod Examples
