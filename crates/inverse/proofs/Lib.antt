@@ -1,0 +1,9 @@
+pub mod Walk
+pub mod Maps
+pub mod Undoes
+pub mod Back
+pub mod Lanes
+pub mod Behind
+pub mod Laws
+pub mod Call
+pub mod Examples
