@@ -51,6 +51,7 @@
  *   41  Is its step count below p?
  *   42  Is a relation of this number opened? Of an opening: are fewer than 8?
  *   43  Does the quota hold what the relation obtained and the new wires?
+ *   44  Has the sheet no rounds, or a matrix that is not singular?
  *
  * The same functions stand for Rust in rust/, behind slices. */
 #ifndef SFR_H
@@ -364,6 +365,15 @@ typedef struct {
  * leaves the state as it was. */
 uint32_t sfr_permute(uint32_t width, uint32_t rounds, const uint32_t *words, size_t words_len,
                      uint32_t *state, size_t state_len);
+
+/* The state behind a digest: the one input that the sheet turns into the output, put into a list of its own. 44 is
+ * answered exactly where two different inputs share an output.
+ * Questions 1, 2, 9 of both lists, 4 of the output, 17, 44. Lent: the sheet's words, exactly R(w+1)+w*w, and output,
+ * exactly w words, only read; input, exactly w words, which may hold anything before. A refusal leaves input as it
+ * was. */
+uint32_t sfr_permute_inverse(uint32_t width, uint32_t rounds, const uint32_t *words, size_t words_len,
+                             const uint32_t *output, size_t output_len,
+                             uint32_t *input, size_t input_len);
 
 /* Evaluates a step and appends it: the inputs, then the w outputs that the sheet makes of them.
  * Questions 1, 2, 9, 4, 17, 10. Lent: trace, 2w words for each step with the new one; input, exactly w words, and the

@@ -60,6 +60,7 @@ impl Refused {
             41 => "is its step count below p?",
             42 => "is a relation of this number opened? Of an opening: are fewer than 8?",
             43 => "does the quota hold what the relation obtained and the new wires?",
+            44 => "has the sheet no rounds, or a matrix that is not singular?",
             _ => "?",
         }
     }

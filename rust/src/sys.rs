@@ -213,6 +213,16 @@ unsafe extern "C" {
         state: *mut u32,
         state_len: usize,
     ) -> u32;
+    pub fn sfr_permute_inverse(
+        width: u32,
+        rounds: u32,
+        words: *const u32,
+        words_len: usize,
+        output: *const u32,
+        output_len: usize,
+        input: *mut u32,
+        input_len: usize,
+    ) -> u32;
     pub fn sfr_evaluate_step(
         rec: Trace,
         trace: *mut u32,

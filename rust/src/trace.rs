@@ -22,6 +22,43 @@ pub fn permute(width: u32, rounds: u32, words: &[u32], state: &mut [u32]) -> u32
     }
 }
 
+/// The state behind a digest: the one input that the sheet turns into `output`, put into `input`.
+///
+/// Questions 1, 2, 9 of both lists, 4 of the output, 17, 44; 44 exactly where two different
+/// inputs share an output. Lent: exactly R(w+1)+w·w words of the sheet, w of the output, and w of
+/// the input, which may hold anything before. A refusal leaves the input as it was.
+///
+/// ```
+/// let words = [0, sfr::PRIME - 1, 5]; // one round that makes x to 5(x - 1)^7
+/// let mut input = [7];
+/// assert_eq!(sfr::permute_inverse(1, 1, &words, &[640], &mut input), 0);
+/// assert_eq!(input, [3]);
+/// assert_eq!(sfr::permute_inverse(1, 1, &[0, 0, 0], &[640], &mut input), 44); // all give 0
+/// assert_eq!(input, [3]);
+/// ```
+#[must_use = "a refusal is in the number"]
+pub fn permute_inverse(
+    width: u32,
+    rounds: u32,
+    words: &[u32],
+    output: &[u32],
+    input: &mut [u32],
+) -> u32 {
+    // SAFETY: see the head of this file.
+    unsafe {
+        sys::sfr_permute_inverse(
+            width,
+            rounds,
+            words.as_ptr(),
+            words.len(),
+            output.as_ptr(),
+            output.len(),
+            input.as_mut_ptr(),
+            input.len(),
+        )
+    }
+}
+
 /// Evaluates a step and appends it: w inputs, then the w outputs that the sheet makes of them.
 ///
 /// Questions 1, 2, 9, 4, 17, 10. Lent: the trace, 2w words for each step with the new one; w

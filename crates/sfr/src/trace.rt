@@ -3,6 +3,7 @@
 ghost use mathlib.Core.Path.{_≡_};
 ghost use lib.ListN.{length};
 ghost use Rattle.permute.specs.Parameters.{permuteNo, permuted};
+ghost use Rattle.inverse.specs.Answers.{permuteInverseNo, permuteInverted, StateBehind};
 ghost use Rattle.witness.specs.Trace.{AppendsStep, EvaluatesStep};
 ghost use Rattle.encoding.specs.Answers.{WitnessWrites};
 ghost use Rattle.decoding.specs.Answers.{witnessFromBytes, witnessAnswer, traceAfter};
@@ -33,6 +34,22 @@ pub extern "C" fn sfr_permute(width: u32, rounds: u32, params: &[u32], state: &m
     ensures { λ r. ⌜ (r ≡ permuteNo width rounds (now (params .entry)) (now (state .entry))) × (now (state .exit) ≡ permuted width rounds (now (params .entry)) (now (state .entry))) ⌝ }
 {
     permute::permute(width, rounds, params, state)
+}
+
+// The input that the permutation of these parameters turns into the output, put into a list of its own.
+#[no_mangle]
+pub extern "C" fn sfr_permute_inverse(
+    width: u32,
+    rounds: u32,
+    params: &[u32],
+    output: &[u32],
+    input: &mut [u32],
+) -> u32
+    ensures { λ r. ⌜ (r ≡ permuteInverseNo width rounds (now (params .entry)) (now (output .entry)) (now (input .entry)))
+        × (now (input .exit) ≡ permuteInverted width rounds (now (params .entry)) (now (output .entry)) (now (input .entry)))
+        × StateBehind width rounds (now (params .entry)) (now (output .entry)) r (now (input .exit)) ⌝ }
+{
+    inverse::permute_inverse(width, rounds, params, output, input)
 }
 
 // What a builder's call answers, for C.
