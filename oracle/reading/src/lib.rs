@@ -15,6 +15,7 @@ mod encoding;
 mod field;
 mod held;
 mod instance;
+mod inverse;
 mod questions;
 mod relation;
 mod shared;
@@ -32,6 +33,7 @@ pub use encoding::{
 };
 pub use field::{add, mul};
 pub use instance::{compile, heading, public_value, InstanceAnswer};
+pub use inverse::permute_inverse;
 pub use relation::{add_equation, add_permutation, allocate_permutation, scale};
 pub use shared::{
     add_equation_on, add_permutation_on, allocate_permutation_on, allocate_vars_on, compile_on,

@@ -21,7 +21,7 @@ pub struct Params<'a> {
 
 impl<'a> Params<'a> {
     /// The rounds, each its kind and constants, and the matrix. Question 17 said yes.
-    fn parts(&self, width: u32) -> (std::slice::Chunks<'a, u32>, &'a [u32]) {
+    pub fn parts(&self, width: u32) -> (std::slice::Chunks<'a, u32>, &'a [u32]) {
         let round = width as usize + 1;
         let (rounds, matrix) = self.words.split_at(self.rounds as usize * round);
         (rounds.chunks(round), matrix)
@@ -43,15 +43,20 @@ fn apply_round(state: &[u32], kind: u32, constants: &[u32], matrix: &[u32]) -> V
         .enumerate()
         .map(|(i, x)| if kind == 0 || i == 0 { pow7(x) } else { x })
         .collect();
-    let product = |row: &[u32]| {
-        let terms = row.iter().zip(&raised);
+    product(matrix, &raised)
+}
+
+/// A matrix, row by row in one list, times a state.
+pub fn product(matrix: &[u32], state: &[u32]) -> Vec<u32> {
+    let element = |row: &[u32]| {
+        let terms = row.iter().zip(state);
         terms.fold(0, |sum, (&m, &x)| add(sum, mul(m, x)))
     };
-    matrix.chunks(state.len()).map(product).collect()
+    matrix.chunks(state.len()).map(element).collect()
 }
 
 /// 17: at most 128 rounds, exactly the words they and the matrix take, kinds 0 or 1, units.
-fn ask_params(width: u32, params: &Params<'_>) -> Asked {
+pub fn ask_params(width: u32, params: &Params<'_>) -> Asked {
     ask(17, params.rounds <= 128)?;
     let words = params.rounds * (width + 1) + width * width;
     ask(17, params.words.len() == words as usize)?;

@@ -5,6 +5,7 @@ mod bytes;
 mod check;
 mod examples;
 mod gate;
+mod inverse;
 mod relation;
 mod shared;
 mod ticket;
