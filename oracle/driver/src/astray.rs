@@ -122,6 +122,12 @@ pub fn state(rng: &mut Rng, state: &mut State) {
 /// A sheet, sound or nearly so.
 pub fn params(rng: &mut Rng, width: u32) -> Params {
     let mut params = generate::params(rng, width);
+    lead_params(rng, width, &mut params);
+    params
+}
+
+/// A sheet of that width becomes nearly sound, half of the time.
+pub fn lead_params(rng: &mut Rng, width: u32, params: &mut Params) {
     match rng.below(12) {
         0 => params.rounds = near(rng, params.rounds),
         1 => {
@@ -140,7 +146,6 @@ pub fn params(rng: &mut Rng, width: u32) -> Params {
         4 | 5 => word(rng, &mut params.words),
         _ => {}
     }
-    params
 }
 
 /// A label whose bytes may be no text.

@@ -18,6 +18,7 @@ mod options;
 mod plant;
 mod rng;
 mod sample;
+mod sheets;
 mod tickets;
 
 use std::process::ExitCode;
@@ -41,6 +42,8 @@ const COMMANDS: &[Command] = &[
     ("shared", library::shared::run),
     #[cfg(feature = "library")]
     ("witness", library::witness::run),
+    #[cfg(feature = "library")]
+    ("inverse", library::inverse::run),
     #[cfg(feature = "library")]
     ("instance", library::instance::run),
     #[cfg(feature = "library")]

@@ -101,7 +101,7 @@ pub fn reciprocal(a: u32, n: u32) -> u32 {
 /// -c(width) times the unit matrix, and c(width) the determinant or minus it.
 pub fn inverted(width: usize, matrix: &[u32]) -> Option<Vec<u32>> {
     let diagonal = |unit: u32| -> Vec<u32> {
-        let place = |at: usize| if at % (width + 1) == 0 { unit } else { 0 };
+        let place = |at: usize| if at / width == at % width { unit } else { 0 };
         (0..width * width).map(place).collect()
     };
     let (mut factor, mut times) = (diagonal(1), matrix.to_vec());

@@ -100,7 +100,8 @@ impl Run<'_> {
         }
         self.scaling(&mut generator.rng)?;
         self.judged(&mut generator, &state, &label, &*relation)?;
-        self.ungated(&mut generator)
+        self.ungated(&mut generator)?;
+        self.there_and_back(&mut generator)
     }
 
     /// The gate and what follows it.

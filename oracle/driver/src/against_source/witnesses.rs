@@ -9,6 +9,7 @@ use crate::{
     compared::{holds, same, Compared, Outcome},
     generate::{self, Generator, Mood},
     held::{self, Held},
+    sheets,
 };
 
 /// The sources' check makes a list of all wires, and a damaged count may be any word: up
@@ -77,6 +78,26 @@ impl Run<'_> {
                 holds(&format!("a number for {message:?}"), meant, number)
             }
         }
+    }
+
+    /// Some state evaluated by the source, and from there back; the source has no call for that.
+    pub fn there_and_back(&mut self, generator: &mut Generator) -> Compared {
+        let (rng, width) = (&mut generator.rng, generator.width);
+        let (params, expected) = sheets::random(rng, width);
+        let input: Vec<u32> = (0..width).map(|_| rng.unit()).collect();
+        self.log
+            .say(|| format!("there and back: {params:?}, {input:?}"));
+        let (output, mut back) = (params.permute(&input), vec![DIRT; input.len()]);
+        let number = reading::permute_inverse(width, held::lent(&params), &output, &mut back);
+        self.seen.answered("there and back", number);
+        let known = expected.map_or(number == 0 || number == 44, |expected| number == expected);
+        holds("the form's number", known, number)?;
+        let expected = if number == 0 {
+            input
+        } else {
+            vec![DIRT; back.len()]
+        };
+        same("there and back", ("reading", back), ("before", expected))
     }
 
     /// The check of a trace, of damaged ones, and under another sheet.

@@ -141,8 +141,22 @@ fn read_only(cases: &mut usize) -> Compared {
         check(lent, &mut [7; 2])?;
         write(lent)?;
         steps(lent)?;
+        go_back(lent.params, &[0], &mut [7])?;
+        go_back(&PARAMS, lent.trace, &mut [7])?;
     }
     Ok(())
+}
+
+/// The state behind a digest, with a sheet or a list that is too long.
+fn go_back(words: &[u32], output: &[u32], input: &mut [u32]) -> Compared {
+    dirty(input);
+    let library = sfr::permute_inverse(1, 0, words, output, input);
+    let given = (library, ends(input));
+    dirty(input);
+    let params = reading::Params { rounds: 0, words };
+    let reading = reading::permute_inverse(1, params, output, input);
+    let expected = (reading, ends(input));
+    same("large, go back", ("library", given), ("reading", expected))
 }
 
 /// The gate of a relation alone, and of a number that isn't opened on a shared allocator: 2 comes
@@ -263,7 +277,7 @@ fn steps(lent: Lent) -> Compared {
     Ok(())
 }
 
-/// Calls that clear the store which is too long.
+/// Calls that clear or may write the store which is too long.
 fn cleared(cases: &mut usize) -> Compared {
     let mut long = vec![0u32; LIMIT + 1];
     let lent = Lent {
@@ -282,10 +296,11 @@ fn cleared(cases: &mut usize) -> Compared {
         gate(lent, &mut [7; 2], store)?;
         check(lent, store)?;
         read_trace(store)?;
+        go_back(&PARAMS, &[0], store)?;
         for place in 0..4 {
             read(&bytes, store, place)?;
         }
-        *cases += 8;
+        *cases += 9;
     }
     Ok(())
 }

@@ -6,6 +6,7 @@
 
 pub mod check;
 pub mod instance;
+pub mod inverse;
 mod large;
 pub mod large_held;
 pub mod leaves;
