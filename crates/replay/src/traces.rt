@@ -1,4 +1,4 @@
-// Operations 21 to 25: the permutation, a trace's steps, and its bytes written and read.
+// Operations 21 to 26: the permutation and the way back through it, a trace's steps, and its bytes written and read.
 
 use crate::answer::SIZE;
 use crate::answer::number;
@@ -74,6 +74,18 @@ fn permute(width: u32, rounds: u32, params: &[u32], state: &mut [u32]) -> [u32; 
     three(permute::permute(width, rounds, params, state), 0, 0)
 }
 
+// 26: rounds, width, a list for the input, parameters, output; the number, the list.
+fn permute_inverse(
+    width: u32,
+    rounds: u32,
+    params: &[u32],
+    output: &[u32],
+    input: &mut [u32],
+) -> [u32; SIZE] {
+    let number = inverse::permute_inverse(width, rounds, params, output, input);
+    three(number, 0, 0)
+}
+
 // A call on a trace, by its operation.
 pub(crate) fn call(
     op: u32,
@@ -93,6 +105,7 @@ pub(crate) fn call(
         22 => append_step(witness, store, one, two),
         23 => witness_to_bytes(width, steps, one, text),
         24 => witness_from_bytes(width, text, store),
-        _ => permute(width, rounds, one, store),
+        25 => permute(width, rounds, one, store),
+        _ => permute_inverse(width, rounds, one, two, store),
     }
 }

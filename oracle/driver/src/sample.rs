@@ -8,6 +8,7 @@
 
 mod case;
 mod instance;
+mod inverse;
 mod relation;
 mod shared;
 mod tickets;
@@ -28,17 +29,18 @@ use crate::{
 use case::{Case, FIRST, FIRST_AFTER, TEXT};
 
 /// Random cases of leaves, of scans for UTF-8, of calls on a relation, of tickets and each call on a
-/// trace, of each call on an instance, and of calls on a shared allocator, where no count is given:
-/// with the fixed ones they stay below 1 MiB.
+/// trace, of each call on an instance, of calls on a shared allocator, and of states behind a digest,
+/// where no count is given: with the fixed ones they stay below 1 MiB.
 const LEAVES: u64 = 2_500;
 const SCANS: u64 = 120;
-const RELATIONS: u64 = 1_200;
+const RELATIONS: u64 = 1_000;
 const TRACES: u64 = 120;
 const INSTANCES: u64 = 200;
 const SHARED: u64 = 160;
+const INVERSES: u64 = 110;
 
 /// What the cases of an operation are.
-const OPERATIONS: [(u32, &str); 30] = [
+const OPERATIONS: [(u32, &str); 31] = [
     (1, "sums"),
     (2, "products"),
     (3, "texts"),
@@ -62,6 +64,7 @@ const OPERATIONS: [(u32, &str); 30] = [
     (23, "writes of SFRW"),
     (24, "reads of SFRW"),
     (25, "permuted states"),
+    (26, "states behind a digest"),
     (30, "calls on a shared allocator"),
     (31, "gates"),
     (32, "writes of SFRI"),
@@ -118,6 +121,7 @@ pub fn run(options: &Options) -> bool {
     let mut tickets = Rng::new(!options.seed ^ (1 << 63));
     let mut shared = Rng::new(options.seed ^ (1 << 62));
     let mut scans = Rng::new(!options.seed ^ (1 << 62));
+    let mut inverses = Rng::new(options.seed ^ (1 << 61));
     let mut sample = Sample::default();
     sample.names();
     sample.fixed();
@@ -146,6 +150,10 @@ pub fn run(options: &Options) -> bool {
     sample.fixed_shared();
     for _ in 0..options.count.unwrap_or(SHARED) {
         sample.random_shared(&mut shared);
+    }
+    sample.fixed_inverses();
+    for _ in 0..options.count.unwrap_or(INVERSES) {
+        sample.random_inverse(&mut inverses);
     }
     sample.words.push(0);
     let bytes: Vec<u8> = sample

@@ -11,7 +11,7 @@ use super::{
 use crate::{astray, calls::DIRT, generate, held, rng::Rng};
 
 /// The longest sheet of a case.
-const PARAMS: usize = 300;
+pub const PARAMS: usize = 300;
 
 /// What every byte of an output holds before a write.
 pub const DIRTY_BYTE: u8 = 0xEE;
@@ -38,7 +38,7 @@ pub fn short_sheet(rng: &mut Rng, width: u32) -> Params {
 }
 
 /// A list of `width` units; now and then not quite so long, or with another word in it.
-fn units(rng: &mut Rng, width: u32) -> Vec<u32> {
+pub fn units(rng: &mut Rng, width: u32) -> Vec<u32> {
     let mut len = width as usize;
     if rng.once_in(8) {
         len = astray::near_len(rng, len);
