@@ -6,6 +6,7 @@
 mod evaluate;
 mod forms;
 mod input;
+mod inverse;
 mod labels;
 mod shared;
 mod tickets;
@@ -188,6 +189,9 @@ pub fn run(options: &Options) -> bool {
     }
     if asked_for("evaluate") {
         evaluate::tables(last);
+    }
+    if asked_for("inverse") {
+        inverse::tables();
     }
     println!("\nload {} at the end", loads());
     true
