@@ -108,5 +108,12 @@ int main(void)
     printf("hopper 4: premix %u\n", (unsigned)check(p, premix, (uint32_t[]){4}));               /* no */
     printf("hopper 3, by hand 2: finish %u\n", (unsigned)check(p, finish, (uint32_t[]){2, 3})); /* yes */
     printf("hopper 3, by hand 3: finish %u\n", (unsigned)check(p, finish, (uint32_t[]){3, 3})); /* no */
+
+    /* With the recipe at hand, the two readings behind a digest. */
+    const uint32_t digest[] = {2443, 2315};
+    uint32_t readings[2];
+    accepted(sfr_permute_inverse(2, 1, finish->params, finish->params_len, LENT(digest), LENT(readings)));
+    printf("behind [%u, %u]: [%u, %u]\n", (unsigned)digest[0], (unsigned)digest[1], (unsigned)readings[0],
+           (unsigned)readings[1]); /* by hand 2, hopper 3 */
     return 0;
 }

@@ -157,5 +157,10 @@ fn main() -> Result<(), Refused> {
         "hopper 3, by hand 3: finish {}",
         plant.check(&finish, &[3, 3])?
     ); // no
+
+    // With the recipe at hand, the two readings behind a digest.
+    let (digest, readings) = ([2443, 2315], &mut [0; 2]);
+    sfr::accepted(sfr::permute_inverse(2, 1, finish.params, &digest, readings))?;
+    println!("behind {digest:?}: {readings:?}"); // by hand 2, hopper 3
     Ok(())
 }
