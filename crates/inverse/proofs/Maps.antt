@@ -26,7 +26,7 @@ use Rattle.inverse.specs.Inverse.{subUnit, subConstants, lower}
 -- a difference is a unit
 pub subUnit-below : (a b : ℕ) → subUnit a b < prime
 unfolding subUnit
-subUnit-below a b = addUnit-below a (negUnit b)
+subUnit-below a b = addUnit-below a _
 
 -- a number and a constant and p - 1 times the constant are the same as the number
 cleared : (a c : ℕ) → Same prime (a + (c + 2013265920 * c)) a

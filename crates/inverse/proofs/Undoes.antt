@@ -54,17 +54,10 @@ module _ (w : ℕ) where
   unfolding runRound
   runRound-keeps m s r x = timesMatrix-gives w m (mixed r x) s
 
-  module _ (n : List (List ℕ)) (s : Square w n) where
-    -- so does a round undone by one
-    pub undoRound-keeps : (r : Round) (y : List ℕ) → Units w (undoRound n r y)
-    unfolding undoRound
-    undoRound-keeps r y = unmixed-keeps r (timesMatrix n y) (timesMatrix-gives w n y s)
-
-    -- and all rounds undone give w units for w units
-    pub undoRounds-keeps : (rs : List Round) (y : List ℕ) → Units w y → Units w (undoRounds n rs y)
-    unfolding undoRounds
-    undoRounds-keeps [] y u = u
-    undoRounds-keeps (r ∷ rs) y u = undoRound-keeps r (undoRounds n rs y)
+  -- so does a round undone by one
+  undoRound-keeps : (n : List (List ℕ)) → Square w n → (r : Round) (y : List ℕ) → Units w (undoRound n r y)
+  unfolding undoRound
+  undoRound-keeps n s r y = unmixed-keeps r (timesMatrix n y) (timesMatrix-gives w n y s)
 
   module _ (m n : List (List ℕ)) (i : Inverts w m n) (sm : Square w m) (sn : Square w n) where
     -- ---- one round
@@ -88,9 +81,16 @@ module _ (w : ℕ) where
     undoes-runs (r ∷ rs) x u =
         ap (undoRound n r) (undoes-runs rs (runRound m r x) (runRound-keeps m sm r x)) ∙ undo-run r x u
 
+  -- all rounds undone give w units for w units
+  pub undoRounds-keeps : (n : List (List ℕ)) → Square w n → (rs : List Round) (y : List ℕ) → Units w y → Units w (undoRounds n rs y)
+  unfolding undoRounds
+  undoRounds-keeps n s [] y u = u
+  undoRounds-keeps n s (r ∷ rs) y u = undoRound-keeps n s r (undoRounds n rs y)
+
+  module _ (m n : List (List ℕ)) (i : Inverts w m n) (sm : Square w m) (sn : Square w n) where
     -- rounds that are undone and run give the output back
     pub runs-undoes : (rs : List Round) (y : List ℕ) → Units w y → runRounds m rs (undoRounds n rs y) ≡ y
     unfolding undoRounds runRounds
     runs-undoes [] y u = refl
     runs-undoes (r ∷ rs) y u =
-        ap (runRounds m rs) (run-undo r (undoRounds n rs y) (undoRounds-keeps n sn rs y u)) ∙ runs-undoes rs y u
+        ap (runRounds m rs) (run-undo m n i sm sn r (undoRounds n rs y) (undoRounds-keeps n sn rs y u)) ∙ runs-undoes rs y u
