@@ -366,8 +366,8 @@ typedef struct {
 uint32_t sfr_permute(uint32_t width, uint32_t rounds, const uint32_t *words, size_t words_len,
                      uint32_t *state, size_t state_len);
 
-/* The state behind a digest: the one input that the sheet turns into the output, put into a list of its own. 44 is
- * answered exactly where two different inputs share an output.
+/* The state behind a digest: the one input that the sheet turns into the output, put into a list of its own. Where
+ * the other questions say yes, 44 is answered exactly where two different inputs share an output.
  * Questions 1, 2, 9 of both lists, 4 of the output, 17, 44. Lent: the sheet's words, exactly R(w+1)+w*w, and output,
  * exactly w words, only read; input, exactly w words, which may hold anything before. A refusal leaves input as it
  * was. */

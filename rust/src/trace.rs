@@ -24,12 +24,12 @@ pub fn permute(width: u32, rounds: u32, words: &[u32], state: &mut [u32]) -> u32
 
 /// The state behind a digest: the one input that the sheet turns into `output`, put into `input`.
 ///
-/// Questions 1, 2, 9 of both lists, 4 of the output, 17, 44; 44 exactly where two different
-/// inputs share an output. Lent: exactly R(w+1)+w·w words of the sheet, w of the output, and w of
+/// Questions 1, 2, 9 of both lists, 4 of the output, 17, 44; where the others say yes, 44 exactly
+/// where two different inputs share an output. Lent: exactly R(w+1)+w·w words of the sheet, w of the output, and w of
 /// the input, which may hold anything before. A refusal leaves the input as it was.
 ///
 /// ```
-/// let words = [0, sfr::PRIME - 1, 5]; // one round that makes x to 5(x - 1)^7
+/// let words = [0, sfr::PRIME - 1, 5]; // one round that turns x into 5(x - 1)^7
 /// let mut input = [7];
 /// assert_eq!(sfr::permute_inverse(1, 1, &words, &[640], &mut input), 0);
 /// assert_eq!(input, [3]);

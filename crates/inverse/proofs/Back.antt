@@ -20,18 +20,9 @@ use Rattle.permute.proofs.Parameters.{round-at}
 use Rattle.permute.proofs.Run.{sound}
 use Rattle.powers.specs.Powers.{seventhRoot}
 use Rattle.powers.proofs.Roots.{seventhRoot-below}
-use Rattle.matrix_inverse.specs.Inverse.{Units}
 use Rattle.inverse.specs.Inverse.{subConstants, lower, undoRound, undoRounds}
 use Rattle.inverse.specs.Walks.{RowsAsked}
-use Rattle.inverse.proofs.Undoes.{unmixed-keeps}
-
--- ---- what a round undone leaves
-module _ (n : List (List ℕ)) (r : Round) (y : List ℕ) where
-  -- as many units as the matrix has rows
-  undoRound-gives : Units (length n) (undoRound n r y)
-  unfolding undoRound
-  undoRound-gives =
-      unmixed-keeps (length n) r (timesMatrix n y) (record { size = timesMatrix-length n y; below = timesMatrix-units n y })
+use Rattle.inverse.proofs.Undoes.{undoRound-keeps}
 
 -- ---- one round: what stands between the roots and the constants
 module _ (inverse cs state mixed : List ℕ) (kind : ℕ)
@@ -158,8 +149,8 @@ module _ {rounds : ℕ} {words first : List ℕ} (inverse : List ℕ) (r : Ready
           record {
             done = rw (n, round-at w (rounds - left) (end - w - 1) words, x, y) (f ∙ ap (undoRound rows q) (s .done));
             place = b .2;
-            kept = ap length f ∙ undoRound-gives rows q state .size ∙ rowsOf-length w w inverse;
-            units = ap areUnits f ∙ undoRound-gives rows q state .below;
+            kept = ap length f ∙ undoRound-keeps (length rows) rows refl q state .size ∙ rowsOf-length w w inverse;
+            units = ap areUnits f ∙ undoRound-keeps (length rows) rows refl q state .below;
             mixed-long = l ∙ s .mixed-long;
             within = omega (arith, s .within);
           }

@@ -84,6 +84,7 @@ module _ (w rounds : ℕ) (words : List ℕ) where
     stays : rounds ≡ 0 → Way
     found : (n : List (List ℕ)) → invertMatrix (ps .matrix) ≡ inverse n → Way
 
+  -- one of the two
   way : isInvertible w rounds words ≡ true → Way
   unfolding isInvertible
   way e = go (eqb rounds 0) refl (invertMatrix (ps .matrix)) refl e
@@ -105,6 +106,7 @@ module _ (w rounds : ℕ) (words : List ℕ) where
 
   -- ---- parameters that 17 lets through
   module _ (s : soundParameters w rounds words ≡ true) where
+    -- the matrix has w rows of w words
     square : Square w (ps .matrix)
     square =
         rows-square w (drop (rounds * (w + 1)) words) (simp length-drop (omega (arith, sound-is w rounds words s .size)))

@@ -5,13 +5,13 @@ use mathlib.Core.Path.{_≡_, refl, sym, ap, _∙_}
 use mathlib.Core.Bool.{Bool, true, false}
 use mathlib.Core.List.{List, _++_}
 use native.Mathlib.Omega.{arith}
-use borrow.Author.Tests.{leb-true, eqb-true, eq-eqb, ne-eqb}
+use borrow.Author.Tests.{eq-eqb, ne-eqb}
 use lib.ListN.{length, take, drop, length-drop, length-append}
 use lib.Seq.{take-all, take-at}
 use Rattle.limits.specs.Numbers.{prime, maxWidth}
 use Rattle.limits.specs.Questions.{ask, firstNo}
 use Rattle.limits.proofs.Below.{below-drop}
-use Rattle.limits.proofs.Questions.{saysAt, accepted-says, ask-yes, ask-no, goes-on, stays}
+use Rattle.limits.proofs.Questions.{ask-yes, ask-no, goes-on, stays}
 use Rattle.words.specs.Store.{fitWords}
 use Rattle.baby_bear.specs.Field.{areUnits}
 use Rattle.permute.specs.Parameters.{roundsOf, rowsOf, parametersOf}
@@ -27,10 +27,10 @@ use Rattle.matrix_inverse.proofs.Laws.{rows-square, rows-units, flat-units, inv
 use Rattle.inverse.specs.Inverse.{undoRounds, undoWith, permuteInverse}
 use Rattle.inverse.specs.Answers.{isInvertible, permuteInverseFront, permuteInverseNo, permuteInverted, StateBehind}
 use Rattle.inverse.proofs.Behind.{none-returned}
-use Rattle.inverse.proofs.Laws.{by-front, permuteInverted-yes, permuteInverted-no, behind}
+use Rattle.inverse.proofs.Laws.{Asked, asked-is, by-front, permuteInverted-yes, permuteInverted-no, behind}
 
 -- the number that is answered, what the list holds, and what both say
-abbrev pub Answered : (w rounds : ℕ) (words y x : List ℕ) → ℕ → List ℕ → Type 0
+abbrev Answered : (w rounds : ℕ) (words y x : List ℕ) → ℕ → List ℕ → Type 0
 Answered w rounds words y x k x′ =
     (k ≡ permuteInverseNo w rounds words y x)
     × (x′ ≡ permuteInverted w rounds words y x)
@@ -52,20 +52,17 @@ module _ (w rounds : ℕ) (words y x : List ℕ) where
 
   -- ---- where they all say yes
   module _ (k : ℕ) (e : k ≡ firstNo (permuteInverseFront w rounds words y x)) (z : k ≡ 0) where
-    front-says : (i : ℕ) → saysAt (permuteInverseFront w rounds words y x) i ≡ true
-    front-says = accepted-says (permuteInverseFront w rounds words y x) tt (sym e ∙ z)
+    -- what they say
+    asks : Asked w rounds words y x
+    asks = asked-is w rounds words y x (sym e ∙ z)
 
+    -- at most 24
     pub most : w ≤ maxWidth
-    most = leb-true w maxWidth (front-says 1)
+    most = asks .most
 
-    size : length y ≡ w
-    size = eqb-true (length y) w (front-says 5)
-
-    room : length x ≡ w
-    room = eqb-true (length x) w (front-says 6)
-
+    -- what 17 says
     pub sound : Sound w rounds words
-    sound = sound-is w rounds words (front-says 8)
+    sound = sound-is w rounds words (asks .sound)
 
     -- 44 is left
     number : (t : Bool) → isInvertible w rounds words ≡ t → permuteInverseNo w rounds words y x ≡ ask 44 t
@@ -73,7 +70,7 @@ module _ (w rounds : ℕ) (words y x : List ℕ) where
 
     -- the output put into the list
     copied : (x′ : List ℕ) → x′ ≡ fitWords 0 y x → x′ ≡ y
-    copied x′ c = c ∙ put-over y x (size ∙ sym room)
+    copied x′ c = c ∙ put-over y x (asks .size ∙ sym (asks .room))
 
     -- a yes, and what is then in the list
     accepted : isInvertible w rounds words ≡ true → (x′ : List ℕ) → x′ ≡ permuteInverse (parametersOf w rounds words) y
@@ -89,9 +86,11 @@ module _ (w rounds : ℕ) (words y x : List ℕ) where
         accepted (rw (eq-eqb rounds 0 r)) x′ (copied x′ c ∙ sym (none-returned w rounds words y r))
 
     -- ---- the matrix
+    -- its words
     abbrev matrix : List ℕ
     matrix = drop (rounds * (w + 1)) words
 
+    -- w·w of them
     matrix-long : length matrix ≡ w * w
     matrix-long = simp length-drop (omega (arith, sound .size))
 
@@ -128,6 +127,7 @@ module _ (w rounds : ℕ) (words y x : List ℕ) where
           rows : List (List ℕ)
           is : invertMatrix (rowsOf w w matrix) ≡ inverse rows
 
+        -- something was
         rows-found : Inverse-found
         rows-found = go (invertMatrix (rowsOf w w matrix)) refl (sym found ∙ sym asked ∙ sym s ∙ t)
           where
@@ -135,17 +135,18 @@ module _ (w rounds : ℕ) (words y x : List ℕ) where
             go (inverse n) e i = record { rows = n; is = e }
             go none e i = absurd (never _ refl i)
 
-        words-left : (isRegular w matrix ≡ true) × (length (invertedWords w matrix) ≡ w * w)
-            × (rowsOf w w (invertedWords w matrix) ≡ rows-found .rows)
+        -- its words
+        words-left : (length (invertedWords w matrix) ≡ w * w) × (rowsOf w w (invertedWords w matrix) ≡ rows-found .rows)
         words-left = inverted-words w matrix (rows-found .rows) most matrix-long (rows-found .is)
             (inverse-square w (rowsOf w w matrix) (rows-found .rows) (rows-square w matrix matrix-long) (rows-found .is))
 
+        -- they are what the call left
         last-is : last ≡ invertedWords w matrix
         last-is = l ∙ ap (invertedWords w) lent-is
 
         -- it fills what was lent
         last-long : length last ≡ w * w
-        last-long = ap length last-is ∙ words-left .1
+        last-long = ap length last-is ∙ words-left .0
 
         -- and is lent again
         again : take (w * w - 0) (last ++ drop (w * w - 0) work) ≡ last
@@ -153,6 +154,7 @@ module _ (w rounds : ℕ) (words y x : List ℕ) where
             let k : w * w - 0 ≡ w * w = omega arith in
             rw k (take-at last (drop (w * w) work) (w * w) last-long)
 
+        -- from the room that it lies in
         pub again-room : w * w ≤ length (last ++ drop (w * w - 0) work)
         again-room = simp length-append (omega (arith, last-long))
 
@@ -171,9 +173,9 @@ module _ (w rounds : ℕ) (words y x : List ℕ) where
               × (length (take (w * w - 0) (last ++ drop (w * w - 0) work)) ≡ length x′ * length x′)
           undo-may =
               let d = copied x′ c in
-              let n : length x′ ≡ w = ap length d ∙ size in (
-                record { sound = rw n (front-says 8); some = rw n (leb-true 1 w (front-says 0)); most = rw n most },
-                ap areUnits d ∙ front-says 7,
+              let n : length x′ ≡ w = ap length d ∙ asks .size in (
+                record { sound = rw n (asks .sound); some = rw n (asks .some); most = rw n most },
+                ap areUnits d ∙ asks .units,
                 ap areUnits again ∙ last-units,
                 ap length again ∙ last-long ∙ rw n,
               )
@@ -185,7 +187,7 @@ module _ (w rounds : ℕ) (words y x : List ℕ) where
               → Answered w rounds words y x 0 x″
           answered-undone x″ u =
               let d = copied x′ c in
-              let n : length x′ ≡ w = ap length d ∙ size in
-              let r : rowsOf w w last ≡ rows-found .rows = ap (rowsOf w w) last-is ∙ words-left .2 in
+              let n : length x′ ≡ w = ap length d ∙ asks .size in
+              let r : rowsOf w w last ≡ rows-found .rows = ap (rowsOf w w) last-is ∙ words-left .1 in
               accepted (sym asked ∙ sym s ∙ t) x″
               (rw (n, again, r, d) at u ∙ sym (ap (λ (o : Inverse). undoWith o (roundsOf w rounds words) y) (rows-found .is)))

@@ -8,12 +8,13 @@ use mathlib.Core.Path.{_≡_, refl, sym, ap, ap₂, _∙_}
 use mathlib.Core.Bool.{Bool, true, false}
 use mathlib.Core.List.{List, [], _∷_}
 use native.Mathlib.Omega.{arith}
+use borrow.Author.Tests.{lt-leb}
 use lib.Dec.{lit<, lit≤}
-use lib.ListN.{getD}
-use Rattle.limits.specs.Numbers.{prime}
+use lib.ListN.{length, getD}
+use Rattle.limits.specs.Numbers.{prime, maxCount}
 use Rattle.limits.specs.Below.{allBelow}
 use Rattle.limits.specs.Questions.{ask, _▸_}
-use Rattle.limits.proofs.Below.{below-cons}
+use Rattle.limits.proofs.Below.{below-cons, cons-below}
 use Rattle.baby_bear.specs.Field.{addUnit, mulUnit, dotUnits, dot}
 use Rattle.baby_bear.proofs.Mod.{Same, same, keep, back, _⟫_, _⊗_, _⊕_, below}
 use Rattle.baby_bear.proofs.Ring.{dotUnits-is}
@@ -49,8 +50,8 @@ pub worked-back : (permuteInverse (parametersOf 1 1 (words 5)) (5 ∷ []) ≡ 2 
 unfolding allBelow
 worked-back =
     let a = accepted-is 1 1 (words 5) (640 ∷ []) (0 ∷ []) (worked-number .1) in (
-      output-back 1 1 (words 5) (2 ∷ []) (5 ∷ []) (a .sound) (a .invertible) (record { size = refl; below = refl }) (worked .1),
-      output-back 1 1 (words 5) (3 ∷ []) (640 ∷ []) (a .sound) (a .invertible) (record { size = refl; below = refl }) (worked .2),
+      output-back 1 1 (words 5) (2 ∷ []) (5 ∷ []) (a .asked .sound) (a .invertible) (record { size = refl; below = refl }) (worked .1),
+      output-back 1 1 (words 5) (3 ∷ []) (640 ∷ []) (a .asked .sound) (a .invertible) (record { size = refl; below = refl }) (worked .2),
     )
 
 -- and that is what the lent list holds afterwards
@@ -166,3 +167,28 @@ pub other-numbers : (permuteInverseNo 1 1 (words 0) (2013265921 ∷ []) (0 ∷ [
     × (permuteInverseNo 1 1 (0 ∷ 2013265920 ∷ 0 ∷ 0 ∷ []) (5 ∷ []) (0 ∷ []) ≡ 17)
 unfolding ask _▸_ allBelow roundsOf rowsOf soundKinds unitConstants unitRows soundParameters zerosAt pivot eliminate isInvertible permuteInverseNo
 other-numbers = (refl, refl, refl)
+
+-- 1: no width, or one too large; before 9
+pub width-numbers : (permuteInverseNo 0 0 [] [] (0 ∷ []) ≡ 1) × (permuteInverseNo 25 0 [] [] [] ≡ 1)
+unfolding ask _▸_ allBelow roundsOf rowsOf soundKinds unitConstants unitRows soundParameters zerosAt pivot eliminate isInvertible permuteInverseNo
+width-numbers = (refl, refl)
+
+-- 2: a lent list of more than 2^30 words; before 9
+pub long-number : (x : List ℕ) → maxCount < length x → permuteInverseNo 1 1 (words 5) (5 ∷ []) x ≡ 2
+unfolding ask _▸_ permuteInverseNo
+long-number x h = rw (lt-leb (length x) maxCount h)
+
+-- 4 before 17
+pub unit-number : permuteInverseNo 1 1 (2 ∷ []) (2013265921 ∷ []) (0 ∷ []) ≡ 4
+unfolding ask _▸_ allBelow roundsOf rowsOf soundKinds unitConstants unitRows soundParameters zerosAt pivot eliminate isInvertible permuteInverseNo
+unit-number = refl
+
+-- 3 gives 640, and no other unit does
+pub worked-only : (permute (parametersOf 1 1 (words 5)) (3 ∷ []) ≡ 640 ∷ [])
+    × ((z : ℕ) → z < prime → permute (parametersOf 1 1 (words 5)) (z ∷ []) ≡ 640 ∷ [] → z ∷ [] ≡ 3 ∷ [])
+unfolding allBelow
+worked-only =
+    let b = behind 1 1 (words 5) (640 ∷ []) (0 ∷ []) .input (worked-number .1) in (
+      ap (permute (parametersOf 1 1 (words 5))) (sym (worked-left .1)) ∙ b .gives,
+      λ z h g. b .only (z ∷ []) (record { size = refl; below = cons-below prime z [] h refl }) g ∙ worked-left .1,
+    )

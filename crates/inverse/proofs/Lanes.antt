@@ -6,11 +6,10 @@ use mathlib.Core.List.{List, [], _∷_, map}
 use native.Mathlib.Omega.{arith}
 use native.Mathlib.Nat.{mod-eq-of-lt}
 use borrow.Author.Tests.{eqb-true, lt-ltb}
-use lib.Dec.{eqb, ltb}
+use lib.Dec.{eqb, ltb, lit<}
 use lib.ListN.{length, getD, take, set, replicate, length-map, length-replicate}
 use Rattle.limits.specs.Numbers.{prime}
-use Rattle.limits.specs.Below.{allBelow}
-use Rattle.limits.proofs.Below.{below-cons, both-true}
+use Rattle.limits.proofs.Below.{below-cons, below-replicate, both-true}
 use Rattle.words.specs.Store.{fitWords}
 use Rattle.baby_bear.specs.Field.{areUnits, mulUnit, powerUnit}
 use Rattle.baby_bear.proofs.Ring.{mulUnit-one, mulUnit-below}
@@ -24,13 +23,14 @@ use Rattle.inverse.specs.Inverse.{lower}
 
 -- ---- the exponent's half
 -- each element times the power of the one at its place
-abbrev pub powersOnto : ℕ → List ℕ → List ℕ → List ℕ
+abbrev powersOnto : ℕ → List ℕ → List ℕ → List ℕ
 powersOnto e a by = pairwise (λ b x. mulUnit b (powerUnit x e)) a by
 
+-- each element squared
 abbrev pub squares : List ℕ → List ℕ
 squares a = map (λ x. mulUnit x x) a
 
--- no exponent left
+-- with no exponent left nothing changes
 pub lanes-none : (e : ℕ) (a by : List ℕ) → e ≡ 0 → areUnits by ≡ true → by ≡ powersOnto e a by
 unfolding pairwise powerUnit
 lanes-none e a [] z u = refl
@@ -41,7 +41,7 @@ lanes-none e (x ∷ a) (b ∷ by) z u =
     (sym (mod-eq-of-lt (p .0)) ∙ sym (mulUnit-one b) ∙ ap (λ (t : ℕ). mulUnit b (powerUnit x t)) (sym z))
     (lanes-none e a by z (p .1))
 
--- an even one
+-- an even one is halved, and the elements are squared
 lanes-even : (e : ℕ) (a by : List ℕ) → e % 2 ≡ 0 → powersOnto (e / 2) (squares a) by ≡ powersOnto e a by
 unfolding pairwise
 lanes-even e a [] z = refl
@@ -49,7 +49,7 @@ lanes-even e [] (b ∷ by) z = refl
 lanes-even e (x ∷ a) (b ∷ by) z =
     ap₂ (λ (t : ℕ) (l : List ℕ). t ∷ l) (times-even b x e (mulUnit x x) _ z refl refl) (lanes-even e a by z)
 
--- an odd one
+-- an odd one too, and each element is multiplied once before
 lanes-odd : (e : ℕ) (a by : List ℕ) → (e % 2 ≡ 0 → ⊥)
     → powersOnto (e / 2) (squares a) (pairwise mulUnit a by) ≡ powersOnto e a by
 unfolding pairwise
@@ -58,7 +58,7 @@ lanes-odd e [] (b ∷ by) z = refl
 lanes-odd e (x ∷ a) (b ∷ by) z =
     ap₂ (λ (t : ℕ) (l : List ℕ). t ∷ l) (times-odd b x e (mulUnit x x) (mulUnit b x) _ z refl refl refl) (lanes-odd e a by z)
 
--- from ones on
+-- from ones on the powers themselves are left: the roots
 lanes-root : (x : List ℕ) → powersOnto 1725656503 x (replicate (length x) 1) ≡ map seventhRoot x
 unfolding pairwise seventhRoot
 lanes-root [] = refl
@@ -66,13 +66,16 @@ lanes-root (a ∷ x) = ap₂ (λ (t : ℕ) (l : List ℕ). t ∷ l) (one-times a
 
 -- ---- the same of what calls leave
 module _ (e : ℕ) (a by a′ by′ out : List ℕ) (es : a′ ≡ squares a) where
+  -- after squaring
   pub even-is : e % 2 ≡ 0 → out ≡ powersOnto (e / 2) a′ by → out ≡ powersOnto e a by
   even-is z eo = eo ∙ ap (λ (l : List ℕ). powersOnto (e / 2) l by) es ∙ lanes-even e a by z
 
+  -- after multiplying and squaring
   pub odd-is : (e % 2 ≡ 0 → ⊥) → by′ ≡ pairwise mulUnit a by → out ≡ powersOnto (e / 2) a′ by′ → out ≡ powersOnto e a by
   odd-is z eb eo =
       eo ∙ ap₂ (λ (l k : List ℕ). powersOnto (e / 2) l k) es eb ∙ lanes-odd e a by z
 
+-- from a copy and ones
 root-is : (x a by out : List ℕ) → a ≡ x → by ≡ replicate (length x) 1 → out ≡ powersOnto 1725656503 a by
     → out ≡ map seventhRoot x
 root-is x a by out ea eb eo =
@@ -93,20 +96,18 @@ products-asked a by by′ l u e = (
 
 -- a copy at the front of the room for it, and ones in its place
 module _ (x room a by : List ℕ) (ea : a ≡ fitWords 0 x room) (eb : by ≡ replicate (length x) 1) (h : length x ≤ length room) where
+  -- what is lent of the room is the copy
   front-is : take (length x - 0) a ≡ x
   front-is = ap (take (length x - 0)) ea ∙ held-lent x room (length x) refl h
 
+  -- the two may be multiplied
   pub ones-asked : (length (take (length x - 0) a) ≡ length by) × (areUnits by ≡ true)
-  unfolding allBelow
   ones-asked = (
     ap length front-is ∙ sym (ap length eb ∙ length-replicate (length x) 1),
-    ap areUnits eb ∙ ones (length x),
+    ap areUnits eb ∙ below-replicate prime (length x) 1 (lit< tt),
   )
-    where
-      ones : (n : ℕ) → areUnits (replicate n 1) ≡ true
-      ones zero = refl
-      ones (suc n) = ones n
 
+  -- and then the roots are there
   pub roots-are : (out : List ℕ) → out ≡ powersOnto 1725656503 (take (length x - 0) a) by → out ≡ map seventhRoot x
   roots-are out eo = root-is x _ by out front-is eb eo
 

@@ -24,7 +24,7 @@ use Rattle.inverse.specs.Inverse.{subUnit, subConstants, lower}
 
 -- ---- one unit
 -- a difference is a unit
-pub subUnit-below : (a b : ℕ) → subUnit a b < prime
+subUnit-below : (a b : ℕ) → subUnit a b < prime
 unfolding subUnit
 subUnit-below a b = addUnit-below a _
 

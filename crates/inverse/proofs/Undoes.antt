@@ -6,7 +6,9 @@
 use Prim.Native.Nat.{ℕ}
 use mathlib.Core.Path.{_≡_, refl, ap, _∙_}
 use mathlib.Core.List.{List, [], _∷_}
+use lib.ListN.{length}
 use Rattle.permute.specs.Permute.{Round, addConstants, raise, timesMatrix, runRound, runRounds}
+use Rattle.permute.proofs.Keeps.{timesMatrix-length, timesMatrix-units}
 use Rattle.matrix_inverse.specs.Inverse.{Units, Inverts, Square}
 use Rattle.inverse.specs.Inverse.{subConstants, lower, undoRound, undoRounds}
 use Rattle.inverse.proofs.Maps.{sub-addConstants, add-subConstants, lower-raise, raise-lower, addConstants-keeps, subConstants-keeps, raise-keeps, lower-keeps, timesMatrix-gives, inverse-times, times-inverse}
@@ -50,25 +52,26 @@ module _ (w : ℕ) where
 
   -- ---- units
   -- a round over a matrix of w rows gives w units
-  pub runRound-keeps : (m : List (List ℕ)) → Square w m → (r : Round) (x : List ℕ) → Units w (runRound m r x)
+  runRound-keeps : (m : List (List ℕ)) → Square w m → (r : Round) (x : List ℕ) → Units w (runRound m r x)
   unfolding runRound
   runRound-keeps m s r x = timesMatrix-gives w m (mixed r x) s
 
   -- so does a round undone by one
-  undoRound-keeps : (n : List (List ℕ)) → Square w n → (r : Round) (y : List ℕ) → Units w (undoRound n r y)
+  pub undoRound-keeps : (n : List (List ℕ)) → length n ≡ w → (r : Round) (y : List ℕ) → Units w (undoRound n r y)
   unfolding undoRound
-  undoRound-keeps n s r y = unmixed-keeps r (timesMatrix n y) (timesMatrix-gives w n y s)
+  undoRound-keeps n l r y =
+      unmixed-keeps r (timesMatrix n y) (record { size = timesMatrix-length n y ∙ l; below = timesMatrix-units n y })
 
   module _ (m n : List (List ℕ)) (i : Inverts w m n) (sm : Square w m) (sn : Square w n) where
     -- ---- one round
     -- a round that is run and undone gives the input back
-    pub undo-run : (r : Round) (x : List ℕ) → Units w x → undoRound n r (runRound m r x) ≡ x
+    undo-run : (r : Round) (x : List ℕ) → Units w x → undoRound n r (runRound m r x) ≡ x
     unfolding undoRound runRound
     undo-run r x u =
         ap (unmixed r) (inverse-times w m n i (mixed r x) sm (mixed-keeps r x u)) ∙ unmixed-mixed r x u
 
     -- a round that is undone and run gives the output back
-    pub run-undo : (r : Round) (y : List ℕ) → Units w y → runRound m r (undoRound n r y) ≡ y
+    run-undo : (r : Round) (y : List ℕ) → Units w y → runRound m r (undoRound n r y) ≡ y
     unfolding undoRound
     run-undo r y u =
         round-unmixed m r (timesMatrix n y) (timesMatrix-gives w n y sn) ∙ times-inverse w m n i y sn u
@@ -85,7 +88,7 @@ module _ (w : ℕ) where
   pub undoRounds-keeps : (n : List (List ℕ)) → Square w n → (rs : List Round) (y : List ℕ) → Units w y → Units w (undoRounds n rs y)
   unfolding undoRounds
   undoRounds-keeps n s [] y u = u
-  undoRounds-keeps n s (r ∷ rs) y u = undoRound-keeps n s r (undoRounds n rs y)
+  undoRounds-keeps n s (r ∷ rs) y u = undoRound-keeps n (s .count) r (undoRounds n rs y)
 
   module _ (m n : List (List ℕ)) (i : Inverts w m n) (sm : Square w m) (sn : Square w n) where
     -- rounds that are undone and run give the output back

@@ -12,7 +12,7 @@ use Rattle.permute.specs.Parameters.{rowsOf, parametersOf, soundParameters}
 use Rattle.matrix_inverse.specs.Inverse.{invertMatrix, isFound}
 use Rattle.inverse.specs.Inverse.{OnlyInput, SharedOutput, permuteInverse}
 
--- 44 "one or more rounds and a singular matrix" says no
+-- 44: no rounds, or a matrix that has an inverse; "one or more rounds and a singular matrix" gets the no
 unfoldable pub isInvertible : ℕ → ℕ → List ℕ → Bool
 isInvertible w rounds words = eqb rounds 0 || isFound (invertMatrix (rowsOf w w (drop (rounds * (w + 1)) words)))
 
@@ -46,5 +46,5 @@ permuteInverted w rounds words y x =
 
 -- what the number and that list say: a yes that the list is the input that gives y, 44 that two inputs share an output
 pub record StateBehind (w rounds : ℕ) (words y : List ℕ) (no : ℕ) (x : List ℕ) : Type 0 where
-  pub only : no ≡ 0 → OnlyInput w (parametersOf w rounds words) y x
+  pub input : no ≡ 0 → OnlyInput w (parametersOf w rounds words) y x
   pub shared : no ≡ 44 → SharedOutput w (parametersOf w rounds words)

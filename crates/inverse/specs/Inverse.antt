@@ -34,7 +34,7 @@ subUnit a b = addUnit a (negUnit b)
 abbrev pub subConstants : List ℕ → List ℕ → List ℕ
 subConstants cs x = pairwise subUnit cs x
 
--- every element (kind 0) or only element 0 (kind 1) for its 7th power
+-- the 7th root of every element (kind 0) or only of element 0 (kind 1)
 abbrev pub lower : ℕ → List ℕ → List ℕ
 lower kind x = onKind seventhRoot kind x
 
@@ -47,7 +47,7 @@ unfoldable pub undoRounds : List (List ℕ) → List Round → List ℕ → List
 undoRounds n [] y = y
 undoRounds n (r ∷ rs) y = undoRound n r (undoRounds n rs y)
 
--- the same where an inverse was found
+-- the same by an inverse that was found; where none was, nothing is undone
 abbrev pub undoWith : Inverse → List Round → List ℕ → List ℕ
 undoWith (inverse n) rs y = undoRounds n rs y
 undoWith none rs y = y

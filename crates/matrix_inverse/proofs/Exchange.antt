@@ -56,7 +56,7 @@ says-times m u v l b s =
 
 -- ---- a row solved
 -- as many words as before
-pub solveRow-length : (c : ℕ) (q : List ℕ) → length (solveRow c q) ≡ length q
+solveRow-length : (c : ℕ) (q : List ℕ) → length (solveRow c q) ≡ length q
 unfolding solveRow
 solveRow-length c q = length-set (map (mulUnit (negUnit (invertUnit (getD q c 0)))) q) c (invertUnit (getD q c 0)) ∙ length-map q _
 
@@ -88,7 +88,7 @@ module _ (c : ℕ) (q u : List ℕ) (b : ℕ) (hq : c < length q) (hu : c < leng
 
   module _ (solvable : getD q c 0 % prime ≡ 0 → ⊥) where
     -- where the row gives b, u[c] is what the solved row gives
-    pub solve-to : Same prime (dot q u) b → Same prime (getD u c 0) (dot (solveRow c q) (set u c b))
+    solve-to : Same prime (dot q u) b → Same prime (getD u c 0) (dot (solveRow c q) (set u c b))
     solve-to s =
         let h : ℕ = getD q c 0 in
         let i : ℕ = invertUnit h in
@@ -99,7 +99,7 @@ module _ (c : ℕ) (q u : List ℕ) (b : ℕ) (hq : c < length q) (hu : c < leng
         ⟫ invertUnit-is h solvable ⊗ keep {a = x} ⊕ multiple (i * d) ⟫ same (omega arith))
 
     -- and the other way round
-    pub solve-from : Same prime (getD u c 0) (dot (solveRow c q) (set u c b)) → Same prime (dot q u) b
+    solve-from : Same prime (getD u c 0) (dot (solveRow c q) (set u c b)) → Same prime (dot q u) b
     solve-from s =
         let h : ℕ = getD q c 0 in
         let i : ℕ = invertUnit h in
@@ -112,12 +112,12 @@ module _ (c : ℕ) (q u : List ℕ) (b : ℕ) (hq : c < length q) (hu : c < leng
 
 -- ---- the solution put into another row
 -- as many words as before
-pub substitute-length : (c : ℕ) (s r : List ℕ) → length (substitute c s r) ≡ length r
+substitute-length : (c : ℕ) (s r : List ℕ) → length (substitute c s r) ≡ length r
 unfolding substitute
 substitute-length c s r = pairwise-length _ s (set r c 0) ∙ length-set r c 0
 
 -- with v[c] in the place of u[c], the row then gives what it gave
-pub substitute-is : (c : ℕ) (s r u : List ℕ) (b : ℕ) → length s ≡ length r → Same prime (getD u c 0) (dot s (set u c b))
+substitute-is : (c : ℕ) (s r u : List ℕ) (b : ℕ) → length s ≡ length r → Same prime (getD u c 0) (dot s (set u c b))
     → Same prime (dot (substitute c s r) (set u c b)) (dot r u)
 unfolding substitute
 substitute-is c s r u b l e =

@@ -2,7 +2,7 @@
 -- units row by row. Assumes nothing.
 use Prim.Native.Nat.{ℕ, zero, suc, _*_, _≤_}
 use mathlib.Core.Path.{_≡_, refl, sym, ap, _∙_}
-use mathlib.Core.Bool.{true, false}
+use mathlib.Core.Bool.{true}
 use mathlib.Core.List.{List, [], _∷_}
 use lib.ListN.{length, drop}
 use Rattle.limits.specs.Numbers.{prime, maxWidth}
@@ -15,10 +15,10 @@ use Rattle.words.proofs.Held.{flat-length}
 use Rattle.baby_bear.specs.Field.{areUnits}
 use Rattle.permute.specs.Parameters.{rowsOf}
 use Rattle.permute.proofs.Keeps.{rowsOf-length}
-use Rattle.matrix_inverse.specs.Inverse.{Square, inverse, none, invertMatrix, isFound}
-use Rattle.matrix_inverse.specs.Words.{isRegular, invertedWords, wordsOr}
+use Rattle.matrix_inverse.specs.Inverse.{Square, inverse, invertMatrix}
+use Rattle.matrix_inverse.specs.Words.{invertedWords, wordsOr}
 use Rattle.matrix_inverse.proofs.Places.{rows-flat, rows-long}
-use Rattle.matrix_inverse.proofs.Inverted.{regular-is, inverted-is}
+use Rattle.matrix_inverse.proofs.Inverted.{inverted-is}
 
 -- ---- rows
 -- w·w words are a matrix of w rows of w words
@@ -45,15 +45,9 @@ module _ (w : ℕ) (words : List ℕ) where
     pub inverted-flat : invertedWords w words ≡ flat n
     inverted-flat = inverted-is w words h l ∙ ap (wordsOr words) e
 
-    -- a matrix with an inverse is regular, and the words turned have the inverse's rows
-    pub inverted-words : Square w n
-        → (isRegular w words ≡ true) × (length (invertedWords w words) ≡ w * w) × (rowsOf w w (invertedWords w words) ≡ n)
+    -- so they have its rows
+    pub inverted-words : Square w n → (length (invertedWords w words) ≡ w * w) × (rowsOf w w (invertedWords w words) ≡ n)
     inverted-words s = (
-      regular-is w words h l ∙ ap isFound e,
       ap length inverted-flat ∙ flat-length w n (s .rows) ∙ ap (λ (k : ℕ). k * w) (s .count),
       ap (rowsOf w w) inverted-flat ∙ ap (λ (k : ℕ). rowsOf w k (flat n)) (sym (s .count)) ∙ rows-flat w n (s .rows),
     )
-
-  -- a matrix without one is not
-  pub no-inverse : w ≤ maxWidth → length words ≡ w * w → invertMatrix (rowsOf w w words) ≡ none → isRegular w words ≡ false
-  no-inverse h l e = regular-is w words h l ∙ ap isFound e

@@ -6,11 +6,12 @@ use mathlib.Core.Bool.{true}
 use mathlib.Core.List.{List, [], _∷_, _++_, map, append-nil}
 use native.Mathlib.Omega.{arith}
 use native.Mathlib.Decide.{ℕ-discrete}
-use lib.ListN.{length, getD, take, drop, set, length-set, drop-of-length-le}
+use lib.ListN.{length, getD, take, drop, set, length-set, length-map, List·getD-map, drop-of-length-le}
 use lib.Seq.{lt-length-set, getD-set-same, getD-set-other, set-getD, take-set-le, take-all, ext-getD}
 use Rattle.limits.specs.Below.{allBelow}
 use Rattle.limits.proofs.Below.{true-both, below-take, below-drop}
 use Rattle.words.specs.Store.{All}
+use Rattle.words.proofs.Lists.{getD-any}
 use Rattle.words.proofs.Below.{allBelow-append}
 use Rattle.matrix_inverse.specs.Inverse.{swap}
 
@@ -18,9 +19,7 @@ use Rattle.matrix_inverse.specs.Inverse.{swap}
 -- an element of a mapped list; within a list the defaults do not matter
 pub getD-mapped : {A B : Type 0} (f : A → B) (l : List A) (n : ℕ) (d : A) (e : B) → n < length l
     → getD (map f l) n e ≡ f (getD l n d)
-getD-mapped f [] n d e h = absurd (omega arith)
-getD-mapped f (x ∷ l) zero d e h = refl
-getD-mapped f (x ∷ l) (suc n) d e h = getD-mapped f l n d e (omega arith)
+getD-mapped f l n d e h = getD-any (map f l) n e (f d) (omega (arith, length-map l f)) ∙ List·getD-map f l n d
 
 -- to set an element and then to map is to set what it is mapped to
 pub map-set : {A B : Type 0} (f : A → B) (l : List A) (i : ℕ) (a : A) → map f (set l i a) ≡ set (map f l) i (f a)
@@ -150,7 +149,7 @@ module _ {A : Type 0} where
   joined-rest (suc c) (x ∷ u) (y ∷ v) (suc j) d e h = joined-rest c u v j d (omega arith) (omega arith)
 
   -- an element set from c on is one of v
-  pub joined-set : (c : ℕ) (u v : List A) (j : ℕ) (a : A) → length u ≡ length v → c ≤ j → set (joined c u v) j a ≡ joined c u (set v j a)
+  joined-set : (c : ℕ) (u v : List A) (j : ℕ) (a : A) → length u ≡ length v → c ≤ j → set (joined c u v) j a ≡ joined c u (set v j a)
   unfolding joined
   joined-set zero u v j a e h = refl
   joined-set (suc c) [] [] j a e h = refl

@@ -61,21 +61,21 @@ module _ (w n i : ℕ) (words : List ℕ) (h : i < n) (l : length words ≡ n * 
   row-small a b = omega (arith, row-room, mul-le-mul {n₁ = n} {m₁ = w} {n₂ = 24} {m₂ = 24} a b)
 
   -- row i as it is lent
-  pub row-lent : take (i * w + w - i * w) (drop (i * w) words) ≡ getD (rowsOf w n words) i []
+  row-lent : take (i * w + w - i * w) (drop (i * w) words) ≡ getD (rowsOf w n words) i []
   row-lent = lent-piece words (i * w) w ∙ sym (rowsOf-at w n i words h)
 
   -- it has w words
-  pub row-length : length (getD (rowsOf w n words) i []) ≡ w
+  row-length : length (getD (rowsOf w n words) i []) ≡ w
   row-length = ap length (sym row-lent) ∙ lent-length words (i * w) w row-room
 
   -- another put over it
-  pub row-put : (r : List ℕ) → length r ≡ w → rowsOf w n (fitWords (i * w) r words) ≡ set (rowsOf w n words) i r
+  row-put : (r : List ℕ) → length r ≡ w → rowsOf w n (fitWords (i * w) r words) ≡ set (rowsOf w n words) i r
   row-put r k =
       let f : i * w + length r ≤ length words = omega (arith, row-room) in
       rw (fit-put (i * w) r words f, k, ← drop-drop w (i * w) words) (rowsOf-put w n i words r h l k)
 
   -- the words stay as many
-  pub row-put-length : (r : List ℕ) → length r ≡ w → length (fitWords (i * w) r words) ≡ n * w
+  row-put-length : (r : List ℕ) → length r ≡ w → length (fitWords (i * w) r words) ≡ n * w
   row-put-length r k =
       let f : i * w + length r ≤ length words = omega (arith, row-room) in
       ap length (fit-put (i * w) r words f) ∙ put-length (i * w) r words f ∙ l

@@ -48,12 +48,12 @@ zerosAt-at c (r ∷ m) h = go (eqb (getD r c 0 % prime) 0) refl h (zerosAt-at c 
 
 module _ (c : ℕ) (m : List (List ℕ)) where
   -- it stands at c or later
-  pub pivot-from : c ≤ pivot c m
+  pivot-from : c ≤ pivot c m
   unfolding pivot
   pivot-from = omega arith
 
   -- and can be solved
-  pub pivot-solvable : pivot c m < length m → getD (getD m (pivot c m) []) c 0 % prime ≡ 0 → ⊥
+  pivot-solvable : pivot c m < length m → getD (getD m (pivot c m) []) c 0 % prime ≡ 0 → ⊥
   unfolding pivot
   pivot-solvable h e =
       let j : ℕ = zerosAt c (drop c m) in
@@ -71,9 +71,9 @@ module _ (c : ℕ) (m : List (List ℕ)) where
 
 -- ---- rows and columns exchanged
 -- the rows of a matrix, and the words that they give
-rows-swapped : (c i : ℕ) (m : List (List ℕ)) (u v : List ℕ) → c < length m → i < length m → length v ≡ length m
+says-swapped : (c i : ℕ) (m : List (List ℕ)) (u v : List ℕ) → c < length m → i < length m → length v ≡ length m
     → Says m u v → Says (swap [] c i m) u (swap 0 c i v)
-rows-swapped c i m u v hc hi l says = record { row = λ k h. at k (omega (arith, length-swap [] c i m)) (ℕ-discrete k c) (ℕ-discrete k i) }
+says-swapped c i m u v hc hi l says = record { row = λ k h. at k (omega (arith, length-swap [] c i m)) (ℕ-discrete k c) (ℕ-discrete k i) }
   where
     at : (k : ℕ) → k < length m → Dec (k ≡ c) → Dec (k ≡ i) → Same prime (dot (getD (swap [] c i m) k []) u) (getD (swap 0 c i v) k 0)
     at k h (yes e) b =
@@ -86,11 +86,11 @@ rows-swapped c i m u v hc hi l says = record { row = λ k h. at k (omega (arith,
         same (ap (λ (r : List ℕ). dot r u) (swap-other [] c i m k n o)) ⟫ says .row k h ⟫ same (sym (swap-other 0 c i v k n o))
 
 -- and back
-rows-back : (c i : ℕ) (m : List (List ℕ)) (u v : List ℕ) → c < length m → i < length m → length v ≡ length m
+says-back : (c i : ℕ) (m : List (List ℕ)) (u v : List ℕ) → c < length m → i < length m → length v ≡ length m
     → Says (swap [] c i m) u (swap 0 c i v) → Says m u v
-rows-back c i m u v hc hi l says =
+says-back c i m u v hc hi l says =
     let k = length-swap [] c i m in
-    let t = rows-swapped c i (swap [] c i m) u (swap 0 c i v) (omega (arith, k)) (omega (arith, k)) (length-swap 0 c i v ∙ l ∙ sym k) says in
+    let t = says-swapped c i (swap [] c i m) u (swap 0 c i v) (omega (arith, k)) (omega (arith, k)) (length-swap 0 c i v ∙ l ∙ sym k) says in
     subst (λ (n : List (List ℕ)). Says n u v) (swap-swap [] c i m hc hi)
     (subst (λ (z : List ℕ). Says (swap [] c i (swap [] c i m)) u z) (swap-swap 0 c i v (omega arith) (omega arith)) t)
 
@@ -197,13 +197,13 @@ module _ (w c : ℕ) (m : List (List ℕ)) (hc : c < w) (sq : Square w m) (found
     unfolding stepped
     step-to says =
         exchange-to w c (swap [] c i m) u (swap 0 c i v) hc swapped-square lu l1 solvable
-        (rows-swapped c i m u v hm found (lv ∙ sym (sq .count)) says)
+        (says-swapped c i m u v hm found (lv ∙ sym (sq .count)) says)
 
     -- and back
     pub step-from : Says (stepped c m) (given c i u v) (gives c i u v) → Says m u v
     unfolding stepped
     step-from says =
-        rows-back c i m u v hm found (lv ∙ sym (sq .count))
+        says-back c i m u v hm found (lv ∙ sym (sq .count))
         (exchange-from w c (swap [] c i m) u (swap 0 c i v) hc swapped-square lu l1 solvable says)
 
     -- what the inverse is given is the same but for the exchange of c and i

@@ -18,7 +18,7 @@ use Rattle.matrix_inverse.specs.Inverse.{swap, exchange}
 use Rattle.matrix_inverse.proofs.Lists.{all-set, all-mapped}
 
 -- a row solved is units, whatever it was
-pub solveRow-units : (c : ℕ) (q : List ℕ) → areUnits (solveRow c q) ≡ true
+solveRow-units : (c : ℕ) (q : List ℕ) → areUnits (solveRow c q) ≡ true
 unfolding solveRow
 solveRow-units c q =
     let i : ℕ = invertUnit (getD q c 0) in
@@ -26,14 +26,14 @@ solveRow-units c q =
     (map-units (mulUnit (negUnit i)) (mulUnit-below (negUnit i)) q)
 
 -- a row of units with a solution put into it is units
-pub substitute-units : (c : ℕ) (s r : List ℕ) → areUnits r ≡ true → areUnits (substitute c s r) ≡ true
+substitute-units : (c : ℕ) (s r : List ℕ) → areUnits r ≡ true → areUnits (substitute c s r) ≡ true
 unfolding substitute
 substitute-units c s r e =
     pairwise-units (λ (a b : ℕ). addUnit a (mulUnit (getD r c 0) b)) (λ a b. addUnit-below a (mulUnit (getD r c 0) b))
     s (set r c 0) (below-set prime r c 0 (lit< tt) e)
 
 -- so is a row with two places exchanged
-pub swap-units : (c i : ℕ) (r : List ℕ) → areUnits r ≡ true → areUnits (swap 0 c i r) ≡ true
+swap-units : (c i : ℕ) (r : List ℕ) → areUnits r ≡ true → areUnits (swap 0 c i r) ≡ true
 swap-units c i r e =
     below-set prime (set r c (getD r i 0)) i (getD r c 0) (below-getD prime r c (lit< tt) e)
     (below-set prime r c (getD r i 0) (below-getD prime r i (lit< tt) e) e)

@@ -62,7 +62,7 @@ fn substitute(c: usize, s: &[u32], row: &mut [u32])
     add_row(f, s, row);
 }
 
-// It put into n rows.
+// The solution put into n rows.
 pub(crate) fn substitute_all(c: usize, s: &[u32], n: usize, rows: &mut [u32])
     requires { ⌜ (c < length (now s)) × (length (now s) ≤ maxWidth) × (n ≤ maxWidth) × (length (now rows) ≡ n * length (now s)) ⌝ }
     ensures { λ _. ⌜ rowsOf (length (now (s .entry))) n (now (rows .exit))

@@ -1,5 +1,5 @@
 -- Fermat: modulo a prime n, x to the power n is x. By the binomial theorem: n divides all terms of (x + 1) to the
--- power n but the first and the last, so the power of x + 1 is that of x and 1. Assumes nothing.
+-- power n but the first and the last, so the power of x + 1 is that of x, and 1. Assumes nothing.
 use Prim.Native.Nat.{ℕ, zero, suc, _+_, _*_, _^_, _≤_, _<_}
 use mathlib.Core.Path.{_≡_, refl, sym, ap, _∙_}
 use native.Mathlib.Omega.{arith}
@@ -15,26 +15,26 @@ choose n zero = 1
 choose zero (suc k) = 0
 choose (suc n) (suc k) = choose n k + choose n (suc k)
 
--- so n divides each but those at 0 and n
-absorb : (n k : ℕ) → suc k * choose (suc n) (suc k) ≡ suc n * choose n k
+-- k + 1 times one of them is n + 1 times one of the power before
+choose-factor : (n k : ℕ) → suc k * choose (suc n) (suc k) ≡ suc n * choose n k
 unfolding choose
-absorb zero zero = refl
-absorb zero (suc k) = omega arith
-absorb (suc n) zero = omega (arith, absorb n zero)
-absorb (suc n) (suc k) = omega (arith, absorb n k, absorb n (suc k))
+choose-factor zero zero = refl
+choose-factor zero (suc k) = omega arith
+choose-factor (suc n) zero = omega (arith, choose-factor n zero)
+choose-factor (suc n) (suc k) = omega (arith, choose-factor n k, choose-factor n (suc k))
 
--- none beyond n
-none : (n k : ℕ) → n < k → choose n k ≡ 0
+-- there are none beyond n
+choose-beyond : (n k : ℕ) → n < k → choose n k ≡ 0
 unfolding choose
-none n zero h = absurd (omega arith)
-none zero (suc k) h = refl
-none (suc n) (suc k) h = omega (arith, none n k (omega arith), none n (suc k) (omega arith))
+choose-beyond n zero h = absurd (omega arith)
+choose-beyond zero (suc k) h = refl
+choose-beyond (suc n) (suc k) h = omega (arith, choose-beyond n k (omega arith), choose-beyond n (suc k) (omega arith))
 
--- one at n
-all : (n : ℕ) → choose n n ≡ 1
+-- and one at n
+choose-all : (n : ℕ) → choose n n ≡ 1
 unfolding choose
-all zero = refl
-all (suc n) = omega (arith, all n, none n (suc n) (omega arith))
+choose-all zero = refl
+choose-all (suc n) = omega (arith, choose-all n, choose-beyond n (suc n) (omega arith))
 
 -- the first m terms of (x + 1) to the power n
 upto : ℕ → ℕ → ℕ → ℕ
@@ -42,52 +42,52 @@ upto n zero x = 0
 upto n (suc m) x = upto n m x + choose n m * x ^ m
 
 -- from the terms of one power to those of the next
-next : (n m x : ℕ) → upto (suc n) (suc m) x ≡ upto n (suc m) x + x * upto n m x
+upto-next : (n m x : ℕ) → upto (suc n) (suc m) x ≡ upto n (suc m) x + x * upto n m x
 unfolding upto choose
-next n zero x = omega arith
-next n (suc m) x = omega (arith, next n m x, ap (λ (t : ℕ). choose n m * t) (pow-suc x m), ap (λ (t : ℕ). choose n (suc m) * t) (pow-suc x m))
+upto-next n zero x = omega arith
+upto-next n (suc m) x = omega (arith, upto-next n m x, ap (λ (t : ℕ). choose n m * t) (pow-suc x m), ap (λ (t : ℕ). choose n (suc m) * t) (pow-suc x m))
 
 -- the power 0 has one term
-one-term : (m x : ℕ) → upto zero (suc m) x ≡ 1
+upto-zero : (m x : ℕ) → upto zero (suc m) x ≡ 1
 unfolding upto choose
-one-term zero x = omega (arith, pow-zero x)
-one-term (suc m) x = omega (arith, one-term m x)
+upto-zero zero x = omega (arith, pow-zero x)
+upto-zero (suc m) x = omega (arith, upto-zero m x)
 
 -- the binomial theorem
 binomial : (n m x : ℕ) → n < m → upto n m x ≡ (x + 1) ^ n
 binomial n zero x h = absurd (omega arith)
-binomial zero (suc m) x h = one-term m x ∙ sym (pow-zero (x + 1))
+binomial zero (suc m) x h = upto-zero m x ∙ sym (pow-zero (x + 1))
 binomial (suc n) (suc m) x h =
-    next n m x ∙ omega (arith, binomial n (suc m) x (omega arith), ap (λ (t : ℕ). x * t) (binomial n m x (omega arith)), pow-suc (x + 1) n)
+    upto-next n m x ∙ omega (arith, binomial n (suc m) x (omega arith), ap (λ (t : ℕ). x * t) (binomial n m x (omega arith)), pow-suc (x + 1) n)
 
 -- ---- modulo a prime
 module _ (m : ℕ) (pr : Prime (suc m)) where
-  -- the terms between the first and the last are 0
-  inner : (k : ℕ) → k < m → Same (suc m) (choose (suc m) (suc k)) 0
-  inner k h = no-divisors (suc m) pr (suc k) (choose (suc m) (suc k)) (omega arith) (omega arith)
-      (same (absorb m k ∙ mul-comm (suc m) (choose m k)) ⟫ multiple (choose m k))
+  -- so the prime divides all but the first and the last
+  choose-divided : (k : ℕ) → k < m → Same (suc m) (choose (suc m) (suc k)) 0
+  choose-divided k h = no-divisors (suc m) pr (suc k) (choose (suc m) (suc k)) (omega arith) (omega arith)
+      (same (choose-factor m k ∙ mul-comm (suc m) (choose m k)) ⟫ multiple (choose m k))
 
-  -- up to the last, only the first counts
-  first : (x k : ℕ) → k ≤ m → Same (suc m) (upto (suc m) (suc k) x) 1
+  -- and of the terms before the last only the first counts
+  upto-one : (x k : ℕ) → k ≤ m → Same (suc m) (upto (suc m) (suc k) x) 1
   unfolding upto choose
-  first x zero h = same (omega (arith, pow-zero x))
-  first x (suc k) h = first x k (omega arith) ⊕ inner k h ⊗ keep {a = x ^ suc k} ⟫ same (omega arith)
+  upto-one x zero h = same (omega (arith, pow-zero x))
+  upto-one x (suc k) h = upto-one x k (omega arith) ⊕ choose-divided k h ⊗ keep {a = x ^ suc k} ⟫ same (omega arith)
 
-  -- x + 1 to the power
-  dream : (x : ℕ) → Same (suc m) ((x + 1) ^ suc m) (1 + x ^ suc m)
+  -- the power of x + 1 is that of x, and 1
+  power-next : (x : ℕ) → Same (suc m) ((x + 1) ^ suc m) (1 + x ^ suc m)
   unfolding upto
-  dream x = same (sym (binomial (suc m) (suc (suc m)) x (omega arith)))
-      ⟫ first x m (omega arith) ⊕ same (all (suc m)) ⊗ keep ⟫ same (omega arith)
+  power-next x = same (sym (binomial (suc m) (suc (suc m)) x (omega arith)))
+      ⟫ upto-one x m (omega arith) ⊕ same (choose-all (suc m)) ⊗ keep ⟫ same (omega arith)
 
-  -- one after the other
-  to-the-prime : (x : ℕ) → Same (suc m) (x ^ suc m) x
-  to-the-prime zero = same (pow-suc 0 m ∙ omega arith)
-  to-the-prime (suc x) =
+  -- so from 0 on the power of x is x
+  power-same : (x : ℕ) → Same (suc m) (x ^ suc m) x
+  power-same zero = same (pow-suc 0 m ∙ omega arith)
+  power-same (suc x) =
       let e : suc x ≡ x + 1 = omega arith in
       let f : 1 + x ≡ suc x = omega arith in
-      same (ap (λ (t : ℕ). t ^ suc m) e) ⟫ dream x ⟫ keep {a = 1} ⊕ to-the-prime x ⟫ same f
+      same (ap (λ (t : ℕ). t ^ suc m) e) ⟫ power-next x ⟫ keep {a = 1} ⊕ power-same x ⟫ same f
 
 -- x to the power n is x
 pub fermat : (n : ℕ) → Prime n → (x : ℕ) → Same n (x ^ n) x
 fermat zero pr x = absurd (omega arith)
-fermat (suc m) pr x = to-the-prime m pr x
+fermat (suc m) pr x = power-same m pr x

@@ -19,6 +19,7 @@ square-power a (suc k) =
     pow-suc (a * a) k ∙ ap (λ (t : ℕ). t * (a * a)) (square-power a k) ∙ m ∙ ap (λ (t : ℕ). t * a) (sym (pow-suc a (k + k)))
     ∙ sym (pow-suc a (suc (k + k))) ∙ ap (λ (t : ℕ). a ^ t) (sym e)
 
+-- a power of a unit's square, as a number
 squared : (a s k : ℕ) → s ≡ mulUnit a a → Same prime (powerUnit s k) (a ^ (k + k))
 squared a s k e =
     powerUnit-is s k ⟫ same-power k (same e ⟫ mulUnit-is a a) ⟫ same (square-power a k)

@@ -53,6 +53,7 @@ inverse-to m pr (suc f) (suc (suc y)) h l b = step (inverse-to m pr f r (omega (
     step : Inverse (suc m) r → Inverse (suc m) x
     step (s, e) = (m * (suc m / x) * s, turn m (suc m / x) x r s (sym (div-add-mod' (suc m) x)) e)
 
+-- every number below the prime but 0 has one
 pub inverse-of : (n : ℕ) → Prime n → (x : ℕ) → 0 < x → x < n → Inverse n x
 inverse-of zero pr x l h = absurd (omega arith)
 inverse-of (suc m) pr x l h = inverse-to m pr (suc x) x (omega arith) l h

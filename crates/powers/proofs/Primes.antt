@@ -59,5 +59,10 @@ tested : noDivisor 44868 2 prime ≡ true
 unfolding noDivisor
 tested = refl
 
+-- p is prime
 pub p-prime : Prime prime
 p-prime = prime-by prime 44868 tested (lit< tt) (lit< tt)
+
+-- 1 is no prime, and neither is 6
+pub no-primes : (Prime 1 → ⊥) × (Prime 6 → ⊥)
+no-primes = (λ q. absurd (omega (arith, q .more)), λ q. q .only 2 (lit< tt) (lit< tt) refl)

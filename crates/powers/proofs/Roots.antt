@@ -16,13 +16,15 @@ use Rattle.powers.proofs.Primes.{p-prime}
 use Rattle.powers.proofs.Inverses.{Inverse, inverse-of}
 use Rattle.powers.proofs.Fermat.{fermat}
 
--- ---- powers of powers
+-- ---- powers
+-- of a power the exponents are multiplied
 pow-mul : (x a b : ℕ) → (x ^ a) ^ b ≡ x ^ (a * b)
 pow-mul x a zero = pow-zero (x ^ a) ∙ sym (ap (λ (t : ℕ). x ^ t) (mul-zero a) ∙ pow-zero x)
 pow-mul x a (suc b) =
     pow-suc (x ^ a) b ∙ ap (λ (t : ℕ). t * x ^ a) (pow-mul x a b) ∙ sym (pow-add x (a * b) a)
     ∙ ap (λ (t : ℕ). x ^ t) (sym (mul-suc a b))
 
+-- the power 1 is the number itself
 pow-one : (x : ℕ) → x ^ 1 ≡ x
 pow-one x = let e : 1 * x ≡ x = omega arith in pow-suc x 0 ∙ ap (λ (t : ℕ). t * x) (pow-zero x) ∙ e
 
@@ -60,20 +62,23 @@ pub exponents : 7 * 1725656503 ≡ 6 * 2013265920 + 1
 exponents = refl
 
 module _ (x : ℕ) (h : x < prime) where
+  -- the 7th root of its 7th power is the unit
   pub root-seventh : seventhRoot (seventh x) ≡ x
   unfolding seventhRoot seventh
   root-seventh =
       below (powerUnit-below (powerUnit x 7) 1725656503) h
       (powerUnit-is (powerUnit x 7) 1725656503 ⟫ same-power 1725656503 (powerUnit-is x 7)
-      ⟫ same (pow-mul x 7 1725656503) ⟫ again 2013265920 p-prime x 6)
+      ⟫ same (pow-mul x 7 1725656503 ∙ ap (λ (t : ℕ). x ^ t) exponents) ⟫ again 2013265920 p-prime x 6)
 
+  -- and the 7th power of its 7th root is
   pub seventh-root : seventh (seventhRoot x) ≡ x
   unfolding seventhRoot seventh
   seventh-root =
       below (powerUnit-below (powerUnit x 1725656503) 7) h
       (powerUnit-is (powerUnit x 1725656503) 7 ⟫ same-power 7 (powerUnit-is x 1725656503)
-      ⟫ same (pow-mul x 1725656503 7) ⟫ again 2013265920 p-prime x 6)
+      ⟫ same (pow-mul x 1725656503 7 ∙ ap (λ (t : ℕ). x ^ t) exponents) ⟫ again 2013265920 p-prime x 6)
 
+-- both are units
 pub seventhRoot-below : (a : ℕ) → seventhRoot a < prime
 unfolding seventhRoot
 seventhRoot-below a = powerUnit-below a 1725656503

@@ -12,8 +12,8 @@ pub fn power_unit(a: BabyBearUnit, e: u32) -> BabyBearUnit
     times_power(BabyBearUnit(1), a, e)
 }
 
-// A unit times a power of another. The power is squared away: a to the power e is the square of a to the power
-// e / 2, and once a more where e is odd; so the exponent falls to its half at each call.
+// A unit times a power of another. a to the power e is a squared to the power e / 2, and times a once more where e is
+// odd: so the exponent falls to its half at each call.
 fn times_power(by: BabyBearUnit, a: BabyBearUnit, e: u32) -> BabyBearUnit
     ensures { λ r. ⌜ r .0 ≡ mulUnit (by .0) (powerUnit (a .0) e) ⌝ }
 {
