@@ -8,6 +8,12 @@ ghost use Rattle.baby_bear.specs.Field.{addUnit, mulUnit, seventh, areUn
 ghost use Prim.Native.Nat.{max};
 use limits::P;
 
+// 2^32: what of a product lies below it is the low part, and how often it lies in the product the high part.
+pub const HALF: u64 = 4294967296;
+
+// What 2^32 leaves modulo p.
+pub const HALF_LEAVES: u64 = 268435454;
+
 // A unit of the field, as a word (the source's `BabyBearUnit`); a caller may put any u32 into it.
 #[repr(C)]
 pub struct BabyBearUnit(pub u32);

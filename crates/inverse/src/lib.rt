@@ -6,16 +6,11 @@
 ghost use mathlib.Core.Path.{_≡_};
 ghost use Rattle.limits.specs.Questions.{firstNo};
 ghost use Rattle.inverse.specs.Answers.{permuteInverseFront, permuteInverseNo, permuteInverted, StateBehind};
+use limits::MATRIX_WORDS;
 use limits::P;
 
 mod roots;
 mod rounds;
-
-// The most words of a state: MAX_WIDTH.
-const STATE_WORDS: usize = 24;
-
-// The most words of a matrix.
-const MATRIX_WORDS: usize = 576;
 
 // The questions 1, 2, 9, 4 and 17.
 fn asked(width: u32, rounds: u32, params: &[u32], output: &[u32], input: &[u32]) -> u32

@@ -13,9 +13,9 @@ ghost use Rattle.baby_bear.specs.Field.{areUnits, mulUnit, powerUnit};
 ghost use Rattle.permute.specs.Permute.{pairwise};
 ghost use Rattle.powers.specs.Powers.{seventhRoot};
 ghost use Rattle.inverse.specs.Inverse.{lower};
-use crate::STATE_WORDS;
 use baby_bear::BabyBearUnit;
 use baby_bear::mul_unit;
+use limits::STATE_WORDS;
 
 // The power that undoes the 7th: seven times it leaves 1 modulo p - 1.
 const SEVENTH_ROOT: u32 = 1725656503;

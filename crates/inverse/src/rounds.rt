@@ -11,15 +11,11 @@ ghost use Rattle.permute.specs.Parameters.{roundsOf, rowsOf};
 ghost use Rattle.permute.specs.Walks.{MixAsked, Ready};
 ghost use Rattle.inverse.specs.Inverse.{subUnit, subConstants, lower, undoRound, undoRounds};
 ghost use Rattle.inverse.specs.Walks.{RowAsked, RowsAsked};
-use crate::STATE_WORDS;
 use crate::roots::lower;
+use baby_bear::HALF;
+use baby_bear::HALF_LEAVES;
 use limits::P;
-
-// 2^32: what of a product lies below it is the low part, and how often it lies in the product the high part.
-const HALF: u64 = 4294967296;
-
-// What 2^32 leaves modulo p.
-const HALF_LEAVES: u64 = 268435454;
+use limits::STATE_WORDS;
 
 // A row times the state, with one reduction.
 fn times_row(row: &[u32], x: &[u32]) -> u32

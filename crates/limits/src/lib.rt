@@ -23,6 +23,12 @@ pub const WORD_END: usize = 4294967296;
 // The greatest width of a permutation; the least is 1.
 pub const MAX_WIDTH: u32 = 24;
 
+// As many words: a state, or a row of a matrix, of the greatest width.
+pub const STATE_WORDS: usize = 24;
+
+// The words of a matrix of the greatest width.
+pub const MATRIX_WORDS: usize = 576;
+
 // 2^32: a label has fewer bytes.
 pub const LABEL_END: usize = 4294967296;
 

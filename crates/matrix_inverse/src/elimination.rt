@@ -8,11 +8,11 @@ ghost use Rattle.limits.specs.Numbers.{maxWidth};
 ghost use Rattle.permute.specs.Parameters.{rowsOf};
 ghost use Rattle.matrix_inverse.specs.Inverse.{swap, exchange, pivot, eliminate};
 ghost use Rattle.matrix_inverse.specs.Words.{Eliminated};
-use crate::ROW_WORDS;
 use crate::rows::solve_row;
 use crate::rows::substitute_all;
 use crate::rows::swap_columns;
 use limits::P;
+use limits::STATE_WORDS;
 
 // The first row from c on that can be solved for unknown c, or w.
 fn pivot(w: usize, c: usize, matrix: &[u32]) -> usize
@@ -38,8 +38,8 @@ fn swap_rows(w: usize, i: usize, j: usize, matrix: &mut [u32])
 {
     let from = i * w;
     let to = j * w;
-    let mut first = [0u32; ROW_WORDS];
-    let mut second = [0u32; ROW_WORDS];
+    let mut first = [0u32; STATE_WORDS];
+    let mut second = [0u32; STATE_WORDS];
     words::put(&mut first, 0, &matrix[from..from + w]);
     words::put(&mut second, 0, &matrix[to..to + w]);
     words::put(&mut *matrix, from, &second[0..w]);
@@ -53,7 +53,7 @@ fn exchange(w: usize, c: usize, matrix: &mut [u32])
 {
     let start = c * w;
     let end = start + w;
-    let mut solution = [0u32; ROW_WORDS];
+    let mut solution = [0u32; STATE_WORDS];
     solve_row(c, &mut matrix[start..end]);
     words::put(&mut solution, 0, &matrix[start..end]);
     substitute_all(c, &solution[0..w], c, &mut matrix[0..start]);

@@ -5,16 +5,11 @@
 
 ghost use mathlib.Core.Path.{_≡_};
 ghost use Rattle.matrix_inverse.specs.Words.{isRegular, invertedWords};
+use limits::MATRIX_WORDS;
 use limits::MAX_WIDTH;
 
 mod elimination;
 mod rows;
-
-// The most words of a row: MAX_WIDTH.
-const ROW_WORDS: usize = 24;
-
-// The most words of a matrix.
-const MATRIX_WORDS: usize = 576;
 
 // The matrix of that many rows turned into its inverse. Where it has none, or where these are not the words of such
 // a matrix, no, and the words stay as they are.

@@ -14,13 +14,11 @@ ghost use Rattle.permute.specs.Parameters.{soundParameters, permuteNo, p
 ghost use Rattle.permute.specs.Walks.{Ready};
 use limits::MAX_WIDTH;
 use limits::P;
+use limits::STATE_WORDS;
 
 mod matrix;
 mod rounds;
 mod sound;
-
-// The most words of a state: MAX_WIDTH.
-const STATE_WORDS: usize = 24;
 
 // Question 17, after the number answered so far; the parameters are not looked at where an earlier question
 // said no.

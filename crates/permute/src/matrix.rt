@@ -11,14 +11,10 @@ ghost use Rattle.limits.specs.Numbers.{prime};
 ghost use Rattle.permute.specs.Permute.{timesMatrix};
 ghost use Rattle.permute.specs.Columns.{turnedRows, four, half, halfLeaves, wideEnd};
 ghost use Rattle.permute.specs.Walks.{MatrixAsked, Turned, ColumnAsked, ColumnPut, ProductAsked, FourAsked, SumsAsked, SumsAdded, NoSums, Summing, Summed};
-use crate::STATE_WORDS;
+use baby_bear::HALF;
+use baby_bear::HALF_LEAVES;
 use limits::P;
-
-// 2^32: what of a sum lies below it is the low part, and how often it lies in the sum the high part.
-const HALF: u64 = 4294967296;
-
-// What 2^32 leaves modulo p.
-const HALF_LEAVES: u64 = 268435454;
+use limits::STATE_WORDS;
 
 // Column k of the matrix, its words side by side from `at` on.
 fn put_column(matrix: &[u32], w: usize, k: usize, at: usize, columns: &mut [u64])

@@ -13,14 +13,12 @@ ghost use Rattle.permute.specs.Permute.{addConstants, raise, roundOf, ru
 ghost use Rattle.permute.specs.Parameters.{parametersOf};
 ghost use Rattle.permute.specs.Columns.{turnedRows};
 ghost use Rattle.permute.specs.Walks.{Turned, ProductAsked, MixAsked, Ready};
-use crate::STATE_WORDS;
 use crate::matrix::times_matrix;
 use crate::matrix::turn_matrix;
 use baby_bear::BabyBearUnit;
+use limits::MATRIX_WORDS;
 use limits::P;
-
-// The most words of a matrix.
-const MATRIX_WORDS: usize = 576;
+use limits::STATE_WORDS;
 
 // The sum of two units: one subtraction is enough.
 fn add_units(a: u32, b: u32) -> u32
