@@ -8,7 +8,7 @@ ghost use Rattle.baby_bear.specs.Field.{addUnit, mulUnit, seventh, areUn
 ghost use Prim.Native.Nat.{max};
 use limits::P;
 
-// 2^32: what of a product lies below it is the low part, and how often it lies in the product the high part.
+// 2^32: what of a number lies below it is the number's low part, and how often it lies in the number the high part.
 pub const HALF: u64 = 4294967296;
 
 // What 2^32 leaves modulo p.
