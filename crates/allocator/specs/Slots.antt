@@ -6,7 +6,7 @@ use mathlib.Core.List.{List, [], _∷_, _++_}
 use lib.Dec.{eqb, ltb, leb}
 use lib.ListN.{take, drop, getD, set, replicate}
 use Rattle.limits.specs.Numbers.{prime, unassigned, maxCount}
-use Rattle.limits.specs.Questions.{Question, question, firstNo, onYes}
+use Rattle.limits.specs.Questions.{Question, question, firstNo, pick, onYes}
 use Rattle.limits.specs.Asks.{storeAsks, countAsks}
 
 -- a wire and the unit that it is set to
@@ -49,10 +49,13 @@ growAsksWith between count len n = mostAsks count n ++ (between ++ roomAsks coun
 abbrev pub growAsks : ℕ → ℕ → ℕ → List Question
 growAsks = growAsksWith []
 
+-- a pair is fresh where the slot of its wire is unassigned (document 02's R-5)
+abbrev pub isFresh : List ℕ → Pair → Bool
+isFresh slots p = eqb (getD slots (p .var) unassigned) unassigned
+
 -- the slot of a wire may take a value: it is unassigned, or holds that value
 abbrev pub slotTakes : List ℕ → Pair → Bool
-slotTakes slots p =
-    eqb (getD slots (p .var) unassigned) unassigned || eqb (getD slots (p .var) unassigned) (p .value)
+slotTakes slots p = isFresh slots p || eqb (getD slots (p .var) unassigned) (p .value)
 
 -- 3, the number of the value's own question, 7, 8 of a pair, over the wire count and whether its wire may take its value
 abbrev pub settingAsks : (unit count : ℕ) → (Pair → Bool) → Pair → List Question
@@ -85,19 +88,21 @@ abbrev pub grownSlots : ℕ → ℕ → List ℕ → List ℕ
 grownSlots count n slots = take count slots ++ (replicate n unassigned ++ drop (count + n) slots)
 
 -- ---- items set in turn: `noOf` is an item's number on the slots as they are, `pairOf` the pair that it sets
--- how far they came, up to the first that is refused: its number, how many were accepted, the slots
+-- how far they came, up to the first that is refused: its number, how many were accepted, how many of those were fresh,
+-- the slots
 pub record SetRun : Type 0 where
   pub number : ℕ
   pub accepted : ℕ
+  pub fresh : ℕ
   pub slots : List ℕ
 
--- a run that came to this number, with so many accepted and these slots
-abbrev pub ran : ℕ → ℕ → List ℕ → SetRun
-ran number accepted slots = record { number = number; accepted = accepted; slots = slots }
+-- a run that came to this number, with so many accepted and so many of them fresh, and these slots
+abbrev pub ran : ℕ → ℕ → ℕ → List ℕ → SetRun
+ran number accepted fresh slots = record { number = number; accepted = accepted; fresh = fresh; slots = slots }
 
--- one item accepted before what the others came to
-abbrev pub oneAccepted : SetRun → SetRun
-oneAccepted r = ran (r .number) (suc (r .accepted)) (r .slots)
+-- one item accepted, fresh or not, before what the others came to
+abbrev pub oneAccepted : Bool → SetRun → SetRun
+oneAccepted fresh r = ran (r .number) (suc (r .accepted)) (pick fresh 1 0 + r .fresh) (r .slots)
 
 -- the slots with a pair set: the slot of its wire holds its value
 abbrev pub withPair : List ℕ → Pair → List ℕ
@@ -109,9 +114,11 @@ afterItem noOf pairOf slots a = onYes (noOf slots a) (withPair slots (pairOf a))
 
 -- each item is asked on the slots as the earlier ones leave them; the first that is refused ends the run
 unfoldable pub setItems : {A : Type 0} → (List ℕ → A → ℕ) → (A → Pair) → List ℕ → List A → SetRun
-setItems noOf pairOf slots [] = ran 0 0 slots
+setItems noOf pairOf slots [] = ran 0 0 0 slots
 setItems noOf pairOf slots (a ∷ items) =
-    onYes (noOf slots a) (oneAccepted (setItems noOf pairOf (withPair slots (pairOf a)) items)) (ran (noOf slots a) 0 slots)
+    onYes (noOf slots a)
+    (oneAccepted (isFresh slots (pairOf a)) (setItems noOf pairOf (withPair slots (pairOf a)) items))
+    (ran (noOf slots a) 0 0 slots)
 
 -- their questions, one item after the other
 abbrev pub itemsAsks : {A : Type 0} → (List ℕ → A → List Question) → (A → Pair) → List ℕ → List A → List Question
@@ -121,7 +128,7 @@ itemsAsks asks pairOf slots (a ∷ items) =
 
 -- a run behind earlier questions that came to k: nothing is tried where they say no
 abbrev pub runAfter : ℕ → SetRun → List ℕ → SetRun
-runAfter k r slots = onYes k r (ran k 0 slots)
+runAfter k r slots = onYes k r (ran k 0 0 slots)
 
 -- pairs set in turn
 abbrev pub setRun : ℕ → List ℕ → List Pair → SetRun

@@ -7,7 +7,7 @@
 ghost use mathlib.Core.Path.{_≡_};
 ghost use Rattle.limits.specs.Questions.{_▸_, firstNo};
 ghost use Rattle.allocator.specs.Slots.{slotsAsks, growAsks, wireAsks, pair, pairs, setRun};
-ghost use Rattle.allocator.specs.Assign.{AssignsVar, assignedNo, howFar, Runs, growSlots};
+ghost use Rattle.allocator.specs.Assign.{AssignsVar, setNumber, setFresh, howFar, Runs, growSlots};
 use baby_bear::BabyBearUnit;
 use limits::MAX_COUNT;
 use limits::P;
@@ -24,17 +24,19 @@ pub enum VarValue {
     Refused(u32),
 }
 
-// What setting one wire answers.
-pub enum Assigned {
+// What setting one wire answers: fresh where its slot was unassigned just before, repeated where it held that value.
+pub enum Set {
     Fresh,
     Repeated,
     Refused(u32),
 }
 
-// How far pairs were set in turn: the number of the first refused one, or 0, and how many were accepted.
+// How far pairs were set in turn: the number of the first refused one, or 0, how many were accepted, and how many of
+// those were fresh.
 pub struct SetPairs {
     pub number: u32,
     pub accepted: usize,
+    pub fresh: usize,
 }
 
 // Question 2 of the slots, by their wire count and the store's length.
@@ -77,7 +79,7 @@ fn asked_wire(count: u32, var: u32, value: u32) -> u32
 }
 
 // One wire set: questions 3, 4, 7 and 8 (what the source's `set_var` does behind its lock).
-pub fn assign_var(count: u32, slots: &mut [u32], var: FieldVar, value: BabyBearUnit) -> Assigned
+pub fn assign_var(count: u32, slots: &mut [u32], var: FieldVar, value: BabyBearUnit) -> Set
     ensures { λ r. ⌜ AssignsVar count (now (slots .entry)) (pair (var .0) (value .0)) r (now (slots .exit)) ⌝ }
 {
     let x = var.0;
@@ -85,30 +87,41 @@ pub fn assign_var(count: u32, slots: &mut [u32], var: FieldVar, value: BabyBearU
     let at = x as usize;
     let no = asked_wire(count, x, v);
     if no != 0 {
-        return Assigned::Refused(no);
+        return Set::Refused(no);
     }
     if slots.len() <= at {
-        return Assigned::Fresh;
+        return Set::Fresh;
     }
     let held = slots[at];
     if held == UNASSIGNED {
         slots[at] = v;
-        return Assigned::Fresh;
+        return Set::Fresh;
     }
     if held == v {
-        return Assigned::Repeated;
+        return Set::Repeated;
     }
-    Assigned::Refused(8)
+    Set::Refused(8)
 }
 
-// Document 01's number of an answer.
-pub fn assigned_no(a: Assigned) -> u32
-    ensures { λ r. ⌜ r ≡ assignedNo a ⌝ }
+// The documents' number of an answer.
+pub fn set_no(s: Set) -> u32
+    ensures { λ r. ⌜ r ≡ setNumber s ⌝ }
 {
-    match a {
-        Assigned::Fresh => 0,
-        Assigned::Repeated => 0,
-        Assigned::Refused(k) => k,
+    match s {
+        Set::Fresh => 0,
+        Set::Repeated => 0,
+        Set::Refused(k) => k,
+    }
+}
+
+// How many fresh ones an answer counts.
+pub fn set_fresh(s: Set) -> usize
+    ensures { λ r. ⌜ r ≡ setFresh s ⌝ }
+{
+    match s {
+        Set::Fresh => 1,
+        Set::Repeated => 0,
+        Set::Refused(_) => 0,
     }
 }
 
@@ -117,24 +130,30 @@ pub fn set_pairs(count: u32, slots: &mut [u32], vars: &[u32], values: &[u32]) ->
     ensures { λ r. ⌜ Runs howFar (setRun count (now (slots .entry)) (pairs (now (vars .entry)) (now (values .entry)))) r (now (slots .exit)) ⌝ }
 {
     let mut i: usize = 0;
+    let mut fresh: usize = 0;
     while i < vars.len() {
         if values.len() <= i {
             return SetPairs {
                 number: 0,
                 accepted: i,
+                fresh,
             };
         }
-        let no = assigned_no(assign_var(count, slots, FieldVar(vars[i]), BabyBearUnit(values[i])));
+        let set = assign_var(count, slots, FieldVar(vars[i]), BabyBearUnit(values[i]));
+        let no = set_no(set);
         if no != 0 {
             return SetPairs {
                 number: no,
                 accepted: i,
+                fresh,
             };
         }
+        fresh += set_fresh(set);
         i += 1;
     }
     SetPairs {
         number: 0,
         accepted: i,
+        fresh,
     }
 }

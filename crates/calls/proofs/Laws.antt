@@ -3,8 +3,8 @@
 use Prim.Native.Nat.{ℕ}
 use mathlib.Core.Path.{_≡_, sym, ap}
 use mathlib.Core.List.{List}
-use Rattle.limits.specs.declared.Outcome.{Outcome}
 use Rattle.allocator.specs.Slots.{Pair}
+use Rattle.allocator.specs.declared.Set as declared
 use Rattle.expr.specs.Weighted.{termsOf}
 use Rattle.expr.specs.declared.Weighted.{Weighted}
 use Rattle.permutation.specs.Answers.{newRelation, newSlots, allocateVars, allocateVarsSlots, setVar, setVarSlots, setVars, setVarsSlots}
@@ -15,7 +15,7 @@ use Rattle.permutation.specs.declared.Allocated.{Allocated}
 use Rattle.permutation.specs.declared.SetVars.{SetVars}
 use Rattle.tickets.specs.Tickets.{setTickets, setTicketsSlots}
 use Rattle.tickets.specs.declared.SetTickets.{SetTickets}
-use Rattle.history.specs.Calls.{Allocate, Set, SetList, Record, Mint, Equate, Tickets, state, ofOutcome, ofFirst, ofSetVars, ofSetTickets, answer, after}
+use Rattle.history.specs.Calls.{Allocate, Set, SetList, Record, Mint, Equate, Tickets, state, ofOutcome, ofFirst, ofSet, ofSetVars, ofSetTickets, answer, after}
 use Rattle.calls.specs.Performs.{StartsSlots, OnSlots, OnQueries, OnSlotsQueries, OnEquations}
 
 pub started : (w : ℕ) (slots : List ℕ) (r : Recorded) (slots′ : List ℕ) → r ≡ newRelation w slots → slots′ ≡ newSlots w slots
@@ -35,11 +35,11 @@ module _ (rel : PermutationRelation) where
     leaves = λ j. state (sym e j .relation) (sym h j) queries equations;
   }
 
-  pub set : (slots : List ℕ) (p : Pair) (r : Outcome) (slots′ : List ℕ) → r ≡ setVar rel slots p → slots′ ≡ setVarSlots rel slots p
-      → OnSlots rel slots (Set p) (ofOutcome r) rel slots′
+  pub set : (slots : List ℕ) (p : Pair) (r : declared.Set) (slots′ : List ℕ) → r ≡ setVar rel slots p → slots′ ≡ setVarSlots rel slots p
+      → OnSlots rel slots (Set p) (ofSet r) rel slots′
   unfolding answer after
   set slots p r slots′ e h queries equations = record {
-    answers = ap ofOutcome (sym e);
+    answers = ap ofSet (sym e);
     leaves = λ j. state rel (sym h j) queries equations;
   }
 

@@ -8,12 +8,11 @@
 // definitions that the contracts of `compile`, `encoding`, `decoding` and `validity` cite.
 
 ghost use Rattle.allocator.specs.Slots.{pair};
-ghost use Rattle.history.specs.Calls.{Allocate, Set, SetList, Record, Mint, Equate, Tickets, ofOutcome, ofFirst, ofSetVars, ofSetTickets};
+ghost use Rattle.history.specs.Calls.{Allocate, Set, SetList, Record, Mint, Equate, Tickets, ofOutcome, ofFirst, ofSet, ofSetVars, ofSetTickets};
 ghost use Rattle.calls.specs.Performs.{StartsSlots, OnSlots, OnQueries, OnSlotsQueries, OnEquations};
 use allocator::FieldVar;
 use baby_bear::BabyBearUnit;
 use expr::Weighted;
-use limits::Outcome;
 use permutation::Allocated;
 use permutation::PermutationRelation;
 use permutation::Recorded;
@@ -40,8 +39,8 @@ pub fn set_var(
     slots: &mut [u32],
     var: FieldVar,
     value: BabyBearUnit,
-) -> Outcome
-    ensures { λ r. ⌜ OnSlots rel (now (slots .entry)) (Set (pair (var .0) (value .0))) (ofOutcome r) rel (now (slots .exit)) ⌝ }
+) -> allocator::Set
+    ensures { λ r. ⌜ OnSlots rel (now (slots .entry)) (Set (pair (var .0) (value .0))) (ofSet r) rel (now (slots .exit)) ⌝ }
 {
     permutation::set_var(rel, slots, var, value)
 }

@@ -1,11 +1,12 @@
 -- Instance A of document 01 through fresh, a list of calls (some refused) on stores that hold anything, the gate,
--- both byte forms and the check, to its yes and to a no: the theorem is not empty. Then 01's starred examples, by
--- the definitions that the open functions' contracts cite. Assumes nothing.
+-- both byte forms and the check, to its yes and to a no: the theorem is not empty. Then the theorem along a list: first
+-- wires, and how many sets are fresh. Then 01's starred examples, by the definitions that the open functions' contracts
+-- cite. Assumes nothing.
 use Prim.Native.Nat.{ℕ}
 use mathlib.Core.Path.{_≡_, refl, ap}
 use mathlib.Core.List.{List, [], _∷_, _++_, map}
 use native.Mathlib.Omega.{arith}
-use lib.ListN.{length, replicate}
+use lib.ListN.{length, take, replicate}
 use Rattle.limits.specs.Numbers.{unassigned}
 use Rattle.limits.specs.Questions.{ask, _▸_}
 use Rattle.limits.specs.declared.Outcome.{Outcome}
@@ -44,7 +45,8 @@ use Rattle.decoding.specs.Answers.{instanceFromBytes, witnessFromBytes}
 use Rattle.roundtrip.proofs.Examples.{outcomes as reads, examples as on-bytes}
 use Rattle.permutation.proofs.Examples.{Examples, examples}
 use Rattle.history.specs.Sat.{Sat, Evaluates}
-use Rattle.history.specs.Calls.{Call, Allocate, Set, SetList, Record, Mint, Equate, Tickets, Entry, answer, after, noted, ledger, log}
+use Rattle.history.specs.Calls.{Call, Allocate, Set, SetList, Record, Mint, Equate, Tickets, State, Entry, answer, after, noted, ledger, log, final}
+use Rattle.history.specs.Left.{setBy}
 use Rattle.history.specs.Whole.{FileLent, TraceLent, compiled, begin, last, lastLedger}
 use Rattle.history.proofs.Outcomes.{accepted-no}
 use Rattle.history.proofs.Theorem.{whole}
@@ -169,6 +171,42 @@ allocated = whole 1 slots queries equations fresh-accepted taking .told .0 .firs
 pub minted : answer (after (begin 1 slots queries equations taking) (Allocate 2)) (Mint (0 ∷ [])) .first ≡ 3
 unfolding ask _▸_ newRelationNo allocateVarsNo setVarNo setVarsNo addPermutationNo allocatePermutationNo addEquationNo pairNo setItems setVarsRun ticketLine gramsToSteps readLine linesOf lineNo setTicketsRun allBelow answer after noted
 minted = whole 1 slots queries equations fresh-accepted taking .told .1 .0 .first refl refl
+
+-- ---- how many sets are fresh: a wire named twice counts once, wire 0 never; a refused list tells of what it set
+abbrev setting : List Call
+setting =
+    Allocate 3
+    ∷ SetList (1 ∷ 1 ∷ 0 ∷ 2 ∷ []) (7 ∷ 7 ∷ 0 ∷ 9 ∷ [])
+    ∷ SetList (2 ∷ 3 ∷ 1 ∷ 3 ∷ []) (9 ∷ 5 ∷ 8 ∷ 5 ∷ [])
+    ∷ Set (pair 3 5)
+    ∷ []
+
+-- what the first k of them leave
+abbrev afterFirst : ℕ → State
+afterFirst k = final (begin 1 slots queries equations setting) (take k setting)
+
+-- four are accepted, and wires 1 and 2 are fresh
+pub listed : (answer (afterFirst 1) (SetList (1 ∷ 1 ∷ 0 ∷ 2 ∷ []) (7 ∷ 7 ∷ 0 ∷ 9 ∷ [])) .accepted ≡ 4)
+    × (answer (afterFirst 1) (SetList (1 ∷ 1 ∷ 0 ∷ 2 ∷ []) (7 ∷ 7 ∷ 0 ∷ 9 ∷ [])) .fresh ≡ 2)
+unfolding ask _▸_ newRelationNo allocateVarsNo setVarNo setVarsNo pairNo setItems setVarsRun answer after noted setBy
+listed =
+    let t = whole 1 slots queries equations fresh-accepted setting .told .1 .0 in
+    (t .accepted, t .fresh)
+
+-- refused at its third pair: of the two before it wire 3 is fresh
+pub refused-list : (answer (afterFirst 2) (SetList (2 ∷ 3 ∷ 1 ∷ 3 ∷ []) (9 ∷ 5 ∷ 8 ∷ 5 ∷ [])) .accepted ≡ 2)
+    × (answer (afterFirst 2) (SetList (2 ∷ 3 ∷ 1 ∷ 3 ∷ []) (9 ∷ 5 ∷ 8 ∷ 5 ∷ [])) .fresh ≡ 1)
+unfolding ask _▸_ newRelationNo allocateVarsNo setVarNo setVarsNo pairNo setItems setVarsRun answer after noted setBy
+refused-list =
+    let t = whole 1 slots queries equations fresh-accepted setting .told .1 .1 .0 in
+    (t .accepted, t .fresh)
+
+-- and it stays set
+pub repeated : (answer (afterFirst 3) (Set (pair 3 5)) .accepted ≡ 1) × (answer (afterFirst 3) (Set (pair 3 5)) .fresh ≡ 0)
+unfolding ask _▸_ newRelationNo allocateVarsNo setVarNo setVarsNo pairNo setItems setVarsRun answer after noted setBy
+repeated =
+    let t = whole 1 slots queries equations fresh-accepted setting .told .1 .1 .1 .0 in
+    (t .accepted, t .fresh)
 
 -- ---- document 01's starred examples, all of them, as one fact of the definitions
 -- the gate on wire 0 with 0, another wire of no value, and the equation of that wire with weight k and image 0

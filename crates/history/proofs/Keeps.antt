@@ -2,10 +2,13 @@
 -- of a call and its answer is what the relation's own laws say of it. Assumes nothing.
 use Prim.Native.Nat.{ℕ, zero, suc}
 use mathlib.Core.Path.{_≡_, refl, subst}
+use mathlib.Core.Bool.{Bool, true, false}
 use mathlib.Core.List.{List}
 use lib.ListN.{length}
 use Rattle.limits.specs.Questions.{pick, onYes}
 use Rattle.limits.specs.Outcome.{outcomeOf, outcomeNumber, isAccepted}
+use Rattle.allocator.specs.Slots.{isFresh}
+use Rattle.allocator.specs.Assign.{setOf}
 use Rattle.expr.specs.Weighted.{termsOf}
 use Rattle.permutation.specs.Answers.{firstOf, firstNumber, newRelation}
 use Rattle.permutation.specs.Numbers.{allocateVarsNo, setVarNo}
@@ -16,7 +19,7 @@ use Rattle.recording.proofs.Keeps.{new-holds, with-slots, allocateVars-keeps, s
 use Rattle.tickets.proofs.Laws.{setTickets-holds}
 use Rattle.history.proofs.Along.{along-kept}
 use Rattle.history.specs.Ledger.{Ledger}
-use Rattle.history.specs.Calls.{Call, Allocate, Set, SetList, Record, Mint, Equate, Tickets, State, answer, after, fresh, firstOutcome, ledger, firstLedger, noted, log, final, ledgerOf}
+use Rattle.history.specs.Calls.{Call, Allocate, Set, SetList, Record, Mint, Equate, Tickets, State, answer, after, fresh, firstOutcome, ofSet, ledger, firstLedger, noted, log, final, ledgerOf}
 
 -- record and stores hold what the ledger says, at the width given to fresh
 abbrev pub Agrees : ℕ → State → Ledger → Type 0
@@ -32,6 +35,13 @@ on-outcome : (k : ℕ) {A : Type 0} (f : A → Ledger) (new old : A)
     → f (onYes (outcomeNumber (outcomeOf k)) new old) ≡ pick (isAccepted (outcomeOf k)) (f new) (f old)
 on-outcome zero f new old = refl
 on-outcome (suc k) f new old = refl
+
+-- by the answer to one set, fresh or not
+on-set : (k : ℕ) (fresh : Bool) {A : Type 0} (f : A → Ledger) (new old : A)
+    → f (onYes k new old) ≡ pick (isAccepted (ofSet (setOf k fresh) .outcome)) (f new) (f old)
+on-set zero true f new old = refl
+on-set zero false f new old = refl
+on-set (suc k) fresh f new old = refl
 
 on-first : (k v : ℕ) {A : Type 0} (f : A → Ledger) (new old : A)
     → f (onYes (firstNumber (firstOf k v)) new old) ≡ pick (isAccepted (firstOutcome (firstOf k v))) (f new) (f old)
@@ -57,7 +67,7 @@ module _ (w : ℕ) (s : State) (l : Ledger) (i : Agrees w s l) where
       (allocateVars-keeps w _ _ _ _ _ _ _ _ i n)
   keeps (Set p) =
       subst (Agrees w (after s (Set p)))
-      (on-outcome (setVarNo rel (s .slots) p) (λ m. ledger (l .count) m (l .queries) (l .equations)) _ _)
+      (on-set (setVarNo rel (s .slots) p) (isFresh (s .slots) p) (λ m. ledger (l .count) m (l .queries) (l .equations)) _ _)
       (setVar-keeps w _ _ _ _ _ _ _ _ i p)
   keeps (SetList vars values) = setVars-keeps w _ _ _ _ _ _ _ _ i vars values
   keeps (Record input output) =

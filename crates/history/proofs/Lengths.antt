@@ -60,7 +60,7 @@ module _ (s : State) where
   lengths-kept (SetList vars values) =
       let r = setRun (rel .vars) (s .slots) (pairs vars values) in
       lengths (after s (SetList vars values))
-      (after-length (setVarsNo rel (length (s .slots)) vars values) (ran (r .number ▸ ask 9 (eqb (length vars) (length values))) (r .accepted) (r .slots)) (s .slots)
+      (after-length (setVarsNo rel (length (s .slots)) vars values) (ran (r .number ▸ ask 9 (eqb (length vars) (length values))) (r .accepted) (r .fresh) (r .slots)) (s .slots)
       (run-length (pairNo (rel .vars)) (λ p. p) (pairs vars values) (s .slots))) refl refl
   lengths-kept (Record input output) =
       lengths (after s (Record input output)) refl

@@ -12,6 +12,7 @@ pub mod Judged
 pub mod Evaluations
 pub mod Keeps
 pub mod Lengths
+pub mod Fresh
 pub mod Told
 pub mod Gate
 pub mod Made

@@ -9,6 +9,8 @@ use Rattle.limits.specs.declared.Outcome.{Outcome}
 use Rattle.limits.specs.declared.Outcome.the-variants as outcome
 use Rattle.allocator.specs.Slots.{Pair, pair, pairs}
 use Rattle.allocator.specs.Values.{joins}
+use Rattle.allocator.specs.declared.Set as declared
+use Rattle.allocator.specs.declared.Set.the-variants as set
 use Rattle.expr.specs.Equation.{Equation, equation}
 use Rattle.expr.specs.Weighted.{termsOf}
 use Rattle.expr.specs.declared.Weighted.{Weighted}
@@ -84,12 +86,13 @@ frontAsks h rel lengths (Mint input) = allocatePermutationFront h rel (lengths .
 frontAsks h rel lengths (Equate terms image) = addEquationFront h rel (lengths .equations)
 frontAsks h rel lengths (Tickets text) = relationFront h rel (lengths .slots)
 
--- ---- answers: accepted or refused with the documents' number, the first new wire, and how many pairs or lines were accepted
--- where a call has no such value it is 0
+-- ---- answers: accepted or refused with the documents' number, the first new wire, how many sets, pairs or lines were
+-- accepted, and how many of those were fresh; where a call has no such value it is 0
 pub record Answer : Type 0 where
   pub outcome : Outcome
   pub first : ℕ
   pub accepted : ℕ
+  pub fresh : ℕ
 
 -- by an answer: the first where it is accepted, else the second
 abbrev pub onAccepted : {A : Type 0} → Answer → A → A → A
@@ -97,7 +100,7 @@ onAccepted a new old = pick (isAccepted (a .outcome)) new old
 
 -- each enum's outcome and values
 abbrev pub ofOutcome : Outcome → Answer
-ofOutcome o = record { outcome = o; first = 0; accepted = 0 }
+ofOutcome o = record { outcome = o; first = 0; accepted = 0; fresh = 0 }
 
 -- an allocation is accepted where it answers a wire
 abbrev pub firstOutcome : First → Outcome
@@ -106,20 +109,26 @@ firstOutcome (first.Refused k) = outcome.Refused k
 
 -- an allocation's answer: the outcome and the first new wire
 abbrev pub ofFirst : First → Answer
-ofFirst f = record { outcome = firstOutcome f; first = firstVar f; accepted = 0 }
+ofFirst f = record { outcome = firstOutcome f; first = firstVar f; accepted = 0; fresh = 0 }
 
--- a set list's answer: the outcome and how many pairs were accepted
+-- a set's answer: one is accepted, fresh or repeated, or none
+abbrev pub ofSet : declared.Set → Answer
+ofSet set.Fresh = record { outcome = outcome.Accepted; first = 0; accepted = 1; fresh = 1 }
+ofSet set.Repeated = record { outcome = outcome.Accepted; first = 0; accepted = 1; fresh = 0 }
+ofSet (set.Refused k) = record { outcome = outcome.Refused k; first = 0; accepted = 0; fresh = 0 }
+
+-- a set list's answer: the outcome, how many pairs were accepted, and how many of those were fresh
 abbrev pub ofSetVars : SetVars → Answer
-ofSetVars r = record { outcome = r .outcome; first = 0; accepted = r .accepted }
+ofSetVars r = record { outcome = r .outcome; first = 0; accepted = r .accepted; fresh = r .fresh }
 
--- a ticket call's answer: the outcome and how many lines were accepted
+-- a ticket call's answer: the outcome, how many lines were accepted, and how many of those were fresh
 abbrev pub ofSetTickets : SetTickets → Answer
-ofSetTickets r = record { outcome = r .outcome; first = 0; accepted = r .accepted }
+ofSetTickets r = record { outcome = r .outcome; first = 0; accepted = r .accepted; fresh = r .fresh }
 
 -- what each call answers on the state that it gets
 unfoldable pub answer : State → Call → Answer
 answer s (Allocate n) = ofFirst (allocateVars (s .relation) (s .slots) n .first)
-answer s (Set p) = ofOutcome (setVar (s .relation) (s .slots) p)
+answer s (Set p) = ofSet (setVar (s .relation) (s .slots) p)
 answer s (SetList vars values) = ofSetVars (setVars (s .relation) (s .slots) vars values)
 answer s (Record input output) = ofOutcome (addPermutation (s .relation) (s .queries) input output .outcome)
 answer s (Mint input) = ofFirst (allocatePermutation (s .relation) (s .slots) (s .queries) input .first)

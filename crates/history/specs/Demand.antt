@@ -6,6 +6,7 @@ use mathlib.Core.Bool.{Bool, true, false}
 use mathlib.Core.Logic.{_↔_}
 use mathlib.Core.List.{List, _∷_, _++_}
 use mathlib.Core.Option.{none}
+use lib.ListN.{length}
 use Rattle.limits.specs.Questions.{firstNo}
 use Rattle.limits.specs.Outcome.{outcomeOf}
 use Rattle.limits.specs.declared.Outcome.{Outcome}
@@ -20,7 +21,7 @@ use Rattle.history.specs.Along.{Along}
 use Rattle.history.specs.Ledger.{Ledger, known}
 use Rattle.history.specs.Sat.{Sat}
 use Rattle.history.specs.Calls.{Call, Allocate, Set, SetList, Record, Mint, Equate, Tickets, State, lengthsOf, asks, answer, after, noted}
-use Rattle.history.specs.Left.{left}
+use Rattle.history.specs.Left.{left, setBy, freshCount}
 
 -- ---- outcomes
 -- accepted: the outcome says so, and no number alone
@@ -52,6 +53,10 @@ pub record Told (w : ℕ) (s : State) (l : Ledger) (c : Call) : Type 0 where
   pub lengths : lengthsOf (after s c) ≡ lengthsOf s
   -- an accepted allocate or mint answers n as it was before
   pub first : takesVars c ≡ true → Accepted (answer s c .outcome) → answer s c .first ≡ l .count
+  -- as many sets, pairs or lines are accepted as the ledger lets through, after a refusal too
+  pub accepted : answer s c .accepted ≡ length (setBy l c)
+  -- and of those as many are fresh as wires are named that no set of the ledger names
+  pub fresh : answer s c .fresh ≡ freshCount (l .count) (l .sets) (setBy l c)
 
 -- call by call
 abbrev pub AllTold : ℕ → State → Ledger → List Call → Type 0

@@ -1,7 +1,7 @@
 -- Which questions can still say no on a state that a list of calls came to, at the gate and after it: by the
 -- ledger and the lengths of what is lent alone. Assumes nothing.
 use Prim.Native.Nat.{ℕ, zero, suc, _+_, _*_}
-use mathlib.Core.Bool.{Bool}
+use mathlib.Core.Bool.{Bool, not, _&&_}
 use mathlib.Core.List.{List, [], _∷_, _++_}
 use lib.Dec.{leb}
 use lib.ListN.{length, take}
@@ -14,9 +14,10 @@ use Rattle.utf8.specs.Utf8.{isUtf8}
 use Rattle.expr.specs.Equation.{equationsWords}
 use Rattle.expr.specs.Weighted.{termsOf}
 use Rattle.permutation.specs.Sharing.{nothing}
-use Rattle.permutation.specs.Left.{allocateVarsLeft, setVarLeft, setVarsLeft}
+use Rattle.allocator.specs.Slots.{Pair}
+use Rattle.permutation.specs.Left.{allocateVarsLeft, setVarLeft, setVarsLeft, pairsSet, setVarsSet}
 use Rattle.recording.specs.Left.{addPermutationLeft, allocatePermutationLeft, addEquationLeft}
-use Rattle.tickets.specs.Left.{setTicketsLeft}
+use Rattle.tickets.specs.Left.{setTicketsLeft, setTicketsSet}
 use Rattle.instance.specs.Parts.{pairVars, has}
 use Rattle.held.specs.Held.{labelAsks}
 use Rattle.validated.specs.Validated.{termwiseAsks}
@@ -42,12 +43,27 @@ leftWith within w lengths l (Tickets text) = setTicketsLeft (l .count) (l .sets)
 abbrev pub left : ℕ → Lengths → Ledger → Call → ℕ
 left = leftWith nothing
 
--- ---- the gate
+-- ---- what a call sets
+-- the pairs, by the ledger and the arguments alone
+unfoldable pub setBy : Ledger → Call → List Pair
+setBy l (Allocate n) = []
+setBy l (Set p) = pairsSet (l .count) (l .sets) (p ∷ [])
+setBy l (SetList vars values) = setVarsSet (l .count) (l .sets) vars values
+setBy l (Record input output) = []
+setBy l (Mint input) = []
+setBy l (Equate terms image) = []
+setBy l (Tickets text) = setTicketsSet (l .count) (l .sets) text
+
 -- of the n wires from i on, how many pass the test?
 abbrev pub numberOf : (ℕ → Bool) → (i n : ℕ) → ℕ
 numberOf test i zero = 0
 numberOf test i (suc n) = pick (test i) 1 0 + numberOf test (suc i) n
 
+-- of n wires, how many do the pairs name that the sets do not? (document 02's R-5: as many pairs are fresh)
+abbrev pub freshCount : ℕ → (sets ps : List Pair) → ℕ
+freshCount n sets ps = numberOf (λ x. has (pairVars ps) x && not (has (pairVars sets) x)) 0 n
+
+-- ---- the gate
 -- how many wires are public: those that a set names
 abbrev pub publicCount : Ledger → ℕ
 publicCount l = numberOf (has (pairVars (l .sets))) 0 (l .count)

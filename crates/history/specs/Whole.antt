@@ -1,8 +1,9 @@
 -- Demand 3, the one claim: about what an accepted fresh leaves, any list of calls after it, the gate, both byte
 -- forms written and read, and the check of what was read, or of what the gate made with no bytes between.
 --
---   (1) each call accepts where no question says no, else it answers the first that does, and an accepted
---       allocate or mint answers the ledger's count as it was before (`told`)
+--   (1) each call accepts where no question says no, else it answers the first that does; an accepted allocate or
+--       mint answers the ledger's count as it was before; how many sets were accepted, and how many of those were
+--       fresh, is told by the ledger and the call's arguments alone (`told`)
 --   (2) so do the gate and the writes, by 01's own lists of questions; and which of them, and of the reads', can
 --       still say no is told by the ledger and the sizes of what is lent alone (`gates`, `writes`, `reads`)
 --   (3) what was read is what was written: width and counts, label bytes, held words, steps (`same`)

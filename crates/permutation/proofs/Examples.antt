@@ -9,7 +9,7 @@ use Rattle.allocator.specs.Slots.{pair}
 use Rattle.permutation.specs.Numbers.{newRelationNo, allocateVarsNo, setVarNo}
 use Rattle.permutation.specs.Answers.{newRelation, newSlots, setVar, allocateVars}
 use Rattle.permutation.specs.declared.PermutationRelation.{PermutationRelation}
-use Rattle.limits.specs.declared.Outcome.the-variants as outcome
+use Rattle.allocator.specs.declared.Set.the-variants as set
 use Rattle.permutation.specs.declared.First.the-variants as first
 
 abbrev before : List ℕ
@@ -25,8 +25,8 @@ slots = newSlots 1 before
 pub record Examples : Type 0 where
   pub sum : addUnit 2013265920 1 ≡ 0
   pub product : mulUnit 2013265920 2013265920 ≡ 1
-  pub set-zero : setVar one slots (pair 0 0) ≡ outcome.Accepted
-  pub set-five : setVar one slots (pair 0 5) ≡ outcome.Refused 8
+  pub set-zero : setVar one slots (pair 0 0) ≡ set.Repeated
+  pub set-five : setVar one slots (pair 0 5) ≡ set.Refused 8
   pub allocate-all : allocateVars one slots 1073741824 .first ≡ first.Refused 5
   pub allocate-rest : allocateVars one slots 1073741823 .first ≡ first.Refused 6
 

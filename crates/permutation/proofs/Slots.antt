@@ -116,7 +116,7 @@ module _ {A : Type 0} (pairOf : A → Pair) (n : ℕ) where
   -- nor does a run behind earlier questions that say no alter anything
   pub after-holds : (sets : List Pair) (items : List A) (k : ℕ) (r : SetRun) (slots : List ℕ) → RunHolds sets items r
       → HoldsSlots n slots sets → RunHolds sets items (runAfter k r slots)
-  after-holds sets items k r slots f o = run-by sets items k r (ran k 0 slots) (λ z. f) o
+  after-holds sets items k r slots f o = run-by sets items k r (ran k 0 0 slots) (λ z. f) o
 
   -- where an item is only accepted if its pair is
   pub run-holds : (noOf : List ℕ → A → ℕ) → ((slots : List ℕ) (a : A) → noOf slots a ≡ 0 → pairNo n slots (pairOf a) ≡ 0)

@@ -7,11 +7,11 @@ use lib.ListN.{length, getD, set}
 use Rattle.limits.specs.Numbers.{unassigned}
 use Rattle.limits.specs.Questions.{pick, ask, _▸_, onYes}
 use Rattle.limits.specs.Outcome.{outcomeOf}
-use Rattle.allocator.specs.Slots.{Pair, pairs, grownSlots, withPair, SetRun, ran, runAfter, setRun}
+use Rattle.allocator.specs.Slots.{Pair, pairs, isFresh, grownSlots, withPair, SetRun, ran, runAfter, setRun}
+use Rattle.allocator.specs.Assign.{setOf}
 use Rattle.permutation.specs.Numbers.{newRelationNo, allocateVarsNo, setVarNo, setVarsNo, valueOfNo, isAllocatedNo}
 use Rattle.permutation.specs.declared.PermutationRelation.{PermutationRelation}
-use Rattle.limits.specs.declared.Outcome.{Outcome}
-use Rattle.limits.specs.declared.Outcome.the-variants as outcome
+use Rattle.allocator.specs.declared.Set.{Set}
 use Rattle.permutation.specs.declared.First.{First}
 use Rattle.permutation.specs.declared.First.the-variants as first
 use Rattle.permutation.specs.declared.Recorded.{Recorded}
@@ -85,25 +85,25 @@ abbrev pub allocateVarsSlots : PermutationRelation → List ℕ → ℕ → List
 allocateVarsSlots rel slots n = onYes (allocateVarsNo rel (length slots) n) (grownSlots (rel .vars) n slots) slots
 
 -- ---- set: the slot becomes the value
--- the answer; the record has nothing new
-abbrev pub setVar : PermutationRelation → List ℕ → Pair → Outcome
-setVar rel slots p = outcomeOf (setVarNo rel slots p)
+-- the answer, fresh where the slot was unassigned; the record has nothing new
+abbrev pub setVar : PermutationRelation → List ℕ → Pair → Set
+setVar rel slots p = setOf (setVarNo rel slots p) (isFresh slots p)
 
 -- the slots afterwards
 abbrev pub setVarSlots : PermutationRelation → List ℕ → Pair → List ℕ
 setVarSlots rel slots p = onYes (setVarNo rel slots p) (withPair slots p) slots
 
 -- ---- set list: nothing is tried where 1 or 2 says no; 9 comes after the common pairs, which stay set
--- the number, how many pairs were accepted, and the slots
+-- the number, how many pairs were accepted, how many of those were fresh, and the slots
 unfoldable pub setVarsRun : PermutationRelation → List ℕ → List ℕ → List ℕ → SetRun
 setVarsRun rel slots vars values =
     let r = setRun (rel .vars) slots (pairs vars values) in
     runAfter (setVarsNo rel (length slots) vars values)
-    (ran (r .number ▸ ask 9 (eqb (length vars) (length values))) (r .accepted) (r .slots)) slots
+    (ran (r .number ▸ ask 9 (eqb (length vars) (length values))) (r .accepted) (r .fresh) (r .slots)) slots
 
--- a run's answer: the outcome of its number, and its tally
+-- a run's answer: the outcome of its number, and its tallies
 abbrev pub setVarsOf : SetRun → SetVars
-setVarsOf run = record { outcome = outcomeOf (run .number); accepted = run .accepted }
+setVarsOf run = record { outcome = outcomeOf (run .number); accepted = run .accepted; fresh = run .fresh }
 
 -- the answer
 abbrev pub setVars : PermutationRelation → List ℕ → List ℕ → List ℕ → SetVars

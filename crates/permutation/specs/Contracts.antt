@@ -8,7 +8,7 @@ use Rattle.allocator.specs.Slots.{Pair}
 use Rattle.allocator.specs.Assign.{Runs}
 use Rattle.permutation.specs.Answers.{newRelation, newSlots, allocateVars, allocateVarsSlots, setVar, setVarSlots, setVarsRun, setVarsOf}
 use Rattle.permutation.specs.declared.PermutationRelation.{PermutationRelation}
-use Rattle.limits.specs.declared.Outcome.{Outcome}
+use Rattle.allocator.specs.declared.Set.{Set}
 use Rattle.permutation.specs.declared.Recorded.{Recorded}
 use Rattle.permutation.specs.declared.Allocated.{Allocated}
 use Rattle.permutation.specs.declared.SetVars.{SetVars}
@@ -25,7 +25,7 @@ pub record AllocatesVars {A : Type 0} (told : Allocated → A) (rel : Permutatio
   pub slots : slots₁ ≡ allocateVarsSlots rel slots₀ n
 
 -- set
-pub record SetsVar {A : Type 0} (told : Outcome → A) (rel : PermutationRelation) (slots₀ : List ℕ) (p : Pair)
+pub record SetsVar {A : Type 0} (told : Set → A) (rel : PermutationRelation) (slots₀ : List ℕ) (p : Pair)
     (r : A) (slots₁ : List ℕ) : Type 0 where
   pub answer : r ≡ told (setVar rel slots₀ p)
   pub slots : slots₁ ≡ setVarSlots rel slots₀ p

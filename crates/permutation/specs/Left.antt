@@ -34,15 +34,36 @@ abbrev pub itemsLeft : {A : Type 0} → (List Pair → A → ℕ) → (A → Pai
 itemsLeft leftOf pairOf sets [] = 0
 itemsLeft leftOf pairOf sets (a ∷ items) = leftOf sets a ▸ itemsLeft leftOf pairOf (pairOf a ∷ sets) items
 
--- the same of pairs
-abbrev pub pairsLeft : ℕ → List Pair → List Pair → ℕ
-pairsLeft n = itemsLeft (λ sets p. firstNo (setVarLeft n sets p)) (λ p. p)
+-- and the pairs that are set: those of the items before the first number that is not 0
+abbrev pub itemsSet : {A : Type 0} → (List Pair → A → ℕ) → (A → Pair) → List Pair → List A → List Pair
+itemsSet leftOf pairOf sets [] = []
+itemsSet leftOf pairOf sets (a ∷ items) =
+    onYes (leftOf sets a) (pairOf a ∷ itemsSet leftOf pairOf (pairOf a ∷ sets) items) []
 
--- set list: 2 of the two lists, the pairs, 9
+-- the number of one pair
+abbrev pub pairLeft : ℕ → List Pair → Pair → ℕ
+pairLeft n sets p = firstNo (setVarLeft n sets p)
+
+-- pairs in turn: the first number that is not 0
+abbrev pub pairsLeft : ℕ → List Pair → List Pair → ℕ
+pairsLeft n = itemsLeft (pairLeft n) (λ p. p)
+
+-- and those that are set
+abbrev pub pairsSet : ℕ → List Pair → List Pair → List Pair
+pairsSet n = itemsSet (pairLeft n) (λ p. p)
+
+-- set list: 2 of the two lists ..
+abbrev pub listsLeft : List ℕ → List ℕ → ℕ
+listsLeft vars values = firstNo (storeAsks (length vars) ++ storeAsks (length values))
+
+-- .. the pairs, 9
 abbrev pub setVarsLeft : ℕ → List Pair → List ℕ → List ℕ → ℕ
 setVarsLeft n sets vars values =
-    firstNo (storeAsks (length vars) ++ storeAsks (length values))
-    ▸ (pairsLeft n sets (pairs vars values) ▸ ask 9 (eqb (length vars) (length values)))
+    listsLeft vars values ▸ (pairsLeft n sets (pairs vars values) ▸ ask 9 (eqb (length vars) (length values)))
+
+-- and the pairs that are set: none where 2 says no
+abbrev pub setVarsSet : ℕ → List Pair → List ℕ → List ℕ → List Pair
+setVarsSet n sets vars values = onYes (listsLeft vars values) (pairsSet n sets (pairs vars values)) []
 
 -- value of a wire: 3, else what the sets give it
 abbrev pub given : Option ℕ → VarValue

@@ -14,6 +14,7 @@ ghost use Rattle.permutation.specs.Numbers.{newRelationNo, allocateVarsN
 ghost use Rattle.permutation.specs.Answers.{valueOf, isAllocated};
 ghost use Rattle.permutation.specs.Contracts.{MakesRelation, AllocatesVars, SetsVar, SetsVars};
 use allocator::FieldVar;
+use allocator::Set;
 use allocator::VarValue;
 use baby_bear::BabyBearUnit;
 use limits::MAX_COUNT;
@@ -49,10 +50,11 @@ pub struct Allocated {
     pub relation: PermutationRelation,
 }
 
-// A set list's outcome, and how many of its first pairs were accepted.
+// A set list's outcome, how many of its first pairs were accepted, and how many of those were fresh.
 pub struct SetVars {
     pub outcome: Outcome,
     pub accepted: u32,
+    pub fresh: u32,
 }
 
 // Whether a wire is allocated.
@@ -150,19 +152,15 @@ pub fn set_var(
     slots: &mut [u32],
     var: FieldVar,
     value: BabyBearUnit,
-) -> Outcome
+) -> Set
     ensures { λ r. ⌜ SetsVar asIs rel (now (slots .entry)) (pair (var .0) (value .0)) r (now (slots .exit)) ⌝ }
 {
     let count = rel.vars;
     let no = asked_relation(rel.width, count, slots.len());
     if no != 0 {
-        return Outcome::Refused(no);
+        return Set::Refused(no);
     }
-    let no = allocator::assigned_no(allocator::assign_var(count, slots, var, value));
-    if no != 0 {
-        return Outcome::Refused(no);
-    }
-    Outcome::Accepted
+    allocator::assign_var(count, slots, var, value)
 }
 
 // The number of a set list before its pairs are tried.
@@ -191,21 +189,25 @@ pub fn set_vars(
         return SetVars {
             outcome: Outcome::Refused(no),
             accepted: 0,
+            fresh: 0,
         };
     }
     let count = rel.vars;
     let run = allocator::set_pairs(count, slots, vars, values);
     let no = limits::asked(run.number, vars.len() == values.len(), 9);
     let accepted = run.accepted as u32;
+    let fresh = run.fresh as u32;
     if no != 0 {
         return SetVars {
             outcome: Outcome::Refused(no),
             accepted,
+            fresh,
         };
     }
     SetVars {
         outcome: Outcome::Accepted,
         accepted,
+        fresh,
     }
 }
 

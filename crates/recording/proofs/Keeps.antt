@@ -21,7 +21,7 @@ use Rattle.expr.specs.Equation.{Term, Equation, equation, equationWords}
 use Rattle.permutation.specs.Numbers.{newRelationNo, allocateVarsNo, setVarNo, setVarsNo}
 use Rattle.recording.specs.Numbers.{addPermutationNo, allocatePermutationNo, addEquationNo}
 use Rattle.limits.specs.Outcome.{outcomeNumber, outcomeOf}
-use Rattle.permutation.specs.Answers.{relation, firstNumber, firstOf, newRelation, newSlots, moreVars, allocateVars, allocateVarsSlots, setVar, setVarSlots, setVars, setVarsRun, setVarsSlots}
+use Rattle.permutation.specs.Answers.{relation, firstNumber, firstOf, newRelation, newSlots, moreVars, allocateVars, allocateVarsSlots, setVarSlots, setVars, setVarsRun, setVarsSlots}
 use Rattle.recording.specs.Answers.{oneQuery, oneEquation, queriesWith, addPermutation, addPermutationQueries, upFrom, allocatePermutation, allocatePermutationSlots, allocatePermutationQueries, addEquation, addEquationEquations}
 use Rattle.permutation.specs.State.{HoldsSlots}
 use Rattle.recording.specs.State.{HoldsQueries, Holds}
@@ -117,14 +117,13 @@ module _ (width : ℕ) (rel : PermutationRelation) (slots queries equations : Li
 
   -- ---- set
   pub setVar-keeps : (p : Pair)
-      → Holds width rel (setVarSlots rel slots p) queries equations n (onYes (outcomeNumber (setVar rel slots p)) (p ∷ sets) sets) asked stated
+      → Holds width rel (setVarSlots rel slots p) queries equations n (onYes (setVarNo rel slots p) (p ∷ sets) sets) asked stated
   setVar-keeps p =
       go (setVarNo rel slots p)
       (λ z. with-slots (withPair slots p) (p ∷ sets) (set-holds (rel .vars) slots p (setVar-yes rel slots p z) sets (o .inSlots)))
     where
       go : (k : ℕ) → (k ≡ 0 → Holds width rel (withPair slots p) queries equations n (p ∷ sets) asked stated)
-          → Holds width rel (onYes k (withPair slots p) slots) queries equations n
-          (onYes (outcomeNumber (outcomeOf k)) (p ∷ sets) sets) asked stated
+          → Holds width rel (onYes k (withPair slots p) slots) queries equations n (onYes k (p ∷ sets) sets) asked stated
       go zero f = f refl
       go (suc k) f = o
 

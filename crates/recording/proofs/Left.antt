@@ -1,7 +1,7 @@
 -- Where record and stores are in step with a book, each call's number is the first no of what the book and the
 -- sizes leave open: the other questions are settled by what is held. Assumes nothing.
 use Prim.Native.Nat.{ℕ, _+_, _*_, _≤_}
-use mathlib.Core.Path.{_≡_, sym, ap, ap₂, _∙_}
+use mathlib.Core.Path.{_≡_, sym, ap, ap₂, subst, _∙_}
 use mathlib.Core.List.{List, [], _∷_, _++_}
 use native.Mathlib.Omega.{arith}
 use borrow.Author.Tests.{le-leb}
@@ -14,7 +14,7 @@ use Rattle.limits.proofs.Questions.{goes-on, ask-yes, ▸-zero}
 use Rattle.words.specs.Store.{allBelow}
 use Rattle.words.specs.Pieces.{wordsOf, flat}
 use Rattle.words.proofs.Held.{begins-fits, flat-length}
-use Rattle.allocator.specs.Slots.{Pair, pairs, mostAsks, roomAsks, growAsksWith, pairAsks, pairNo}
+use Rattle.allocator.specs.Slots.{Pair, pairs, ran, setRun, mostAsks, roomAsks, growAsksWith, pairAsks, pairNo}
 use Rattle.permutation.specs.Sharing.{afterFive}
 use Rattle.expr.specs.Equation.{Term, Equation, termVars, termWeights, equationSize, equationsWords}
 use Rattle.expr.proofs.Held.{two-each}
@@ -24,14 +24,13 @@ use Rattle.permutation.specs.Numbers.{setVarNo, setVarsNo, valueOfNo, isAllocat
 use Rattle.recording.specs.Numbers.{addPermutationNo, addEquationNo}
 use Rattle.permutation.specs.Answers.{valueOf, isAllocated, setVarsRun}
 use Rattle.recording.specs.State.{Holds}
-use Rattle.permutation.specs.Left.{allocateVarsLeft, setVarLeft, pairsLeft, setVarsLeft, valueLeft, isAllocatedLeft}
+use Rattle.permutation.specs.Left.{allocateVarsLeft, setVarLeft, pairsLeft, pairsSet, listsLeft, setVarsLeft, setVarsSet, valueLeft, isAllocatedLeft}
 use Rattle.recording.specs.Left.{addPermutationLeft, allocatePermutationLeft, addEquationLeft}
 use Rattle.permutation.specs.declared.PermutationRelation.{PermutationRelation}
 use Rattle.allocator.specs.declared.VarValue.{VarValue}
 use Rattle.allocator.specs.declared.VarValue.the-variants as varValue
 use Rattle.permutation.specs.declared.IsAllocated.the-variants as allocated
-use Rattle.allocator.proofs.Run.{after-number}
-use Rattle.permutation.proofs.Left.{pair-left, pairs-left, slot-given}
+use Rattle.permutation.proofs.Left.{pair-left, RunLeft, after-left, pairs-left, slot-given}
 
 -- ---- what is settled: 1, the counts, the slots
 module _ (width : ℕ) (rel : PermutationRelation) (slots queries equations : List ℕ)
@@ -75,17 +74,24 @@ module _ (width : ℕ) (rel : PermutationRelation) (slots queries equations : Li
       ∙ pair-left (rel .vars) slots sets (o .inSlots) p
       ∙ ap (λ (k : ℕ). firstNo (setVarLeft k sets p)) (o .count)
 
-  before-pairs : (vars values : List ℕ) → setVarsNo rel (length slots) vars values ≡ firstNo (storeAsks (length vars) ++ storeAsks (length values))
+  before-pairs : (vars values : List ℕ) → setVarsNo rel (length slots) vars values ≡ listsLeft vars values
   unfolding setVarsNo
   before-pairs vars values = after-relation (storeAsks (length vars) ++ storeAsks (length values))
 
-  pub setVars-left : (vars values : List ℕ) → setVarsRun rel slots vars values .number ≡ setVarsLeft n sets vars values
+  -- the number, and the pairs that are set
+  pub setVars-left : (vars values : List ℕ)
+      → RunLeft n sets (setVarsSet n sets vars values) (setVarsLeft n sets vars values) (setVarsRun rel slots vars values)
   unfolding setVarsRun
   setVars-left vars values =
-      after-number (setVarsNo rel (length slots) vars values) _ slots
-      ∙ ap₂ (λ (k m : ℕ). k ▸ (m ▸ ask 9 (eqb (length vars) (length values))))
+      let ps = pairs vars values in
+      let nine = ask 9 (eqb (length vars) (length values)) in
+      let run = setRun (rel .vars) slots ps in
+      let l = pairs-left (rel .vars) ps slots sets (o .inSlots) in
+      subst (λ (m : ℕ). RunLeft m sets (setVarsSet m sets vars values) (setVarsLeft m sets vars values) (setVarsRun rel slots vars values)) (o .count)
+      (subst (λ (k : ℕ). RunLeft (rel .vars) sets (onYes k (pairsSet (rel .vars) sets ps) []) (k ▸ (pairsLeft (rel .vars) sets ps ▸ nine)) (setVarsRun rel slots vars values))
       (before-pairs vars values)
-      (pairs-left (rel .vars) (pairs vars values) slots sets (o .inSlots) ∙ ap (λ (k : ℕ). pairsLeft k sets (pairs vars values)) (o .count))
+      (after-left (rel .vars) sets _ _ (setVarsNo rel (length slots) vars values) (ran (run .number ▸ nine) (run .accepted) (run .fresh) (run .slots)) slots
+      (record { number = ap (λ (k : ℕ). k ▸ nine) (l .number); accepted = l .accepted; fresh = l .fresh; below = l .below })))
 
   -- ---- the calls on queries
   held-queries : ask 2 (leb (wordsOf (rel .width) (rel .queries)) (length queries)) ≡ 0

@@ -7,11 +7,14 @@ use Rattle.permutation.specs.declared.Recorded.{Recorded}
 use Rattle.permutation.specs.declared.Allocated.{Allocated}
 use Rattle.permutation.specs.declared.SetVars.{SetVars}
 use Rattle.tickets.specs.declared.SetTickets.{SetTickets}
+use Rattle.allocator.specs.declared.Set.{Set}
+use Rattle.allocator.specs.declared.Set.the-variants as set-is
 use Rattle.allocator.specs.declared.VarValue.{VarValue}
 use Rattle.allocator.specs.declared.VarValue.the-variants as varValue
 use Rattle.permutation.specs.declared.IsAllocated.{IsAllocated}
 use Rattle.permutation.specs.declared.IsAllocated.the-variants as allocated
 use Rattle.sfr.specs.declared.relation.SfrRelationAnswer.{SfrRelationAnswer}
+use Rattle.sfr.specs.declared.relation.SfrSetAnswer.{SfrSetAnswer}
 use Rattle.sfr.specs.declared.relation.SfrTally.{SfrTally}
 use Rattle.sfr.specs.declared.relation.SfrTicketTally.{SfrTicketTally}
 use Rattle.sfr.specs.declared.relation.SfrValue.{SfrValue}
@@ -25,13 +28,19 @@ recordedAnswer r = record { number = outcomeNumber (r .outcome); first = 0; rela
 abbrev pub allocatedAnswer : Allocated → SfrRelationAnswer
 allocatedAnswer r = record { number = firstNumber (r .first); first = firstVar (r .first); relation = r .relation }
 
--- a set list: its number, and how many of its first pairs were accepted
-abbrev pub tallyOf : SetVars → SfrTally
-tallyOf r = record { number = outcomeNumber (r .outcome); accepted = r .accepted }
+-- a set: its number, and whether it is fresh, no after a refusal
+abbrev pub setAnswer : Set → SfrSetAnswer
+setAnswer set-is.Fresh = record { number = 0; fresh = true }
+setAnswer set-is.Repeated = record { number = 0; fresh = false }
+setAnswer (set-is.Refused k) = record { number = k; fresh = false }
 
--- a ticket text: its number, and how many of its first lines were accepted
+-- a set list: its number, how many of its first pairs were accepted, and how many of those were fresh
+abbrev pub tallyOf : SetVars → SfrTally
+tallyOf r = record { number = outcomeNumber (r .outcome); accepted = r .accepted; fresh = r .fresh }
+
+-- a ticket text: its number, how many of its first lines were accepted, and how many of those were fresh
 abbrev pub ticketTallyOf : SetTickets → SfrTicketTally
-ticketTallyOf r = record { number = outcomeNumber (r .outcome); accepted = r .accepted }
+ticketTallyOf r = record { number = outcomeNumber (r .outcome); accepted = r .accepted; fresh = r .fresh }
 
 -- a look at a value: its number, whether there is one, and the value or 0
 abbrev pub valueAnswer : VarValue → SfrValue

@@ -8,8 +8,9 @@ ghost use Rattle.permutation.specs.Answers.{valueOf, isAllocated};
 ghost use Rattle.permutation.specs.Contracts.{MakesRelation, AllocatesVars, SetsVar, SetsVars};
 ghost use Rattle.recording.specs.Contracts.{AddsPermutation, AllocatesPermutation, AddsEquation};
 ghost use Rattle.tickets.specs.Tickets.{SetsTickets};
-ghost use Rattle.sfr.specs.Relation.{recordedAnswer, allocatedAnswer, tallyOf, ticketTallyOf, valueAnswer, flagOf};
+ghost use Rattle.sfr.specs.Relation.{recordedAnswer, allocatedAnswer, setAnswer, tallyOf, ticketTallyOf, valueAnswer, flagOf};
 use allocator::FieldVar;
+use allocator::Set;
 use allocator::VarValue;
 use baby_bear::BabyBearUnit;
 use expr::Weighted;
@@ -19,6 +20,8 @@ use permutation::First;
 use permutation::IsAllocated;
 use permutation::PermutationRelation;
 use permutation::Recorded;
+use permutation::SetVars;
+use tickets::SetTickets;
 
 // A call's number with the record beside it; `first` is the first wire that an allocation answers, else 0.
 #[repr(C)]
@@ -28,18 +31,27 @@ pub struct SfrRelationAnswer {
     pub relation: PermutationRelation,
 }
 
-// A set list's number, and how many of its first pairs were accepted.
+// A set's number, and whether it is fresh.
+#[repr(C)]
+pub struct SfrSetAnswer {
+    pub number: u32,
+    pub fresh: bool,
+}
+
+// A set list's number, how many of its first pairs were accepted, and how many of those were fresh.
 #[repr(C)]
 pub struct SfrTally {
     pub number: u32,
     pub accepted: u32,
+    pub fresh: u32,
 }
 
-// A ticket text's number, and how many of its first lines were accepted.
+// A ticket text's number, how many of its first lines were accepted, and how many of those were fresh.
 #[repr(C)]
 pub struct SfrTicketTally {
     pub number: u32,
     pub accepted: usize,
+    pub fresh: usize,
 }
 
 // A value, where there is one.
@@ -120,6 +132,26 @@ pub extern "C" fn sfr_allocate_vars(
     allocated_answer(permutation::allocate_vars(rel, slots, n))
 }
 
+// What a set answers, for C.
+pub(crate) fn set_answer(s: Set) -> SfrSetAnswer
+    ensures { λ r. ⌜ r ≡ setAnswer s ⌝ }
+{
+    match s {
+        Set::Fresh => SfrSetAnswer {
+            number: 0,
+            fresh: true,
+        },
+        Set::Repeated => SfrSetAnswer {
+            number: 0,
+            fresh: false,
+        },
+        Set::Refused(k) => SfrSetAnswer {
+            number: k,
+            fresh: false,
+        },
+    }
+}
+
 // A wire is assigned its value.
 #[no_mangle]
 pub extern "C" fn sfr_set_var(
@@ -127,10 +159,24 @@ pub extern "C" fn sfr_set_var(
     slots: &mut [u32],
     var: u32,
     value: u32,
-) -> u32
-    ensures { λ r. ⌜ SetsVar outcomeNumber rel (now (slots .entry)) (pair var value) r (now (slots .exit)) ⌝ }
+) -> SfrSetAnswer
+    ensures { λ r. ⌜ SetsVar setAnswer rel (now (slots .entry)) (pair var value) r (now (slots .exit)) ⌝ }
 {
-    outcome_no(permutation::set_var(rel, slots, FieldVar(var), BabyBearUnit(value)))
+    set_answer(permutation::set_var(rel, slots, FieldVar(var), BabyBearUnit(value)))
+}
+
+// What a set list answers, for C.
+pub(crate) fn tally_of(r: SetVars) -> SfrTally
+    ensures { λ a. ⌜ a ≡ tallyOf r ⌝ }
+{
+    let o = r.outcome;
+    let accepted = r.accepted;
+    let fresh = r.fresh;
+    SfrTally {
+        number: outcome_no(o),
+        accepted,
+        fresh,
+    }
 }
 
 // Wires are assigned values pair by pair, up to the first pair that is refused.
@@ -143,12 +189,20 @@ pub extern "C" fn sfr_set_vars(
 ) -> SfrTally
     ensures { λ r. ⌜ SetsVars tallyOf rel (now (slots .entry)) (now (vars .entry)) (now (values .entry)) r (now (slots .exit)) ⌝ }
 {
-    let r = permutation::set_vars(rel, slots, vars, values);
+    tally_of(permutation::set_vars(rel, slots, vars, values))
+}
+
+// What a ticket text answers, for C.
+pub(crate) fn ticket_tally_of(r: SetTickets) -> SfrTicketTally
+    ensures { λ a. ⌜ a ≡ ticketTallyOf r ⌝ }
+{
     let o = r.outcome;
     let accepted = r.accepted;
-    SfrTally {
+    let fresh = r.fresh;
+    SfrTicketTally {
         number: outcome_no(o),
         accepted,
+        fresh,
     }
 }
 
@@ -161,13 +215,7 @@ pub extern "C" fn sfr_set_tickets(
 ) -> SfrTicketTally
     ensures { λ r. ⌜ SetsTickets ticketTallyOf rel (now (slots .entry)) (now (text .entry)) r (now (slots .exit)) ⌝ }
 {
-    let r = tickets::set_tickets(rel, slots, text);
-    let o = r.outcome;
-    let accepted = r.accepted;
-    SfrTicketTally {
-        number: outcome_no(o),
-        accepted,
-    }
+    ticket_tally_of(tickets::set_tickets(rel, slots, text))
 }
 
 // A query from input to output wires.

@@ -3,7 +3,6 @@
 
 ghost use mathlib.Core.Path.{_≡_};
 ghost use lib.ListN.{length};
-ghost use Rattle.limits.specs.Outcome.{outcomeNumber};
 ghost use Rattle.allocator.specs.Slots.{pair};
 ghost use Rattle.allocator.specs.Assign.{Runs};
 ghost use Rattle.expr.specs.Weighted.{termsOf};
@@ -16,16 +15,20 @@ ghost use Rattle.sharing.specs.Answers.{Does, DoesBoth};
 ghost use Rattle.shared_vars.specs.Answers.{allocateVarsOn, allocateVarsOnSlots, setVarOn, setVarOnSlots, setVarsOnRun, setTicketsOnRun, valueOfOn, isAllocatedOn};
 ghost use Rattle.shared_recording.specs.Answers.{addPermutationOn, addPermutationOnQueries, allocatePermutationOn, allocatePermutationOnSlots, allocatePermutationOnQueries, addEquationOn, addEquationOnEquations};
 ghost use Rattle.shared_compile.specs.Gate.{CompilesOn};
-ghost use Rattle.sfr.specs.Relation.{tallyOf, ticketTallyOf, valueAnswer, flagOf};
+ghost use Rattle.sfr.specs.Relation.{setAnswer, tallyOf, ticketTallyOf, valueAnswer, flagOf};
 ghost use Rattle.sfr.specs.Gate.{compiledAnswer};
 ghost use Rattle.sfr.specs.Shared.{openedAnswer, allocatedOnAnswer, recordedOnAnswer};
 use crate::gate::SfrInstanceAnswer;
 use crate::relation::SfrFlag;
+use crate::relation::SfrSetAnswer;
 use crate::relation::SfrTally;
 use crate::relation::SfrTicketTally;
 use crate::relation::SfrValue;
 use crate::relation::flag_of;
 use crate::relation::outcome_no;
+use crate::relation::set_answer;
+use crate::relation::tally_of;
+use crate::relation::ticket_tally_of;
 use crate::relation::value_answer;
 use allocator::FieldVar;
 use baby_bear::BabyBearUnit;
@@ -136,10 +139,10 @@ pub extern "C" fn sfr_set_var_on(
     slots: &mut [u32],
     var: u32,
     value: u32,
-) -> u32
-    ensures { λ r. ⌜ Does outcomeNumber (setVarOn allocator index rel (now (slots .entry)) (pair var value)) (setVarOnSlots allocator index rel (now (slots .entry)) (pair var value)) r (now (slots .exit)) ⌝ }
+) -> SfrSetAnswer
+    ensures { λ r. ⌜ Does setAnswer (setVarOn allocator index rel (now (slots .entry)) (pair var value)) (setVarOnSlots allocator index rel (now (slots .entry)) (pair var value)) r (now (slots .exit)) ⌝ }
 {
-    outcome_no(shared_vars::set_var_on(
+    set_answer(shared_vars::set_var_on(
         allocator,
         index,
         rel,
@@ -161,13 +164,7 @@ pub extern "C" fn sfr_set_vars_on(
 ) -> SfrTally
     ensures { λ r. ⌜ Runs (λ run. tallyOf (setVarsOf run)) (setVarsOnRun allocator index rel (now (slots .entry)) (now (vars .entry)) (now (values .entry))) r (now (slots .exit)) ⌝ }
 {
-    let r = shared_vars::set_vars_on(allocator, index, rel, slots, vars, values);
-    let o = r.outcome;
-    let accepted = r.accepted;
-    SfrTally {
-        number: outcome_no(o),
-        accepted,
-    }
+    tally_of(shared_vars::set_vars_on(allocator, index, rel, slots, vars, values))
 }
 
 // Wires are assigned the steps of ticket lines, up to the first line that is refused.
@@ -181,13 +178,7 @@ pub extern "C" fn sfr_set_tickets_on(
 ) -> SfrTicketTally
     ensures { λ r. ⌜ Runs (λ run. ticketTallyOf (setTicketsOf run)) (setTicketsOnRun allocator index rel (now (slots .entry)) (now (text .entry))) r (now (slots .exit)) ⌝ }
 {
-    let r = shared_vars::set_tickets_on(allocator, index, rel, slots, text);
-    let o = r.outcome;
-    let accepted = r.accepted;
-    SfrTicketTally {
-        number: outcome_no(o),
-        accepted,
-    }
+    ticket_tally_of(shared_vars::set_tickets_on(allocator, index, rel, slots, text))
 }
 
 // A query of the relation from input to output wires.

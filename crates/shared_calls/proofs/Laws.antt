@@ -10,6 +10,8 @@ use Rattle.limits.specs.Outcome.{outcomeOf, isAccepted}
 use Rattle.limits.specs.declared.Outcome.{Outcome}
 use Rattle.limits.specs.declared.Outcome.the-variants as outcome
 use Rattle.allocator.specs.Slots.{Pair, runAfter}
+use Rattle.allocator.specs.declared.Set as declared
+use Rattle.allocator.specs.declared.Set.the-variants as variants
 use Rattle.expr.specs.Weighted.{termsOf}
 use Rattle.expr.specs.declared.Weighted.{Weighted}
 use Rattle.permutation.specs.Numbers.{allocateVarsNo}
@@ -30,7 +32,7 @@ use Rattle.sharing.specs.declared.AllocatedOn.{AllocatedOn}
 use Rattle.sharing.specs.declared.RecordedOn.{RecordedOn}
 use Rattle.shared_vars.specs.Answers.{relationOnNo, allocateVarsOnNo, setVarsOnNo, allocateVarsOn, allocateVarsOnSlots, setVarOn, setVarOnSlots, setVarsOnRun, setTicketsOnRun}
 use Rattle.shared_recording.specs.Answers.{addPermutationOnNo, allocatePermutationOnNo, addEquationOnNo, addPermutationOn, addPermutationOnQueries, allocatePermutationOn, allocatePermutationOnSlots, allocatePermutationOnQueries, addEquationOn, addEquationOnEquations}
-use Rattle.history.specs.Calls.{Call, Allocate, Set, SetList, Record, Mint, Equate, Tickets, State, Answer, frontAsks, firstOutcome, ofOutcome, ofFirst, ofSetVars, ofSetTickets, answer, after}
+use Rattle.history.specs.Calls.{Call, Allocate, Set, SetList, Record, Mint, Equate, Tickets, State, Answer, frontAsks, firstOutcome, ofOutcome, ofFirst, ofSet, ofSetVars, ofSetTickets, answer, after}
 use Rattle.shared_history.specs.Calls.{OwnState, seen, taken, frontNo, refusedWith, actedOn, sharedAnswer, sharedAfter}
 use Rattle.shared_history.proofs.Lists.{set-same}
 use Rattle.shared_calls.specs.Performs.{sharedState, own, OnRelation, Opens}
@@ -41,7 +43,7 @@ pub opens : (width quota : ℕ) (x : Opened) (a : VarAllocator) (slots slots′ 
 unfolding sharedAnswer sharedAfter
 opens width quota x a slots slots′ e h owns queries equations =
     record {
-      answers = ap (λ (y : Opened). record { outcome = y .outcome; first = y .index; accepted = 0 }) (sym e);
+      answers = ap (λ (y : Opened). record { outcome = y .outcome; first = y .index; accepted = 0; fresh = 0 }) (sym e);
       leaves =
           go (withAllocatorNo a width (length slots))
           ∙ ap₂ (λ (y : Opened) (l : List ℕ). sharedState (y .allocator) l (pick (isAccepted (y .outcome)) (owns ++ (own (y .relation) queries equations ∷ [])) owns))
@@ -148,20 +150,20 @@ module _ (a : VarAllocator) (r : ℕ) (m : SharedRelation) where
           }
       go (suc k) = refused-parts r (Allocate n) a m slots queries equations k
 
-  pub set-is : (slots : List ℕ) (p : Pair) (x : Outcome) (slots′ : List ℕ)
+  pub set-is : (slots : List ℕ) (p : Pair) (x : declared.Set) (slots′ : List ℕ)
       → x ≡ setVarOn a r m slots p → slots′ ≡ setVarOnSlots a r m slots p → (queries equations : List ℕ)
-      → OnRelation r (Set p) (ofOutcome x) a m slots queries equations a m slots′ queries equations
+      → OnRelation r (Set p) (ofSet x) a m slots queries equations a m slots′ queries equations
   unfolding answer after frontNo frontAsks relationOnNo
   set-is slots p x slots′ e h queries equations =
-      performs r (Set p) a m slots queries equations (go (relationOnNo a r m (length slots))) (ap ofOutcome (sym e)) refl refl (sym h) refl refl
+      performs r (Set p) a m slots queries equations (go (relationOnNo a r m (length slots))) (ap ofSet (sym e)) refl refl (sym h) refl refl
     where
-      go : (k : ℕ) → Parts r (Set p) a m slots queries equations k (ofOutcome (onYes k (setVar rel slots p) (outcome.Refused k))) a m
+      go : (k : ℕ) → Parts r (Set p) a m slots queries equations k (ofSet (onYes k (setVar rel slots p) (variants.Refused k))) a m
           (onYes k (setVarSlots rel slots p) slots) queries equations
       go zero =
           record {
             answers = refl;
             allocator-is = refl;
-            relation-is = ap (off rel) (none-taken (setVar rel slots p) (m .obtained));
+            relation-is = ap (off rel) (none-taken (ofSet (setVar rel slots p) .outcome) (m .obtained));
             slots-are = refl;
             queries-are = refl;
             equations-are = refl;

@@ -41,7 +41,7 @@ abbrev pub Opens : (width quota : ℕ) → Opened → (a : VarAllocator) (slots 
 Opens width quota x a slots slots′ =
     (owns : List OwnState) (queries equations : List ℕ)
     → SharedPerforms (sharedState a slots owns) (Open width quota queries equations)
-    (record { outcome = x .outcome; first = x .index; accepted = 0 })
+    (record { outcome = x .outcome; first = x .index; accepted = 0; fresh = 0 })
     (sharedState (x .allocator) slots′ (pick (isAccepted (x .outcome)) (owns ++ (own (x .relation) queries equations ∷ [])) owns))
 
 -- ---- calls made in turn

@@ -10,12 +10,11 @@
 ghost use mathlib.Core.List.{List};
 ghost use Prim.Native.Nat.{ℕ};
 ghost use Rattle.allocator.specs.Slots.{pair};
-ghost use Rattle.history.specs.Calls.{Allocate, Set, SetList, Record, Mint, Equate, Tickets, ofOutcome, ofFirst, ofSetVars, ofSetTickets};
+ghost use Rattle.history.specs.Calls.{Allocate, Set, SetList, Record, Mint, Equate, Tickets, ofOutcome, ofFirst, ofSet, ofSetVars, ofSetTickets};
 ghost use Rattle.shared_calls.specs.Performs.{OnRelation, Opens};
 use allocator::FieldVar;
 use baby_bear::BabyBearUnit;
 use expr::Weighted;
-use limits::Outcome;
 use permutation::SetVars;
 use sharing::AllocatedOn;
 use sharing::Opened;
@@ -53,8 +52,8 @@ pub fn set_var_on(
     slots: &mut [u32],
     var: FieldVar,
     value: BabyBearUnit,
-) -> Outcome
-    ensures { λ r. ⌜ ((queries equations : List ℕ) → OnRelation index (Set (pair (var .0) (value .0))) (ofOutcome r) allocator rel (now (slots .entry)) queries equations
+) -> allocator::Set
+    ensures { λ r. ⌜ ((queries equations : List ℕ) → OnRelation index (Set (pair (var .0) (value .0))) (ofSet r) allocator rel (now (slots .entry)) queries equations
         allocator rel (now (slots .exit)) queries equations) ⌝ }
 {
     shared_vars::set_var_on(allocator, index, rel, slots, var, value)

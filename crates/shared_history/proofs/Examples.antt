@@ -1,12 +1,13 @@
 -- Two relations of different widths on one allocator and on stores that hold anything: each new number at its place among
 -- the others, first wires of one count, the ledger, and a ninth opening. And relation 0 through its gate, both byte forms
 -- and the check, to a yes and to a no that hang on values which relation 1 set, while relation 1 goes on between gate and
--- write: the theorem is not empty. Then the theorem along a list, and at a number that isn't opened. Assumes nothing.
+-- write: the theorem is not empty. Then the theorem along a list, at a number that isn't opened, and of a
+-- set that another relation made before. Assumes nothing.
 use Prim.Native.Nat.{ℕ}
 use mathlib.Core.Path.{_≡_, refl, ap}
 use mathlib.Core.List.{List, [], _∷_, map}
 use native.Mathlib.Omega.{arith}
-use lib.ListN.{replicate}
+use lib.ListN.{take, replicate}
 use Rattle.limits.specs.Questions.{ask, _▸_}
 use Rattle.limits.specs.declared.Outcome.the-variants.{Accepted, Refused}
 use Rattle.words.specs.Store.{allBelow}
@@ -43,9 +44,11 @@ use Rattle.sharing.specs.Opening.{withAllocatorNo, newShared}
 use Rattle.shared_compile.specs.Gate.{compileOnNo, compileOn, compilePublicsOn}
 use Rattle.history.specs.Sat.{Sat, Evaluates}
 use Rattle.history.specs.Calls.{Allocate, Set, SetList, Record, Mint, Equate, Tickets, frontAsks, answer, after, noted}
+use Rattle.history.specs.Left.{setBy}
 use Rattle.history.specs.Whole.{FileLent, TraceLent}
 use Rattle.history.proofs.Outcomes.{accepted-no}
 use Rattle.shared_history.specs.Calls.{OwnState, SharedState, SharedCall, Open, On, ownAt, frontNo, sharedAnswer, sharedAfter, SharedLedger, ownLedgerAt, judgedOn, sharedNoted, sharedFinal, SharedEntry, sharedLog}
+use Rattle.shared_history.specs.Left.{sharedSetBy}
 use Rattle.shared_history.specs.Whole.{gateOn, noneOpened, opening, sharedBegin, sharedLast, sharedLedger}
 use Rattle.shared_history.proofs.Theorem.{shared-whole}
 
@@ -218,3 +221,21 @@ pub not-opened-42 : gateOn at-gate 2 (stray 1) [] publics scratch .answer .outco
 unfolding ask _▸_ withAllocatorNo frontAsks frontNo allocateVarsNo setVarNo setVarsNo addPermutationNo allocatePermutationNo addEquationNo pairNo setItems setVarsRun ticketLine gramsToSteps readLine linesOf lineNo setTicketsRun allBelow answer after noted sharedAnswer sharedAfter sharedNoted
 not-opened-42 =
     shared-whole 77 slots 1 3 queries equations calls first-accepted .not-opened 2 (omega (arith, two-opened)) (stray 1) [] publics scratch .number refl
+
+-- ---- what relation 0 set is repeated where relation 1 sets it
+abbrev setting : List SharedCall
+setting = Open 2 2 [] [] ∷ On 0 (stray 1) (Allocate 1) ∷ On 0 (stray 1) (Set (pair 1 7)) ∷ On 1 (stray 1) (Set (pair 1 7)) ∷ []
+
+-- what the first k of them leave
+abbrev afterFirst : ℕ → SharedState
+afterFirst k = sharedFinal (sharedBegin 77 slots 1 3 queries equations setting) (take k setting)
+
+pub set-fresh : sharedAnswer (afterFirst 2) (On 0 (stray 1) (Set (pair 1 7))) .fresh ≡ 1
+unfolding ask _▸_ withAllocatorNo frontAsks frontNo allocateVarsNo setVarNo pairNo answer after noted sharedAnswer sharedAfter sharedNoted sharedSetBy setBy
+set-fresh = shared-whole 77 slots 1 3 queries equations setting first-accepted .told .1 .1 .0 .fresh
+
+pub set-repeated : (sharedAnswer (afterFirst 3) (On 1 (stray 1) (Set (pair 1 7))) .accepted ≡ 1) × (sharedAnswer (afterFirst 3) (On 1 (stray 1) (Set (pair 1 7))) .fresh ≡ 0)
+unfolding ask _▸_ withAllocatorNo frontAsks frontNo allocateVarsNo setVarNo pairNo answer after noted sharedAnswer sharedAfter sharedNoted sharedSetBy setBy
+set-repeated =
+    let t = shared-whole 77 slots 1 3 queries equations setting first-accepted .told .1 .1 .1 .0 in
+    (t .accepted, t .fresh)

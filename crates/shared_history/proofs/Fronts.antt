@@ -1,28 +1,33 @@
 -- The front of a call's questions: what sharing puts in, taken out again where it says yes. Then the questions come down to
--- those of a relation alone. Assumes nothing.
-use Prim.Native.Nat.{ℕ, suc, _<_}
+-- those of a relation alone. A call that its front refuses sets nothing. Assumes nothing.
+use Prim.Native.Nat.{ℕ, zero, suc, _<_}
 use mathlib.Core.Path.{_≡_, refl, sym, ap, _∙_}
-use mathlib.Core.Bool.{true}
+use mathlib.Core.Bool.{Bool, true}
 use mathlib.Core.List.{List, [], _∷_, _++_}
+use native.Mathlib.Omega.{arith}
 use lib.Dec.{eqb, ltb}
 use lib.ListN.{length}
 use Rattle.limits.specs.Questions.{_▸_, Question, question, firstNo, onYes}
 use Rattle.limits.specs.Outcome.{outcomeOf}
 use Rattle.limits.specs.Asks.{widthAsks, storeAsks, countAsks}
-use Rattle.limits.proofs.Questions.{both, ▸-zero, goes-on, firstNo-append, Puts}
-use Rattle.allocator.specs.Slots.{pairs, mostAsks, roomAsks, pairAsks, itemsAsks}
+use Rattle.limits.proofs.Questions.{both, ▸-zero, goes-on, stays, firstNo-append, Puts}
+use Rattle.allocator.specs.Slots.{pairs, isFresh, mostAsks, roomAsks, pairAsks, itemsAsks, SetRun, runAfter}
+use Rattle.allocator.specs.Assign.{setOf}
 use Rattle.expr.specs.Weighted.{termsOf}
 use Rattle.permutation.specs.Sharing.{Sharing, afterFive, alone}
 use Rattle.permutation.specs.Relation.{queriesAsks, equationsAsks, relationAsks, relationFront}
+use Rattle.permutation.specs.Numbers.{setVarNo, setVarsNo}
+use Rattle.permutation.specs.Answers.{setVarsRun}
 use Rattle.permutation.specs.declared.PermutationRelation.{PermutationRelation}
 use Rattle.recording.specs.Relation.{addPermutationRest, mintSizes, mintAsks, allocatePermutationRest, addEquationRest}
 use Rattle.tickets.specs.Lines.{linesAsks}
+use Rattle.tickets.specs.Tickets.{setTicketsRun}
 use Rattle.compile.specs.Gate.{GateLent, lentStoresAsks, lentSoundAsks, madeAsks, compileFront, compileAsksWith}
 use Rattle.sharing.specs.Shares.{shares}
 use Rattle.sharing.specs.declared.VarAllocator.{VarAllocator}
 use Rattle.sharing.specs.declared.SharedRelation.{SharedRelation}
 use Rattle.sharing.proofs.Numbers.{puts-in, Subsequence, subsequence, counting, is-opened, shown-on}
-use Rattle.history.specs.Calls.{Call, Allocate, Set, SetList, Record, Mint, Equate, Tickets, State, Lengths, lengthsOf, Answer, asksWith, frontAsks}
+use Rattle.history.specs.Calls.{Call, Allocate, Set, SetList, Record, Mint, Equate, Tickets, State, Lengths, lengthsOf, Answer, ofSet, answer, asksWith, frontAsks}
 
 -- ---- lists of questions
 -- accepted: both parts are
@@ -148,13 +153,42 @@ pub asks-front : (h : Sharing) (s : State) (c : Call)
 asks-front h s c = ap firstNo (front-rest h s c) ∙ firstNo-append (frontAsks h (s .relation) (lengthsOf s) c) (rest s c)
 
 -- of a relation that is opened only what follows 5 is left of what sharing puts in
+pub front-settled : (h : Sharing) → h .counted ≡ true → firstNo (h .opened) ≡ 0 → (rel : PermutationRelation) (n : Lengths) (c : Call)
+    → firstNo (frontAsks h rel n c) ≡ firstNo (frontAsks (afterFive (h .within)) rel n c)
+front-settled h e z rel n c = ap (λ (x : Sharing). firstNo (frontAsks x rel n c)) (counted-is h e) ∙ settled (h .opened) (h .within) z rel n c
+
 pub asks-settled : (h : Sharing) → h .counted ≡ true → firstNo (h .opened) ≡ 0 → (s : State) (c : Call)
     → firstNo (asksWith h s c) ≡ firstNo (asksWith (afterFive (h .within)) s c)
 asks-settled h e z s c =
     asks-front h s c
-    ∙ ap (λ (k : ℕ). k ▸ firstNo (rest s c))
-    (ap (λ (x : Sharing). firstNo (frontAsks x (s .relation) (lengthsOf s) c)) (counted-is h e) ∙ settled (h .opened) (h .within) z (s .relation) (lengthsOf s) c)
+    ∙ ap (λ (k : ℕ). k ▸ firstNo (rest s c)) (front-settled h e z (s .relation) (lengthsOf s) c)
     ∙ sym (asks-front (afterFive (h .within)) s c)
+
+-- ---- refused at the front: nothing is set
+-- a run behind a number that is not 0
+run-none : (k : ℕ) (r : SetRun) (slots : List ℕ) (j : ℕ) → k ≡ suc j → (runAfter k r slots .accepted ≡ 0) × (runAfter k r slots .fresh ≡ 0)
+run-none zero r slots j e = absurd (omega (arith, e))
+run-none (suc k) r slots j e = (refl, refl)
+
+-- a set with such a number
+set-none : (k : ℕ) (fresh : Bool) (j : ℕ) → k ≡ suc j → (ofSet (setOf k fresh) .accepted ≡ 0) × (ofSet (setOf k fresh) .fresh ≡ 0)
+set-none zero fresh j e = absurd (omega (arith, e))
+set-none (suc k) fresh j e = (refl, refl)
+
+-- so a call of a relation alone, at a front that says no
+pub none-set : (within : ℕ → List Question) (s : State) (c : Call) (j : ℕ) → firstNo (frontAsks (afterFive within) (s .relation) (lengthsOf s) c) ≡ suc j
+    → (answer s c .accepted ≡ 0) × (answer s c .fresh ≡ 0)
+unfolding answer frontAsks setVarNo setVarsNo setVarsRun setTicketsRun
+none-set within s (Allocate n) j e = (refl, refl)
+none-set within s (Set p) j e =
+    let rel = s .relation in
+    set-none (setVarNo rel (s .slots) p) (isFresh (s .slots) p) j
+    (firstNo-append (relationAsks rel (length (s .slots))) (pairAsks (rel .vars) (s .slots) p) ∙ stays _ _ (λ z. absurd (omega (arith, z, e))) ∙ e)
+none-set within s (SetList vars values) j e = run-none (setVarsNo (s .relation) (length (s .slots)) vars values) _ (s .slots) j e
+none-set within s (Record input output) j e = (refl, refl)
+none-set within s (Mint input) j e = (refl, refl)
+none-set within s (Equate terms image) j e = (refl, refl)
+none-set within s (Tickets text) j e = run-none (firstNo (relationAsks (s .relation) (length (s .slots)))) _ (s .slots) j e
 
 -- ---- the gate's
 pub gate-front : (h : Sharing) (l : GateLent) → firstNo (compileAsksWith h l) ≡ firstNo (compileFront h l) ▸ firstNo (lentSoundAsks l ++ madeAsks l)

@@ -1,8 +1,9 @@
 -- Along a list of openings and calls: each answers by the first no of its questions, which is the first no of those that
 -- ledger and lengths leave; no store changes its length; an accepted opening answers the next number, an accepted
--- allocate or mint the ledger's count. Assumes nothing.
+-- allocate or mint the ledger's count; as many sets are accepted, and as many of those fresh, as the ledger says. Assumes
+-- nothing.
 use Prim.Native.Nat.{ℕ, zero, suc, _≤_, _<_}
-use mathlib.Core.Path.{_≡_, refl, ap, ap₂, _∙_}
+use mathlib.Core.Path.{_≡_, refl, sym, ap, ap₂, _∙_}
 use mathlib.Core.Bool.{Bool, true, false}
 use mathlib.Core.List.{List, [], _∷_, _++_}
 use native.Mathlib.Omega.{arith}
@@ -23,17 +24,18 @@ use Rattle.sharing.specs.Opening.{withAllocatorNo}
 use Rattle.sharing.specs.declared.VarAllocator.{VarAllocator}
 use Rattle.sharing.proofs.Numbers.{some-opened}
 use Rattle.history.specs.Calls.{Call, Lengths, lengthsOf, asksWith, frontAsks, Answer, answer, after}
-use Rattle.history.specs.Left.{leftWith}
-use Rattle.history.specs.Demand.{Accepted, takesVars}
+use Rattle.history.specs.Left.{leftWith, setBy}
+use Rattle.history.specs.Demand.{Accepted, takesVars, Told}
 use Rattle.history.proofs.Along.{along-told}
 use Rattle.history.proofs.Outcomes.{past-yes, past-fits, then}
 use Rattle.history.proofs.Lengths.{lengths-kept}
+use Rattle.history.proofs.Fresh.{Tallies, no-tallies}
 use Rattle.history.proofs.Told.{by-questions, number-left, told}
 use Rattle.shared_history.specs.Calls.{OwnState, SharedState, SharedCall, Open, On, ownAt, seen, sharesOf, lengthsFor, taken, frontNo, refusedWith, sharedAsks, sharedAnswer, ownAfter, actedOn, sharedAfter, SharedLedger, ownLedgerAt, judgedOn, sharedNoted}
-use Rattle.shared_history.specs.Left.{allocatorBy, sharedLeft}
+use Rattle.shared_history.specs.Left.{allocatorBy, sharedLeft, sharedSetBy}
 use Rattle.shared_history.specs.Demand.{FirstIs, SharedTold, AllSharedTold}
 use Rattle.shared_history.proofs.Lists.{getD-past, set-keeps}
-use Rattle.shared_history.proofs.Fronts.{rest, outcome-on, asks-front, asks-settled}
+use Rattle.shared_history.proofs.Fronts.{rest, outcome-on, asks-front, front-settled, asks-settled, none-set}
 use Rattle.shared_history.proofs.Stands.{Stands, opened-in, own-at, agrees}
 use Rattle.shared_history.proofs.Keeps.{through-opened, keeps-call}
 
@@ -101,6 +103,29 @@ module _ (p : SharedState) (l : SharedLedger) (st : Stands p l) where
             (firstNo (frontAsks (shares (allocatorBy l) r (stray .relation)) (onAllocator (allocatorBy l) (stray .relation)) (lengthsOf (seen p m)) c))
         go true e = left-opened (omega (arith, ltb-true r (length (l .owns)) e, opened-in p l st))
         go false e = front-by (omega (arith, ltb-false r (length (l .owns)) e, opened-in p l st))
+
+    -- what is told of it as a relation alone
+    alone : r < p .allocator .opened → Told (ownLedgerAt l r .width) (seen p m) (judgedOn l (ownLedgerAt l r)) c
+    alone h = told _ (seen p m) (judgedOn l (ownLedgerAt l r)) (agrees p l st m (ownLedgerAt l r) (own-at p l st r h stray)) c
+
+    -- its tallies too, where the front lets it through; else nothing is set, alone as well
+    tallies-on : Tallies (l .count) (l .sets) (sharedSetBy l (On r stray c)) (sharedAnswer p (On r stray c))
+    unfolding sharedAnswer sharedSetBy frontNo
+    tallies-on = go (ltb r (length (l .owns))) (frontNo p r m c) refl refl
+      where
+        go : (b : Bool) (k : ℕ) → ltb r (length (l .owns)) ≡ b → frontNo p r m c ≡ k
+            → Tallies (l .count) (l .sets) (pick b (setBy (judgedOn l (ownLedgerAt l r)) c) []) (onYes k (answer (seen p m) c) (refusedWith k))
+        go true zero e z =
+            let t = alone (through-opened p r m c z) in
+            record { accepted = t .accepted; fresh = t .fresh }
+        go true (suc k) e z =
+            let h : r < p .allocator .opened = omega (arith, ltb-true r (length (l .owns)) e, opened-in p l st) in
+            let t = alone h in
+            let front = front-settled (sharesOf p r m) (some-opened (p .allocator) r (m .relation) h) (opened-yes r h) _ (lengthsOf (seen p m)) c in
+            let none = none-set _ (seen p m) c k (sym front ∙ z) in
+            record { accepted = sym (none .0) ∙ t .accepted; fresh = sym (none .1) ∙ t .fresh }
+        go false zero e z = absurd (omega (arith, through-opened p r m c z, ltb-false r (length (l .owns)) e, opened-in p l st))
+        go false (suc k) e z = no-tallies (l .count) (l .sets) _ refl refl
 
   -- an opening: 2 is settled, and 6
   left-open : (width quota : ℕ) (queries equations : List ℕ)
@@ -172,11 +197,14 @@ module _ (p : SharedState) (l : SharedLedger) (st : Stands p l) where
       go : (k : ℕ) → frontNo p r (ownAt p r stray) c ≡ k
           → Accepted (onYes {A = Answer} k (answer (seen p (ownAt p r stray)) c) (refusedWith k) .outcome) → takesVars c ≡ true
           → onYes {A = Answer} k (answer (seen p (ownAt p r stray)) c) (refusedWith k) .first ≡ l .count
-      go zero z a t =
-          let m = ownAt p r stray in
-          let o = own-at p l st r (through-opened p r m c z) stray in
-          told _ (seen p m) (judgedOn l (ownLedgerAt l r)) (agrees p l st m (ownLedgerAt l r) o) c .first t a
+      go zero z a t = alone p l st r stray c (through-opened p r (ownAt p r stray) c z) .first t a
       go (suc k) z a t = cc
+
+  -- how many sets are accepted, and how many of those are fresh
+  tallies : (c : SharedCall) → Tallies (l .count) (l .sets) (sharedSetBy l c) (sharedAnswer p c)
+  unfolding sharedAnswer sharedSetBy
+  tallies (Open width quota queries equations) = no-tallies (l .count) (l .sets) _ refl refl
+  tallies (On r stray c) = tallies-on p l st r stray c
 
   by-left : (c : SharedCall) → sharedAnswer p c .outcome ≡ outcomeOf (sharedLeft (lengthsFor p c) l c)
   unfolding sharedLeft
@@ -189,6 +217,8 @@ module _ (p : SharedState) (l : SharedLedger) (st : Stands p l) where
         answers = record { by-questions = answered p c; by-ledger = by-left c };
         lengths = lengths-same c;
         first = first-is c;
+        accepted = tallies c .accepted;
+        fresh = tallies c .fresh;
       }
 
 -- every list

@@ -80,14 +80,14 @@ frontNo p r m c = firstNo (frontAsks (sharesOf p r m) (onAllocator (p .allocator
 -- ---- answers
 -- refused with a number
 abbrev pub refusedWith : ℕ → Answer
-refusedWith k = record { outcome = outcome.Refused k; first = 0; accepted = 0 }
+refusedWith k = record { outcome = outcome.Refused k; first = 0; accepted = 0; fresh = 0 }
 
 -- an opening answers the relation's number; a relation's call what the same call answers on a relation alone, where the
 -- front of its questions lets it through
 unfoldable pub sharedAnswer : SharedState → SharedCall → Answer
 sharedAnswer p (Open width quota queries equations) =
     let o = withAllocator (p .allocator) width quota (p .slots) in
-    record { outcome = o .outcome; first = o .index; accepted = 0 }
+    record { outcome = o .outcome; first = o .index; accepted = 0; fresh = 0 }
 sharedAnswer p (On r stray c) =
     let m = ownAt p r stray in
     onYes (frontNo p r m c) (answer (seen p m) c) (refusedWith (frontNo p r m c))

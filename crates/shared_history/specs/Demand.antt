@@ -9,9 +9,10 @@ use Rattle.words.specs.Store.{All}
 use Rattle.sharing.specs.Shares.{maxRelations}
 use Rattle.history.specs.Along.{Along}
 use Rattle.history.specs.Calls.{lengthsOf}
+use Rattle.history.specs.Left.{freshCount}
 use Rattle.history.specs.Demand.{Accepted, Answers, takesVars}
 use Rattle.shared_history.specs.Calls.{OwnState, SharedState, SharedCall, Open, On, ownAt, seen, lengthsFor, sharedAsks, sharedAnswer, sharedAfter, OwnLedger, SharedLedger, sharedNoted}
-use Rattle.shared_history.specs.Left.{sharedLeft}
+use Rattle.shared_history.specs.Left.{sharedLeft, sharedSetBy}
 
 -- the wires that all relations obtained, by their records
 abbrev pub obtainedBy : List OwnState → ℕ
@@ -37,6 +38,10 @@ pub record SharedTold (p : SharedState) (l : SharedLedger) (c : SharedCall) : Ty
       → lengthsOf (seen (sharedAfter p c) (ownAt (sharedAfter p c) r stray)) ≡ lengthsOf (seen p (ownAt p r stray))
   -- an accepted one answers what the ledger says
   pub first : Accepted (sharedAnswer p c .outcome) → FirstIs p l c
+  -- as many sets, pairs or lines are accepted as the ledger lets through, after a refusal too
+  pub accepted : sharedAnswer p c .accepted ≡ length (sharedSetBy l c)
+  -- and of those as many are fresh as wires are named that nobody's set in the ledger names
+  pub fresh : sharedAnswer p c .fresh ≡ freshCount (l .count) (l .sets) (sharedSetBy l c)
 
 -- call by call
 abbrev pub AllSharedTold : SharedState → SharedLedger → List SharedCall → Type 0

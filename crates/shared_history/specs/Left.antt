@@ -1,15 +1,16 @@
 -- Which questions can still say no along a list of openings and calls: by the ledger and the lengths of what is lent
 -- alone. Assumes nothing.
 use Prim.Native.Nat.{ℕ}
-use mathlib.Core.List.{[], _∷_, _++_}
+use mathlib.Core.List.{List, [], _∷_, _++_}
 use lib.Dec.{ltb}
 use lib.ListN.{length}
 use Rattle.limits.specs.Questions.{question, firstNo, pick}
 use Rattle.limits.specs.Asks.{widthAsks}
+use Rattle.allocator.specs.Slots.{Pair}
 use Rattle.sharing.specs.Shares.{maxRelations, onAllocator, quotaAsks, shares}
 use Rattle.sharing.specs.declared.VarAllocator.{VarAllocator}
 use Rattle.history.specs.Calls.{Lengths, frontAsks}
-use Rattle.history.specs.Left.{leftWith}
+use Rattle.history.specs.Left.{leftWith, setBy}
 use Rattle.shared_history.specs.Calls.{SharedCall, Open, On, SharedLedger, ownLedgerAt, judgedOn}
 
 -- the allocator by the ledger
@@ -27,3 +28,9 @@ sharedLeft lengths l (On r stray c) =
     pick (ltb r (length (l .owns)))
     (leftWith (quotaAsks (e .quota) (e .obtained)) (e .width) lengths (judgedOn l e) c)
     (firstNo (frontAsks (shares a r (stray .relation)) (onAllocator a (stray .relation)) lengths c))
+
+-- the pairs that a call sets, by the ledger and the arguments alone: of a relation's call those of a relation alone on
+-- everybody's sets
+unfoldable pub sharedSetBy : SharedLedger → SharedCall → List Pair
+sharedSetBy l (Open width quota queries equations) = []
+sharedSetBy l (On r stray c) = pick (ltb r (length (l .owns))) (setBy (judgedOn l (ownLedgerAt l r)) c) []

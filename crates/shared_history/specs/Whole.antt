@@ -3,7 +3,8 @@
 -- forms written and read, and the check, as `history/specs/Whole` has them for a relation alone.
 --
 --   (1) each opening and each call accepts where no question says no, else it answers the first that does; an accepted
---       opening answers the next number, an accepted allocate or mint the ledger's one count (`told`)
+--       opening answers the next number, an accepted allocate or mint the ledger's one count; how many sets were
+--       accepted, and how many of those were fresh on the shared slots, is told by the ledger and the arguments (`told`)
 --   (2) to (4) of each relation, on everybody's sets accepted before its gate and on its own queries and equations,
 --       whatever the others do between its gate and its write (`judged`, by the base's own `Judged`); the gate of a
 --       number that isn't opened is refused, with 42 where 1 and 2 say yes (`not-opened`)

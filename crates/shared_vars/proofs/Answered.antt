@@ -17,15 +17,15 @@ use Rattle.shared_vars.specs.Answers.{allocateVarsOnNo}
 
 -- ---- items in turn, refused at the front or let through
 module _ {A : Type 0} (told : SetRun → A) (n k : ℕ) (e : k ≡ n) (slots : List ℕ) where
-  pub runs-refused : (k ≡ 0 → ⊥) → (run : SetRun) (r : A) → r ≡ told (ran k 0 slots) → Runs told (runAfter n run slots) r slots
+  pub runs-refused : (k ≡ 0 → ⊥) → (run : SetRun) (r : A) → r ≡ told (ran k 0 0 slots) → Runs told (runAfter n run slots) r slots
   runs-refused h run r p =
-      let q : ran k 0 slots ≡ runAfter n run slots = refused-by (λ j. ran j 0 slots) run n k e h in
+      let q : ran k 0 0 slots ≡ runAfter n run slots = refused-by (λ j. ran j 0 0 slots) run n k e h in
       record { answer = p ∙ ap told q; slots = ap (λ (s : SetRun). s .slots) q }
 
   pub runs-through : k ≡ 0 → (f : PermutationRelation → SetRun) (y x : PermutationRelation) → y ≡ x → (r : A) (left : List ℕ)
       → Runs told (f y) r left → Runs told (runAfter n (f x) slots) r left
   runs-through z f y x o r left d =
-      let q : f y ≡ runAfter n (f x) slots = ap f o ∙ through-by (f x) (ran n 0 slots) n k e z in
+      let q : f y ≡ runAfter n (f x) slots = ap f o ∙ through-by (f x) (ran n 0 0 slots) n k e z in
       record { answer = d .answer ∙ ap told q; slots = d .slots ∙ ap (λ (s : SetRun). s .slots) q }
 
 -- ---- the quota holds the wires

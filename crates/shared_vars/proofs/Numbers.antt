@@ -5,9 +5,9 @@ use mathlib.Core.Path.{_≡_, refl}
 use mathlib.Core.List.{List}
 use lib.ListN.{length}
 use Rattle.limits.specs.Questions.{firstNo}
-use Rattle.limits.specs.Outcome.{outcomeNumber}
-use Rattle.limits.proofs.Answered.{outcome-number}
-use Rattle.allocator.specs.Slots.{Pair, roomAsks, pairAsks, SetRun}
+use Rattle.allocator.specs.Slots.{Pair, isFresh, roomAsks, pairAsks, SetRun}
+use Rattle.allocator.specs.Assign.{setNumber}
+use Rattle.allocator.proofs.Assign.{set-number}
 use Rattle.allocator.specs.VarValue.{valueNumber}
 use Rattle.permutation.specs.Sharing.{Sharing}
 use Rattle.permutation.specs.Relation.{relationFront, allocateVarsFront, allocateVarsAsksWith, setVarAsksWith, setVarsFront, setVarsAsksWith, varAsks, valueOfAsksWith, isAllocatedFront, isAllocatedAsksWith}
@@ -45,12 +45,12 @@ module _ (a : VarAllocator) (r : ℕ) (m : SharedRelation) where
       (first-number (allocateVarsNo x (length slots) n) (a .vars)) refl
 
   -- set
-  pub setVarOn-number : (slots : List ℕ) (p : Pair) → outcomeNumber (setVarOn a r m slots p) ≡ firstNo (setVarAsksWith h x slots p)
+  pub setVarOn-number : (slots : List ℕ) (p : Pair) → setNumber (setVarOn a r m slots p) ≡ firstNo (setVarAsksWith h x slots p)
   unfolding relationOnNo setVarNo
   setVarOn-number slots p =
       number-on a r m (λ (g : Sharing). relationFront g x (length slots))
       (search puts-in depth 20) (search subsequence depth 40)
-      outcomeNumber (pairAsks (a .vars) slots p) _ _ (outcome-number (setVarNo x slots p)) refl
+      setNumber (pairAsks (a .vars) slots p) _ _ (set-number (setVarNo x slots p) (isFresh slots p)) refl
 
   -- set list
   pub setVarsOn-number : (slots vars values : List ℕ)

@@ -5,8 +5,8 @@ use Prim.Native.Nat.{ℕ, _+_}
 use mathlib.Core.List.{List}
 use lib.ListN.{length}
 use Rattle.limits.specs.Questions.{firstNo, onYes}
-use Rattle.limits.specs.declared.Outcome.{Outcome}
-use Rattle.limits.specs.declared.Outcome.the-variants as outcome
+use Rattle.allocator.specs.declared.Set.{Set}
+use Rattle.allocator.specs.declared.Set.the-variants as set-is
 use Rattle.allocator.specs.Slots.{Pair, SetRun, runAfter}
 use Rattle.allocator.specs.declared.VarValue.{VarValue}
 use Rattle.allocator.specs.declared.VarValue.the-variants as varValue
@@ -51,11 +51,11 @@ module _ (a : VarAllocator) (r : ℕ) (m : SharedRelation) where
   allocateVarsOnSlots slots n = onYes (allocateVarsOnNo (length slots) n) (allocateVarsSlots (onAllocator a m) slots n) slots
 
   -- ---- set
-  -- the answer
-  abbrev pub setVarOn : List ℕ → Pair → Outcome
+  -- the answer, fresh where the shared slot was unassigned
+  abbrev pub setVarOn : List ℕ → Pair → Set
   setVarOn slots p =
       let k = relationOnNo (length slots) in
-      onYes k (setVar (onAllocator a m) slots p) (outcome.Refused k)
+      onYes k (setVar (onAllocator a m) slots p) (set-is.Refused k)
 
   -- the slots afterwards
   abbrev pub setVarOnSlots : List ℕ → Pair → List ℕ

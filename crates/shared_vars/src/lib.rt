@@ -13,6 +13,7 @@ ghost use Rattle.tickets.specs.Tickets.{setTicketsOf};
 ghost use Rattle.sharing.specs.Answers.{Does};
 ghost use Rattle.shared_vars.specs.Answers.{relationOnNo, allocateVarsOnNo, setVarsOnNo, isAllocatedOnNo, allocateVarsOn, allocateVarsOnSlots, setVarOn, setVarOnSlots, setVarsOnRun, setTicketsOnRun, valueOfOn, isAllocatedOn};
 use allocator::FieldVar;
+use allocator::Set;
 use allocator::VarValue;
 use baby_bear::BabyBearUnit;
 use limits::Outcome;
@@ -85,12 +86,12 @@ pub fn set_var_on(
     slots: &mut [u32],
     var: FieldVar,
     value: BabyBearUnit,
-) -> Outcome
+) -> Set
     ensures { λ r. ⌜ Does asIs (setVarOn allocator index rel (now (slots .entry)) (pair (var .0) (value .0))) (setVarOnSlots allocator index rel (now (slots .entry)) (pair (var .0) (value .0))) r (now (slots .exit)) ⌝ }
 {
     let no = relation_on_no(allocator, index, rel, slots.len());
     if no != 0 {
-        return Outcome::Refused(no);
+        return Set::Refused(no);
     }
     permutation::set_var(sharing::on_allocator(allocator, rel), slots, var, value)
 }
@@ -131,6 +132,7 @@ pub fn set_vars_on(
         return SetVars {
             outcome: Outcome::Refused(no),
             accepted: 0,
+            fresh: 0,
         };
     }
     permutation::set_vars(sharing::on_allocator(allocator, rel), slots, vars, values)
@@ -151,6 +153,7 @@ pub fn set_tickets_on(
         return SetTickets {
             outcome: Outcome::Refused(no),
             accepted: 0,
+            fresh: 0,
         };
     }
     tickets::set_tickets(sharing::on_allocator(allocator, rel), slots, text)

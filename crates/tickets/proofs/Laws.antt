@@ -19,11 +19,11 @@ use Rattle.permutation.specs.State.{HoldsSlots}
 use Rattle.permutation.specs.Left.{setsTake}
 use Rattle.permutation.specs.declared.PermutationRelation.{PermutationRelation}
 use Rattle.permutation.proofs.Slots.{after-holds, run-holds}
-use Rattle.permutation.proofs.Left.{after-seven, takes-is, run-left}
+use Rattle.permutation.proofs.Left.{after-seven, takes-is, RunLeft, run-left}
 use Rattle.ticket.specs.Form.{readLine}
 use Rattle.tickets.specs.Lines.{linesOf, isTicket, linePair, lineAsks, lineNo, linesAsks, setLines}
 use Rattle.tickets.specs.Tickets.{setTicketsAsks, setTicketsRun, setTickets, setTicketsSlots}
-use Rattle.tickets.specs.Left.{setTicketsLeft}
+use Rattle.tickets.specs.Left.{lineLeft, setTicketsLeft, setTicketsSet}
 
 -- a line is only accepted where its pair is
 as-pair : (form wire steps held takes : Bool) → ask 40 form ▸ (ask 3 wire ▸ (ask 41 steps ▸ (ask 7 held ▸ (ask 8 takes ▸ 0)))) ≡ 0
@@ -42,7 +42,7 @@ line-pair n slots bytes z =
     (ltb (linePair bytes .var) n) (slotTakes slots (linePair bytes)) z
 
 line-left : (n : ℕ) (slots : List ℕ) (sets : List Pair) → HoldsSlots n slots sets → (bytes : List ℕ)
-    → lineNo n slots bytes ≡ firstNo (lineAsks n (setsTake sets) bytes)
+    → lineNo n slots bytes ≡ lineLeft n sets bytes
 unfolding lineNo
 line-left n slots sets o bytes =
     let p = linePair bytes in
@@ -54,10 +54,11 @@ pub lines-number : (n : ℕ) (slots text : List ℕ) → setLines n slots text .
 unfolding lineNo
 lines-number n slots text = run-number (lineNo n) linePair (λ s bytes. lineAsks n (slotTakes s) bytes) (λ s bytes. refl) slots (linesOf text)
 
+-- the number, and the pairs that are set
 pub lines-left : (n : ℕ) (slots : List ℕ) (sets : List Pair) (text : List ℕ) → HoldsSlots n slots sets
-    → setLines n slots text .number ≡ setTicketsLeft n sets text
+    → RunLeft n sets (setTicketsSet n sets text) (setTicketsLeft n sets text) (setLines n slots text)
 lines-left n slots sets text o =
-    run-left (lineNo n) (λ s bytes. firstNo (lineAsks n (setsTake s) bytes)) linePair n (line-pair n) (line-left n) (linesOf text) slots sets o
+    run-left (lineNo n) (lineLeft n) linePair n (line-pair n) (line-left n) (linesOf text) slots sets o
 
 -- ---- the call
 module _ (rel : PermutationRelation) (slots text : List ℕ) where

@@ -11,7 +11,7 @@ use lib.ListN.{length, take}
 use Rattle.limits.specs.Numbers.{prime, maxCount}
 use Rattle.limits.specs.Questions.{pick, ask, _▸_, firstNo, onYes}
 use Rattle.words.specs.Store.{All}
-use Rattle.allocator.specs.Slots.{slotTakes, pairNo, SetRun, ran, runAfter, setItems, setRun, oneAccepted, withPair}
+use Rattle.allocator.specs.Slots.{isFresh, slotTakes, pairNo, SetRun, ran, runAfter, setItems, setRun, oneAccepted, withPair}
 use Rattle.allocator.proofs.Run.{accepted-all}
 use Rattle.permutation.specs.Relation.{relationAsks}
 use Rattle.permutation.specs.declared.PermutationRelation.{PermutationRelation}
@@ -82,7 +82,7 @@ setTickets-counted rel slots text =
 -- ---- lines act in order like a set list
 -- 41 stands in place of 4
 abbrev pub inPlace : SetRun → SetRun
-inPlace r = ran (pick (eqb (r .number) 4) 41 (r .number)) (r .accepted) (r .slots)
+inPlace r = ran (pick (eqb (r .number) 4) 41 (r .number)) (r .accepted) (r .fresh) (r .slots)
 
 same-number : (form wire steps held takes : Bool) → form ≡ true
     → ask 40 form ▸ (ask 3 wire ▸ (ask 41 steps ▸ (ask 7 held ▸ (ask 8 takes ▸ 0))))
@@ -102,15 +102,15 @@ number-is n slots bytes f =
     same-number (isTicket (readLine bytes)) (ltb (linePair bytes .var) maxCount) (ltb (linePair bytes .value) prime)
     (ltb (linePair bytes .var) n) (slotTakes slots (linePair bytes)) f
 
--- k: the pair's number; m: the line's; q, r: what the rest comes to
-one-more : (slots : List ℕ) (k m : ℕ) → m ≡ pick (eqb k 4) 41 k → (r q : SetRun) → r ≡ inPlace q
-    → onYes {A = SetRun} m (oneAccepted r) (ran m 0 slots)
-    ≡ inPlace (onYes k (oneAccepted q) (ran k 0 slots))
-one-more slots zero m e r q s = rw e (ap oneAccepted s)
-one-more slots (suc k) m e r q s = go (eqb (suc k) 4) e
+-- k: the pair's number; m: the line's; f: whether it is fresh; q, r: what the rest comes to
+one-more : (slots : List ℕ) (k m : ℕ) (f : Bool) → m ≡ pick (eqb k 4) 41 k → (r q : SetRun) → r ≡ inPlace q
+    → onYes {A = SetRun} m (oneAccepted f r) (ran m 0 0 slots)
+    ≡ inPlace (onYes k (oneAccepted f q) (ran k 0 0 slots))
+one-more slots zero m f e r q s = rw e (ap (oneAccepted f) s)
+one-more slots (suc k) m f e r q s = go (eqb (suc k) 4) e
   where
     go : (b : Bool) → m ≡ pick b 41 (suc k)
-        → onYes {A = SetRun} m (oneAccepted r) (ran m 0 slots) ≡ ran (pick b 41 (suc k)) 0 slots
+        → onYes {A = SetRun} m (oneAccepted f r) (ran m 0 0 slots) ≡ ran (pick b 41 (suc k)) 0 0 slots
     go true h = rw h
     go false h = rw h
 
@@ -120,20 +120,20 @@ unfolding setItems
 like-pairs n slots [] t = refl
 like-pairs n slots (bytes ∷ lines) t =
     let p = linePair bytes in
-    one-more slots (pairNo n slots p) (lineNo n slots bytes) (number-is n slots bytes (t .0)) _ _
+    one-more slots (pairNo n slots p) (lineNo n slots bytes) (isFresh slots p) (number-is n slots bytes (t .0)) _ _
     (like-pairs n (withPair slots p) lines (t .1))
 
 -- a line that is no ticket's ends the run with 40, where no line before it did
 pub up-to-bad : (n : ℕ) (slots : List ℕ) (lines : List (List ℕ)) (bytes : List ℕ) (rest : List (List ℕ)) → readLine bytes ≡ line.Bad
     → setItems (lineNo n) linePair slots (lines ++ (bytes ∷ rest))
-    ≡ (let r = setItems (lineNo n) linePair slots lines in ran (r .number ▸ 40) (r .accepted) (r .slots))
+    ≡ (let r = setItems (lineNo n) linePair slots lines in ran (r .number ▸ 40) (r .accepted) (r .fresh) (r .slots))
 unfolding setItems lineNo ask _▸_
 up-to-bad n slots [] bytes rest e = rw e
 up-to-bad n slots (a ∷ lines) bytes rest e =
-    go (lineNo n slots a) _ _ (up-to-bad n (withPair slots (linePair a)) lines bytes rest e)
+    go (lineNo n slots a) (isFresh slots (linePair a)) _ _ (up-to-bad n (withPair slots (linePair a)) lines bytes rest e)
   where
-    go : (k : ℕ) (r q : SetRun) → r ≡ ran (q .number ▸ 40) (q .accepted) (q .slots)
-        → onYes {A = SetRun} k (oneAccepted r) (ran k 0 slots)
-        ≡ (let t = onYes {A = SetRun} k (oneAccepted q) (ran k 0 slots) in ran (t .number ▸ 40) (t .accepted) (t .slots))
-    go zero r q s = ap oneAccepted s
-    go (suc k) r q s = refl
+    go : (k : ℕ) (f : Bool) (r q : SetRun) → r ≡ ran (q .number ▸ 40) (q .accepted) (q .fresh) (q .slots)
+        → onYes {A = SetRun} k (oneAccepted f r) (ran k 0 0 slots)
+        ≡ (let t = onYes {A = SetRun} k (oneAccepted f q) (ran k 0 0 slots) in ran (t .number ▸ 40) (t .accepted) (t .fresh) (t .slots))
+    go zero f r q s = ap (oneAccepted f) s
+    go (suc k) f r q s = refl

@@ -4,9 +4,17 @@ use Prim.Native.Nat.{ℕ}
 use mathlib.Core.List.{List}
 use Rattle.limits.specs.Questions.{firstNo}
 use Rattle.allocator.specs.Slots.{Pair}
-use Rattle.permutation.specs.Left.{setsTake, itemsLeft}
+use Rattle.permutation.specs.Left.{setsTake, itemsLeft, itemsSet}
 use Rattle.tickets.specs.Lines.{linesOf, linePair, lineAsks}
 
--- 40, 3, 41, 7 at a wire of n or more, 8 at a wire that the sets give another value; each accepted line joins the sets
+-- one line: 40, 3, 41, 7 at a wire of n or more, 8 at a wire that the sets give another value
+abbrev pub lineLeft : ℕ → List Pair → List ℕ → ℕ
+lineLeft n sets bytes = firstNo (lineAsks n (setsTake sets) bytes)
+
+-- the lines of a text in turn; each accepted one joins the sets
 abbrev pub setTicketsLeft : ℕ → List Pair → List ℕ → ℕ
-setTicketsLeft n sets text = itemsLeft (λ s bytes. firstNo (lineAsks n (setsTake s) bytes)) linePair sets (linesOf text)
+setTicketsLeft n sets text = itemsLeft (lineLeft n) linePair sets (linesOf text)
+
+-- and the pairs that are set
+abbrev pub setTicketsSet : ℕ → List Pair → List ℕ → List Pair
+setTicketsSet n sets text = itemsSet (lineLeft n) linePair sets (linesOf text)

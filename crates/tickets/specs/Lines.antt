@@ -1,13 +1,12 @@
 -- The lines of a ticket text, the pair that each sets, and what is asked of it (document 02, R-1: "lines act in order
 -- like a set list"). Assumes nothing.
 use Prim.Native.Nat.{ℕ, _+_, _/_}
-use mathlib.Core.Path.{_≡_}
 use mathlib.Core.Bool.{Bool, true, false}
 use mathlib.Core.List.{List, _∷_}
 use lib.ListN.{length}
 use Rattle.limits.specs.Questions.{Question, question, firstNo}
 use Rattle.words.specs.Pieces.{pieces}
-use Rattle.allocator.specs.Slots.{Pair, pair, settingAsks, slotTakes, SetRun, afterItem, setItems, itemsAsks}
+use Rattle.allocator.specs.Slots.{Pair, pair, settingAsks, slotTakes, SetRun, setItems, itemsAsks}
 use Rattle.ticket.specs.Form.{lineLength, readLine}
 use Rattle.ticket.specs.Steps.{gramsToSteps}
 use Rattle.ticket.specs.declared.Line.{Line}
@@ -46,11 +45,6 @@ ticketNo count slots p = firstNo (ticketAsks count (slotTakes slots) p)
 -- and of a line
 unfoldable pub lineNo : ℕ → List ℕ → List ℕ → ℕ
 lineNo count slots bytes = firstNo (lineAsks count (slotTakes slots) bytes)
-
--- what code does that sets one item: its number, and the slots before (₀) and after (₁)
-pub record SetsItem {A : Type 0} (noOf : List ℕ → A → ℕ) (pairOf : A → Pair) (slots₀ : List ℕ) (a : A) (r : ℕ) (slots₁ : List ℕ) : Type 0 where
-  pub number : r ≡ noOf slots₀ a
-  pub slots : slots₁ ≡ afterItem noOf pairOf slots₀ a
 
 -- the questions of a text's lines, each on the slots as the earlier lines left them
 abbrev pub linesAsks : ℕ → List ℕ → List ℕ → List Question

@@ -23,7 +23,7 @@ returns c =
     let s = now (a .slots) in
     runs-refused setTicketsOf (relationOnNo (a .allocator) (a .index) (a .rel) (length s)) _
     (c .before .relation-on-no .ensures) s (c .if1 .taken) _ _
-    (ap (λ (o : Outcome). record { outcome = o; accepted = 0 }) (outcome-refused _ (c .if1 .taken)))
+    (ap (λ (o : Outcome). record { outcome = o; accepted = 0; fresh = 0 }) (outcome-refused _ (c .if1 .taken)))
 
 on-allocator-requires : tie.Need-on-allocator-requires
 on-allocator-requires c κs = search needs

@@ -3,7 +3,7 @@
 use denote.Ref.{now}
 use mathlib.Core.Path.{ap, _∙_}
 use lib.ListN.{length}
-use Rattle.limits.specs.declared.Outcome.the-variants as outcome
+use Rattle.allocator.specs.declared.Set.the-variants as set
 use Rattle.allocator.specs.Slots.{pair}
 use Rattle.permutation.specs.Answers.{setVar, setVarSlots}
 use Rattle.permutation.specs.declared.PermutationRelation.{PermutationRelation}
@@ -24,7 +24,7 @@ returns c =
     let s = now (a .slots) in
     let p = pair (a .var .0) (a .value .0) in
     does-refused (relationOnNo (a .allocator) (a .index) (a .rel) (length s)) _ (c .before .relation-on-no .ensures) (c .if1 .taken)
-    outcome.Refused (setVar x s p) s (setVarSlots x s p)
+    set.Refused (setVar x s p) s (setVarSlots x s p)
 
 on-allocator-requires : tie.Need-on-allocator-requires
 on-allocator-requires c κs = search needs
@@ -46,7 +46,7 @@ returns-2 c =
     let d = c .before .before .set-var .ensures in
     let o = c .before .before .before .before .on-allocator .ensures in
     does-through k _ (b .before .relation-on-no .ensures) (b .if1 .left)
-    (setVar x s p) (outcome.Refused k) s (setVarSlots x s p) _ _
+    (setVar x s p) (set.Refused k) s (setVarSlots x s p) _ _
     (d .answer ∙ ap (λ (y : PermutationRelation). setVar y s p) o)
     (d .slots ∙ ap (λ (y : PermutationRelation). setVarSlots y s p) o)
 

@@ -12,8 +12,8 @@ use borrow.Author.Needs.{needs}
 use Rattle.tickets.proofs.set_tickets.Statement.{statement}
 use Rattle.tickets.proofs.set_tickets.Tie as tie
 
-abbrev tell : Outcome → ℕ → SetTickets
-tell o n = record { outcome = o; accepted = n }
+abbrev tell : Outcome → (accepted fresh : ℕ) → SetTickets
+tell o n f = record { outcome = o; accepted = n; fresh = f }
 
 asked-relation-requires : tie.Need-asked-relation-requires
 asked-relation-requires c κs = search needs
@@ -37,8 +37,8 @@ returns-2 c =
     let b = d .before .before in
     let a = b .before .before .before .before .args in
     let made = d .set-lines .ensures in
-    items-refused tell _ _ (b .before .asked-relation .ensures) (now (a .slots)) (setLines (a .rel .vars) (now (a .slots)) (now (a .text))) (b .if1 .left) _ _ _
-    (λ i. ran (made .answer i .number) (made .answer i .accepted) (made .slots i)) (c .if2 .taken)
+    items-refused tell _ _ (b .before .asked-relation .ensures) (now (a .slots)) (setLines (a .rel .vars) (now (a .slots)) (now (a .text))) (b .if1 .left) _ _ _ _
+    (λ i. ran (made .answer i .number) (made .answer i .accepted) (made .answer i .fresh) (made .slots i)) (c .if2 .taken)
 
 same-length-2 : tie.Need-same-length-2
 same-length-2 c = search needs
@@ -50,8 +50,8 @@ returns-3 c =
     let b = d .before .before in
     let a = b .before .before .before .before .args in
     let made = d .set-lines .ensures in
-    items-accepted tell _ _ (b .before .asked-relation .ensures) (now (a .slots)) (setLines (a .rel .vars) (now (a .slots)) (now (a .text))) (b .if1 .left) _ _ _
-    (λ i. ran (made .answer i .number) (made .answer i .accepted) (made .slots i)) (c .if2 .left)
+    items-accepted tell _ _ (b .before .asked-relation .ensures) (now (a .slots)) (setLines (a .rel .vars) (now (a .slots)) (now (a .text))) (b .if1 .left) _ _ _ _
+    (λ i. ran (made .answer i .number) (made .answer i .accepted) (made .answer i .fresh) (made .slots i)) (c .if2 .left)
 
 pub set-tickets-spec : {M : Type 1} → statement M
 set-tickets-spec =

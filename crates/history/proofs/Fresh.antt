@@ -1,0 +1,134 @@
+-- How many of a call's sets are fresh, by the ledger: of pairs that join the sets one by one as many as there are wires
+-- that the pairs name and the sets don't, since a wire's second pair finds the first among the sets. So one set is fresh
+-- exactly where no set of the ledger names its wire; and the ledger goes on the same whatever is fresh. Assumes nothing.
+use Prim.Native.Nat.{ℕ, zero, suc, _+_, _≤_, _<_}
+use mathlib.Core.Path.{_≡_, refl, sym, ap, ap₂, _∙_}
+use mathlib.Core.Bool.{Bool, true, false, not, _&&_}
+use mathlib.Core.Logic.{_↔_}
+use mathlib.Core.List.{List, [], _∷_}
+use native.Mathlib.Omega.{arith}
+use borrow.Author.Tests.{eq-eqb, ne-eqb, eqb-true, eqb-false, ltb-true}
+use lib.Dec.{eqb}
+use lib.ListN.{length}
+use Rattle.limits.specs.Questions.{pick, firstNo, onYes}
+use Rattle.limits.proofs.Questions.{puts, puts-yes}
+use Rattle.words.specs.Store.{All}
+use Rattle.allocator.specs.Slots.{Pair, SetRun}
+use Rattle.permutation.specs.Left.{setVarLeft}
+use Rattle.permutation.proofs.Left.{newly, RunLeft}
+use Rattle.instance.specs.Parts.{pairVars, has}
+use Rattle.history.specs.Ledger.{Ledger}
+use Rattle.history.specs.Calls.{Call, Allocate, Set, SetList, Record, Mint, Equate, Tickets, State, Answer, answer, noted}
+use Rattle.history.specs.Left.{leftWith, setBy, numberOf, freshCount}
+use Rattle.history.specs.Demand.{Accepted, Told}
+use Rattle.history.proofs.Outcomes.{accepted-no}
+use Rattle.history.proofs.Publics.{look-domain}
+
+-- ---- counting wires
+-- none passes
+none-pass : (i n : ℕ) → numberOf (λ x. false) i n ≡ 0
+none-pass i zero = refl
+none-pass i (suc n) = omega (arith, none-pass (suc i) n)
+
+-- two tests that agree on every wire but y ..
+module _ (t u : ℕ → Bool) (y : ℕ) (same : (x : ℕ) → (x ≡ y → ⊥) → t x ≡ u x) where
+  -- past y both count the same
+  past : (i n : ℕ) → y < i → numberOf t i n ≡ numberOf u i n
+  past i zero h = refl
+  past i (suc n) h = ap₂ (λ (b : Bool) (k : ℕ). pick b 1 0 + k) (same i (λ e. omega arith)) (past (suc i) n (omega arith))
+
+  -- .. where the second doesn't pass y: the first counts y besides, or not
+  beside : u y ≡ false → (i n : ℕ) → i ≤ y → y < i + n → numberOf t i n ≡ pick (t y) 1 0 + numberOf u i n
+  beside z i zero l h = absurd (omega arith)
+  beside z i (suc n) l h = go (eqb i y) refl (λ m. beside z (suc i) n m (omega arith))
+    where
+      go : (b : Bool) → eqb i y ≡ b → (i < y → numberOf t (suc i) n ≡ pick (t y) 1 0 + numberOf u (suc i) n)
+          → pick (t i) 1 0 + numberOf t (suc i) n ≡ pick (t y) 1 0 + (pick (u i) 1 0 + numberOf u (suc i) n)
+      go true e f = rw (eqb-true i y e) (rw z (omega (arith, past (suc y) n (omega arith))))
+      go false e f = let d = eqb-false i y e in rw (same i d) (omega (arith, f (omega (arith, d))))
+
+-- y counts where s doesn't name it, and then s names it
+module _ (y : ℕ) (ys s : List ℕ) where
+  -- the wires that count before
+  abbrev first : ℕ → Bool
+  first x = has (y ∷ ys) x && not (has s x)
+
+  -- and after
+  abbrev then : ℕ → Bool
+  then x = has ys x && not (has (y ∷ s) x)
+
+  not-again : (b : Bool) → b && false ≡ false
+  not-again true = refl
+  not-again false = refl
+
+  by-has : (b : Bool) → pick {A = ℕ} (not b) 1 0 ≡ pick b 0 1
+  by-has true = refl
+  by-has false = refl
+
+  one-named : (n : ℕ) → y < n → pick (has s y) 0 1 + numberOf then 0 n ≡ numberOf first 0 n
+  one-named n h =
+      let e = eq-eqb y y refl in
+      let here : pick {A = ℕ} (first y) 1 0 ≡ pick (has s y) 0 1 = rw e (by-has (has s y)) in
+      omega (arith, here, beside first then y (λ x d. rw (ne-eqb x y d)) (rw e (not-again (has ys y))) 0 n (omega arith) (omega arith))
+
+-- ---- pairs that join the sets one by one
+none-fresh : (n : ℕ) (sets : List Pair) → freshCount n sets [] ≡ 0
+none-fresh n sets = none-pass 0 n
+
+newly-count : (n : ℕ) (sets ps : List Pair) → All (λ p. p .var < n) ps → newly sets ps ≡ freshCount n sets ps
+newly-count n sets [] a = sym (none-fresh n sets)
+newly-count n sets (p ∷ ps) a =
+    ap₂ (λ (b : Bool) (k : ℕ). pick b 0 1 + k) (look-domain sets (p .var)) (newly-count n (p ∷ sets) ps (a .1))
+    ∙ one-named (p .var) (pairVars ps) (pairVars sets) n (a .0)
+
+-- ---- the two tallies of an answer, where these pairs are set
+pub record Tallies (n : ℕ) (sets ps : List Pair) (a : Answer) : Type 0 where
+  pub accepted : a .accepted ≡ length ps
+  pub fresh : a .fresh ≡ freshCount n sets ps
+
+-- none is set
+pub no-tallies : (n : ℕ) (sets : List Pair) (a : Answer) → a .accepted ≡ 0 → a .fresh ≡ 0 → Tallies n sets [] a
+no-tallies n sets a e f = record { accepted = e; fresh = f ∙ sym (none-fresh n sets) }
+
+-- a run's
+pub run-tallies : (n : ℕ) (sets ps : List Pair) (k : ℕ) (r : SetRun) → RunLeft n sets ps k r
+    → (a : Answer) → a .accepted ≡ r .accepted → a .fresh ≡ r .fresh → Tallies n sets ps a
+run-tallies n sets ps k r l a e f = record { accepted = e ∙ l .accepted; fresh = f ∙ l .fresh ∙ newly-count n sets ps (l .below) }
+
+-- ---- one set along the list: fresh exactly where no set of the ledger names its wire
+module _ (w : ℕ) (s : State) (l : Ledger) (p : Pair) (t : Told w s l (Set p)) (a : Accepted (answer s (Set p) .outcome)) where
+  left-no : firstNo (setVarLeft (l .count) (l .sets) p) ≡ 0
+  unfolding leftWith
+  left-no = accepted-no _ (sym (t .answers .by-ledger) ∙ a)
+
+  one-fresh : answer s (Set p) .fresh ≡ pick (has (pairVars (l .sets)) (p .var)) 0 1
+  unfolding setBy
+  one-fresh =
+      let n = l .count in
+      let sets = l .sets in
+      let below : p .var < n = ltb-true _ _ (puts-yes (setVarLeft n sets p) left-no 7 _ tt (search puts depth 20)) in
+      let one = one-named (p .var) [] (pairVars sets) n below in
+      t .fresh
+      ∙ ap (λ (k : ℕ). freshCount n sets (onYes k (p ∷ []) [])) left-no
+      ∙ omega (arith, one, none-pass 0 n)
+
+  pub fresh-unnamed : (answer s (Set p) .fresh ≡ 1) ↔ (has (pairVars (l .sets)) (p .var) ≡ false)
+  fresh-unnamed =
+      let b = by (has (pairVars (l .sets)) (p .var)) in
+      ((λ e. b .0 (sym one-fresh ∙ e)), (λ e. one-fresh ∙ b .1 e))
+    where
+      by : (b : Bool) → (pick {A = ℕ} b 0 1 ≡ 1) ↔ (b ≡ false)
+      by true = ((λ e. absurd (omega (arith, e))), (λ e. cc))
+      by false = ((λ e. refl), (λ e. refl))
+
+-- ---- whatever number is answered as fresh, the ledger is the same
+pub fresh-unnoted : (w : ℕ) (l : Ledger) (c : Call) (a : Answer) (f : ℕ)
+    → noted w l c (record { outcome = a .outcome; first = a .first; accepted = a .accepted; fresh = f }) ≡ noted w l c a
+unfolding noted
+fresh-unnoted w l (Allocate n) a f = refl
+fresh-unnoted w l (Set p) a f = refl
+fresh-unnoted w l (SetList vars values) a f = refl
+fresh-unnoted w l (Record input output) a f = refl
+fresh-unnoted w l (Mint input) a f = refl
+fresh-unnoted w l (Equate terms image) a f = refl
+fresh-unnoted w l (Tickets text) a f = refl
