@@ -1,5 +1,6 @@
 /* A batch of premix, weighed by hopper, sack included, and by hand, in steps of 50 g. The two weights stay hidden behind
  * their seals, the sack's is public, from a weigh ticket, and an equation says that they agree: by hand + sack = hopper.
+ * The sack was put on the scale twice, and the second reading is a repeat.
  * From the repository's root:
  *
  *   cc -Iinclude examples/batch.c target/staticlib/libsfr.a -o target/batch && target/batch */
@@ -32,12 +33,14 @@ static uint32_t batch(const uint32_t weights[2])
     enum { HOPPER = 1, HAND, SACK }; /* wire 0 is there from the start */
     uint32_t slots[6], queries[4], equations[8], publics[4], trace[4], scratch[6];
     uint8_t sfri[128], sfrw[64];
-    char ticket[25];
+    char ticket[49];
 
     sfr_relation rel = go_on(sfr_new_relation(1, LENT(slots)));
     rel = go_on(sfr_allocate_vars(rel, LENT(slots), 3));
-    snprintf(ticket, sizeof ticket, "%10d %12d\n", SACK, 50); /* 50 g are 1 step */
-    accepted(sfr_set_tickets(rel, LENT(slots), (const uint8_t *)ticket, 24).number);
+    snprintf(ticket, sizeof ticket, "%10d %12d\n%10d %12d\n", SACK, 50, SACK, 55); /* both are 1 step */
+    sfr_ticket_tally tally = sfr_set_tickets(rel, LENT(slots), (const uint8_t *)ticket, 48);
+    accepted(tally.number);
+    printf("ticket: %zu readings, %zu repeated\n", tally.accepted, tally.accepted - tally.fresh);
     rel = go_on(sfr_allocate_permutation(rel, LENT(slots), LENT(queries), &(uint32_t){HOPPER}, 1));
     rel = go_on(sfr_allocate_permutation(rel, LENT(slots), LENT(queries), &(uint32_t){HAND}, 1));
     sfr_weighted terms[] = {{HAND, 1}, {SACK, 1}, {HOPPER, SFR_PRIME - 1}};

@@ -1,5 +1,6 @@
 //! A batch of premix, weighed by hopper, sack included, and by hand, in steps of 50 g. The two weights stay hidden behind
 //! their seals, the sack's is public, from a weigh ticket, and an equation says that they agree: by hand + sack = hopper.
+//! The sack was put on the scale twice, and the second reading is a repeat.
 //! From the repository's root:
 //!
 //! ```sh
@@ -21,8 +22,10 @@ fn batch(by_hopper: u32, by_hand: u32) -> Result<u32, Refused> {
     let rel = sfr::new_relation(1, slots).accepted()?;
     let (hopper, rel) = sfr::allocate_vars(rel, slots, 3).allocated()?;
     let (hand, sack) = (hopper + 1, hopper + 2);
-    let ticket = format!("{sack:>10} {:>12}\n", 50); // 50 g are 1 step
-    sfr::set_tickets(rel, slots, ticket.as_bytes()).accepted()?;
+    let ticket = [50, 55].map(|grams| format!("{sack:>10} {grams:>12}\n")); // both are 1 step
+    let tally = sfr::set_tickets(rel, slots, ticket.concat().as_bytes());
+    let repeated = tally.accepted()? - tally.fresh;
+    println!("ticket: {} readings, {repeated} repeated", tally.accepted);
     let rel = sfr::allocate_permutation(rel, slots, queries, &[hopper]).accepted()?;
     let rel = sfr::allocate_permutation(rel, slots, queries, &[hand]).accepted()?;
     let terms = [(hand, 1), (sack, 1), (hopper, PRIME - 1)];

@@ -1,7 +1,7 @@
 /* Two mixers on one allocator, in steps of 50 g. The premix mixer seals what its hopper weighs; the finishing mixer, of
  * width 2, weighs by hand what comes out, seals that together with the hopper's reading, and reads the sack's ticket, which
- * is public to both. The premix mixer's equation says hopper - sack = 2, the order; the finishing mixer's hand + sack =
- * hopper. From the repository's root:
+ * is public to both. The premix mixer reads the same ticket again, which is a repeat. Its equation says hopper - sack = 2,
+ * the order; the finishing mixer's hand + sack = hopper. From the repository's root:
  *
  *   cc -Iinclude examples/mixers.c target/staticlib/libsfr.a -o target/mixers && target/mixers */
 #include <stdio.h>
@@ -43,6 +43,14 @@ static uint32_t go_on(plant *p, mixer *m, sfr_shared_answer answer)
     p->allocator = answer.allocator;
     m->rel = answer.relation;
     return answer.first;
+}
+
+/* Reads a ticket line, and tells how many readings were repeats. */
+static void read_ticket(plant *p, const mixer *m, const char *name, const char *line)
+{
+    sfr_ticket_tally tally = sfr_set_tickets_on(ON(p, m), LENT(p->slots), (const uint8_t *)line, 24);
+    accepted(tally.number);
+    printf("ticket, read by %s: %zu repeated\n", name, tally.accepted - tally.fresh);
 }
 
 /* The check's answer on the files of a mixer's batch whose one step has these inputs. */
@@ -91,7 +99,8 @@ int main(void)
     const uint32_t hand = go_on(p, finish, sfr_allocate_vars_on(ON(p, finish), LENT(p->slots), 2));
     const uint32_t sack = hand + 1;
     snprintf(ticket, sizeof ticket, "%10u %12d\n", (unsigned)sack, 50); /* 50 g are 1 step */
-    accepted(sfr_set_tickets_on(ON(p, finish), LENT(p->slots), (const uint8_t *)ticket, 24).number);
+    read_ticket(p, finish, "finish", ticket);
+    read_ticket(p, premix, "premix", ticket); /* the other has set the wire */
 
     const uint32_t sealed[] = {hand, hopper};
     go_on(p, premix, sfr_allocate_permutation_on(ON(p, premix), LENT(p->slots), LENT(premix->queries), &hopper, 1));

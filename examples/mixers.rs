@@ -1,7 +1,7 @@
 //! Two mixers on one allocator, in steps of 50 g. The premix mixer seals what its hopper weighs; the finishing mixer, of
 //! width 2, weighs by hand what comes out, seals that together with the hopper's reading, and reads the sack's ticket,
-//! which is public to both. The premix mixer's equation says hopper - sack = 2, the order; the finishing mixer's hand +
-//! sack = hopper. From the repository's root:
+//! which is public to both. The premix mixer reads the same ticket again, which is a repeat. Its equation says hopper -
+//! sack = 2, the order; the finishing mixer's hand + sack = hopper. From the repository's root:
 //!
 //! ```sh
 //! cargo run --offline --manifest-path rust/Cargo.toml --example mixers
@@ -50,6 +50,13 @@ impl Plant {
         let (rel, slots) = (mixer.rel, &mut self.slots);
         let answer = sfr::allocate_vars_on(self.allocator, mixer.index, rel, slots, n);
         self.go_on(mixer, answer)
+    }
+
+    /// Reads a ticket; how many of its readings were repeats.
+    fn tickets(&mut self, mixer: &Mixer, text: &str) -> Result<usize, Refused> {
+        let (rel, slots) = (mixer.rel, &mut self.slots);
+        let tally = sfr::set_tickets_on(self.allocator, mixer.index, rel, slots, text.as_bytes());
+        Ok(tally.accepted()? - tally.fresh)
     }
 
     fn mint(&mut self, mixer: &mut Mixer, input: &[u32]) -> Result<u32, Refused> {
@@ -137,8 +144,10 @@ fn main() -> Result<(), Refused> {
     let hand = plant.allocate(&mut finish, 2)?;
     let sack = hand + 1;
     let ticket = format!("{sack:>10} {:>12}\n", 50); // 50 g are 1 step
-    let (slots, text) = (&mut plant.slots, ticket.as_bytes());
-    sfr::set_tickets_on(plant.allocator, finish.index, finish.rel, slots, text).accepted()?;
+    let repeated = plant.tickets(&finish, &ticket)?;
+    println!("ticket, read by finish: {repeated} repeated");
+    let repeated = plant.tickets(&premix, &ticket)?; // the other has set the wire
+    println!("ticket, read by premix: {repeated} repeated");
 
     plant.mint(&mut premix, &[hopper])?;
     plant.mint(&mut finish, &[hand, hopper])?;

@@ -146,16 +146,26 @@ typedef struct {
     uint32_t weight;
 } sfr_weighted;
 
-/* How many of a list's first pairs were accepted, after a refusal too. */
+/* Whether an accepted set is fresh or repeated: fresh where the slot of its wire was F just before, repeated where it held
+ * that value, as wire 0's holds 0 from the start. fresh is false after a refusal. */
+typedef struct {
+    uint32_t number;
+    bool fresh;
+} sfr_set_answer;
+
+/* How many of a list's first pairs were accepted, and how many of those were fresh, after a refusal too. The rest of the
+ * accepted ones are repeated, as is a pair whose wire an earlier one of the list has set. Both are 0 at 1, 2 and 42. */
 typedef struct {
     uint32_t number;
     uint32_t accepted;
+    uint32_t fresh;
 } sfr_tally;
 
-/* How many of a ticket text's first lines were accepted, after a refusal too. */
+/* The same of a ticket text's first lines. */
 typedef struct {
     uint32_t number;
     size_t accepted;
+    size_t fresh;
 } sfr_ticket_tally;
 
 /* A value where there is one; else, and after a refusal, some is false and value 0. */
@@ -180,9 +190,9 @@ sfr_relation_answer sfr_new_relation(uint32_t width, uint32_t *slots, size_t slo
  * were. */
 sfr_relation_answer sfr_allocate_vars(sfr_relation rel, uint32_t *slots, size_t slots_len, uint32_t n);
 
-/* Set: a wire's value; the same value again is accepted.
+/* Set: a wire's value; the same value again is accepted, as repeated.
  * Questions 1, 2, 3, 4, 7, 8. Lent: slots, a word per wire. A refusal leaves them as they were. */
-uint32_t sfr_set_var(sfr_relation rel, uint32_t *slots, size_t slots_len, uint32_t var, uint32_t value);
+sfr_set_answer sfr_set_var(sfr_relation rel, uint32_t *slots, size_t slots_len, uint32_t var, uint32_t value);
 
 /* Set list: the pairs in order, up to the shorter list's length.
  * Questions 1, 2; then 3, 4, 7, 8 pair by pair; after the common pairs 9. Lent: slots, a word per wire; vars and
@@ -286,10 +296,10 @@ sfr_shared_answer sfr_with_allocator(sfr_var_allocator allocator, uint32_t width
 sfr_shared_answer sfr_allocate_vars_on(sfr_var_allocator allocator, uint32_t index, sfr_shared_relation rel,
                                        uint32_t *slots, size_t slots_len, uint32_t n);
 
-/* Set: a wire's value, whoever allocated it; the same value again is accepted.
+/* Set: a wire's value, whoever allocated it; the same value again is accepted, as repeated, whoever set it first.
  * Questions 1, 2, 42, 3, 4, 7, 8. Lent: slots, a word per wire. A refusal leaves them as they were. */
-uint32_t sfr_set_var_on(sfr_var_allocator allocator, uint32_t index, sfr_shared_relation rel,
-                        uint32_t *slots, size_t slots_len, uint32_t var, uint32_t value);
+sfr_set_answer sfr_set_var_on(sfr_var_allocator allocator, uint32_t index, sfr_shared_relation rel,
+                              uint32_t *slots, size_t slots_len, uint32_t var, uint32_t value);
 
 /* Set list: the pairs in order, up to the shorter list's length.
  * Questions 1, 2, 42; then 3, 4, 7, 8 pair by pair; after the common pairs 9. Lent: slots, a word per wire; vars and

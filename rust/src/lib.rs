@@ -23,8 +23,8 @@
 //! ```
 //! let mut slots = [0; 8];
 //! let rel = sfr::new_relation(1, &mut slots).accepted()?; // one wire, wire 0, that carries 0
-//! assert_eq!(sfr::set_var(rel, &mut slots, 0, 0), 0);
-//! let refused = sfr::accepted(sfr::set_var(rel, &mut slots, 0, 5)).unwrap_err();
+//! assert_eq!(sfr::set_var(rel, &mut slots, 0, 0).accepted()?, sfr::Set::Repeated);
+//! let refused = sfr::set_var(rel, &mut slots, 0, 5).accepted().unwrap_err();
 //! assert_eq!(refused.to_string(), "8: is its slot F or that value?");
 //! # Ok::<(), sfr::Refused>(())
 //! ```

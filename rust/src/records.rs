@@ -83,6 +83,26 @@ pub struct Weighted {
     pub weight: u32,
 }
 
+/// The answer of a set.
+#[repr(C)]
+#[derive(Clone, Copy, Debug, PartialEq, Eq)]
+#[must_use]
+pub struct SetAnswer {
+    /// 0, or the first question that said no.
+    pub number: u32,
+    /// Whether it is [`Set::Fresh`]; false after a refusal.
+    pub fresh: bool,
+}
+
+/// What an accepted set is.
+#[derive(Clone, Copy, Debug, PartialEq, Eq)]
+pub enum Set {
+    /// The slot of its wire was F just before.
+    Fresh,
+    /// The slot of its wire held that value, as wire 0's holds 0 from the start.
+    Repeated,
+}
+
 /// The answer of a set list.
 #[repr(C)]
 #[derive(Clone, Copy, Debug, PartialEq, Eq)]
@@ -92,6 +112,9 @@ pub struct Tally {
     pub number: u32,
     /// How many of the first pairs were accepted, and stay set, after a refusal too.
     pub accepted: u32,
+    /// How many of those were fresh, after a refusal too; the rest are repeated, as is a pair whose
+    /// wire an earlier one of the list has set.
+    pub fresh: u32,
 }
 
 /// The answer of a ticket text.
@@ -103,6 +126,9 @@ pub struct TicketTally {
     pub number: u32,
     /// How many of the first lines were accepted, and stay set, after a refusal too.
     pub accepted: usize,
+    /// How many of those were fresh, after a refusal too; the rest are repeated, as is a line whose
+    /// wire an earlier one of the text has set.
+    pub fresh: usize,
 }
 
 /// The answer to which value a wire has.
@@ -303,6 +329,16 @@ impl SharedAnswer {
     /// records to go on with.
     pub fn first(self) -> Result<(u32, VarAllocator, SharedRelation), Refused> {
         accepted(self.number).map(|()| (self.first, self.allocator, self.relation))
+    }
+}
+
+impl SetAnswer {
+    /// Fresh or repeated.
+    pub fn accepted(self) -> Result<Set, Refused> {
+        accepted(self.number).map(|()| match self.fresh {
+            true => Set::Fresh,
+            false => Set::Repeated,
+        })
     }
 }
 

@@ -1,6 +1,6 @@
 //! Calls on a relation. In each, a pointer and the length after it are those of one slice.
 
-use crate::{sys, Flag, Relation, RelationAnswer, Tally, TicketTally, Value, Weighted};
+use crate::{sys, Flag, Relation, RelationAnswer, SetAnswer, Tally, TicketTally, Value, Weighted};
 
 /// Fresh: a relation of that width with wire 0 alone, whose slot becomes 0.
 ///
@@ -20,11 +20,10 @@ pub fn allocate_vars(rel: Relation, slots: &mut [u32], n: u32) -> RelationAnswer
     unsafe { sys::sfr_allocate_vars(rel, slots.as_mut_ptr(), slots.len(), n) }
 }
 
-/// Sets a wire to a value; the same value again is accepted.
+/// Sets a wire to a value; the same value again is accepted, as repeated.
 ///
 /// Questions 1, 2, 3, 4, 7, 8. Lent: slots, a word per wire. A refusal leaves them as they were.
-#[must_use = "a refusal is in the number"]
-pub fn set_var(rel: Relation, slots: &mut [u32], var: u32, value: u32) -> u32 {
+pub fn set_var(rel: Relation, slots: &mut [u32], var: u32, value: u32) -> SetAnswer {
     // SAFETY: see the head of this file.
     unsafe { sys::sfr_set_var(rel, slots.as_mut_ptr(), slots.len(), var, value) }
 }

@@ -8,7 +8,7 @@
 //! wire count as the relation's. Where nothing is opened, 2 isn't asked of the wire count.
 
 use crate::{
-    sys, Flag, InstanceAnswer, SharedAnswer, SharedRelation, Tally, TicketTally, Value,
+    sys, Flag, InstanceAnswer, SetAnswer, SharedAnswer, SharedRelation, Tally, TicketTally, Value,
     VarAllocator, Weighted,
 };
 
@@ -27,7 +27,10 @@ use crate::{
 /// assert_eq!((premix, salt), (0, 1));
 /// let (first, plant, one) = sfr::allocate_vars_on(plant, premix, one, &mut slots, 2).first()?;
 /// assert_eq!(first, 1);
-/// assert_eq!(sfr::set_var_on(plant, salt, two, &mut slots, first, 7), 0); // anybody's wire
+/// let set = sfr::set_var_on(plant, salt, two, &mut slots, first, 7).accepted()?; // anybody's wire
+/// assert_eq!(set, sfr::Set::Fresh);
+/// let set = sfr::set_var_on(plant, premix, one, &mut slots, first, 7).accepted()?; // its own
+/// assert_eq!(set, sfr::Set::Repeated);
 /// let refused = sfr::allocate_vars_on(plant, premix, one, &mut slots, 1).accepted().unwrap_err();
 /// assert_eq!(refused.number(), 43); // one has obtained its two wires
 /// # Ok::<(), sfr::Refused>(())
@@ -60,11 +63,11 @@ pub fn allocate_vars_on(
     unsafe { sys::sfr_allocate_vars_on(allocator, index, rel, words, len, n) }
 }
 
-/// Sets a wire to a value, whoever allocated it; the same value again is accepted.
+/// Sets a wire to a value, whoever allocated it; the same value again is accepted, as repeated,
+/// whoever set it first.
 ///
 /// Questions 1, 2, 42, 3, 4, 7, 8. Lent: slots, a word per wire. A refusal leaves them as they
 /// were.
-#[must_use = "a refusal is in the number"]
 pub fn set_var_on(
     allocator: VarAllocator,
     index: u32,
@@ -72,7 +75,7 @@ pub fn set_var_on(
     slots: &mut [u32],
     var: u32,
     value: u32,
-) -> u32 {
+) -> SetAnswer {
     let (words, len) = (slots.as_mut_ptr(), slots.len());
     // SAFETY: see the head of this file.
     unsafe { sys::sfr_set_var_on(allocator, index, rel, words, len, var, value) }

@@ -44,7 +44,7 @@ unsafe extern "C" {
         slots_len: usize,
         var: u32,
         value: u32,
-    ) -> u32;
+    ) -> SetAnswer;
     pub fn sfr_set_vars(
         rel: Relation,
         slots: *mut u32,
@@ -117,7 +117,7 @@ unsafe extern "C" {
         slots_len: usize,
         var: u32,
         value: u32,
-    ) -> u32;
+    ) -> SetAnswer;
     pub fn sfr_set_vars_on(
         allocator: VarAllocator,
         index: u32,

@@ -1,6 +1,6 @@
 //! What comes back as a part of what was lent, and what the answers become as results.
 
-use sfr::{accepted, Refused, Weighted, PRIME};
+use sfr::{accepted, Refused, Set, Weighted, PRIME};
 
 /// Is it the very same part, not only equal bytes?
 fn same_part(a: &[u8], b: &[u8]) -> bool {
@@ -88,6 +88,7 @@ fn answers_are_results() -> Result<(), Refused> {
         (tally.accepted, tally.accepted().map_err(Refused::number)),
         (1, Err(7))
     );
+    assert_eq!(tally.fresh, 1);
     assert_eq!(sfr::value_of(rel, &slots, 1).accepted()?, Some(5));
     let text = b"         1          274\n         2          275\n";
     let tally = sfr::set_tickets(rel, &mut slots, &text[..47]);
@@ -95,10 +96,39 @@ fn answers_are_results() -> Result<(), Refused> {
         (tally.accepted, tally.accepted().map_err(Refused::number)),
         (1, Err(40))
     );
+    assert_eq!(tally.fresh, 0);
     assert_eq!(sfr::value_of(rel, &slots, 2).accepted()?, None);
     assert!(!sfr::is_allocated(rel, 3).accepted()?);
     let mut bytes = [0; 4];
     let next = sfr::put_u32(&mut bytes, 0, 77).accepted()?;
     assert_eq!((sfr::read_u32(&bytes, 0).accepted()?, next), ((77, 4), 4));
+    Ok(())
+}
+
+#[test]
+fn sets_are_fresh_or_repeated() -> Result<(), Refused> {
+    let mut slots = [0; 5];
+    let rel = sfr::new_relation(1, &mut slots).accepted()?;
+    let rel = sfr::allocate_vars(rel, &mut slots, 4).accepted()?;
+    let mut set = |var, value| sfr::set_var(rel, &mut slots, var, value).accepted();
+    assert_eq!(set(1, 5)?, Set::Fresh);
+    assert_eq!(set(1, 5)?, Set::Repeated);
+    assert_eq!(set(1, 6).map_err(Refused::number), Err(8));
+    assert_eq!(set(0, 0)?, Set::Repeated);
+    let refused = sfr::set_var(rel, &mut slots, 5, 0);
+    assert_eq!((refused.number, refused.fresh), (7, false));
+
+    // Of five pairs wire 2 alone is fresh, the first time.
+    let tally = sfr::set_vars(rel, &mut slots, &[1, 2, 0, 2, 2], &[5, 7, 0, 7, 7]);
+    assert_eq!((tally.accepted()?, tally.fresh), (5, 1));
+    let tally = sfr::set_vars(rel, &mut slots, &[3, 3, 2, 4], &[1, 1, 8, 1]);
+    assert_eq!((tally.number, tally.accepted, tally.fresh), (8, 2, 1));
+    let tally = sfr::set_vars(rel, &mut slots, &[4, 4, 4], &[9, 9]);
+    assert_eq!((tally.number, tally.accepted, tally.fresh), (9, 2, 1));
+    slots[4] = sfr::UNASSIGNED;
+    // 24 g and 0 g are both no step.
+    let text = b"         4           24\n         4            0\n         0            0\n";
+    let tally = sfr::set_tickets(rel, &mut slots, text);
+    assert_eq!((tally.accepted()?, tally.fresh), (3, 1));
     Ok(())
 }

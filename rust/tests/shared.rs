@@ -1,6 +1,6 @@
 //! Relations on one allocator: what each call gives back, accepted and refused.
 
-use sfr::{Refused, SharedRelation, VarAllocator, Weighted, MAX_RELATIONS, UNASSIGNED};
+use sfr::{Refused, Set, SharedRelation, VarAllocator, Weighted, MAX_RELATIONS, UNASSIGNED};
 
 /// A relation opened on an allocator of its own.
 fn opened(width: u32, quota: u32, slots: &mut [u32]) -> (VarAllocator, SharedRelation) {
@@ -41,11 +41,15 @@ fn answers_are_results() -> Result<(), Refused> {
 
     // The other relation sets one wire; the second of its pairs is refused.
     let tally = sfr::set_vars_on(plant, two, other, &mut slots, &[1, 9], &[5, 5]);
-    assert_eq!((tally.number, tally.accepted), (7, 1));
+    assert_eq!((tally.number, tally.accepted, tally.fresh), (7, 1, 1));
     let text = b"         2          274\n         2          275\n";
     let tally = sfr::set_tickets_on(plant, two, other, &mut slots, text);
-    assert_eq!((tally.number, tally.accepted), (8, 1));
-    assert_eq!(sfr::set_var_on(plant, 0, one, &mut slots, 1, 5), 0);
+    assert_eq!((tally.number, tally.accepted, tally.fresh), (8, 1, 1));
+    // What the other has set is repeated for the one.
+    let set = sfr::set_var_on(plant, 0, one, &mut slots, 1, 5).accepted()?;
+    assert_eq!(set, Set::Repeated);
+    let tally = sfr::set_vars_on(plant, 2, one, &mut slots, &[1], &[5]);
+    assert_eq!((tally.number, tally.accepted, tally.fresh), (42, 0, 0));
     let value = |var| sfr::value_of_on(plant, 0, one, &slots, var).accepted();
     assert_eq!((value(1)?, value(2)?, value(3)?), (Some(5), Some(5), None));
     assert!(!sfr::is_allocated_on(plant, 0, one, 3).accepted()?);
