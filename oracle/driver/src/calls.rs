@@ -36,7 +36,35 @@ impl Call {
             Self::IsAllocated(_) => "is allocated",
         }
     }
+
+    /// What of a set, a set list or a ticket text was fresh, where any of it was accepted: one of
+    /// the kinds that it comes in.
+    pub fn freshness(&self, answer: &Answer) -> Option<&'static str> {
+        let accepted = match self {
+            Self::Set(..) => usize::from(answer.number == 0),
+            Self::SetList(..) | Self::Tickets(_) => answer.accepted,
+            _ => 0,
+        };
+        match (answer.number, answer.fresh) {
+            _ if accepted == 0 => None,
+            (0, 0) => Some("repeated"),
+            (0, fresh) if fresh == accepted => Some("fresh"),
+            (0, _) => Some("fresh and repeated"),
+            (_, 0) => Some("refused after repeated"),
+            _ => Some("refused after fresh"),
+        }
+    }
 }
+
+/// The kinds of a set, and those of a set list or a ticket text.
+pub const SET_KINDS: &[&str] = &["fresh", "repeated"];
+pub const LIST_KINDS: &[&str] = &[
+    "fresh",
+    "repeated",
+    "fresh and repeated",
+    "refused after fresh",
+    "refused after repeated",
+];
 
 /// What a call answers; what it has no answer for is 0, none or no.
 #[derive(Clone, Copy, Debug, Default, PartialEq, Eq)]
@@ -44,6 +72,8 @@ pub struct Answer {
     pub number: u32,
     pub first: u32,
     pub accepted: usize,
+    /// How many sets were fresh: of a set 1 or 0.
+    pub fresh: usize,
     pub value: Option<u32>,
     pub yes: bool,
 }
@@ -212,16 +242,22 @@ impl State {
                 self.keep(made)
             }
             Call::AllocateWith(values) => self.allocate_with(values),
-            Call::Set(var, value) => Answer {
-                number: called!(reading, self, set_var, set_var_on, slots, *var, *value),
-                ..Answer::default()
-            },
+            Call::Set(var, value) => {
+                let answer: reading::SetAnswer =
+                    called!(reading, self, set_var, set_var_on, slots, *var, *value);
+                Answer {
+                    number: answer.number,
+                    fresh: usize::from(answer.fresh),
+                    ..Answer::default()
+                }
+            }
             Call::SetList(vars, values) => {
                 let tally: reading::Tally =
                     called!(reading, self, set_vars, set_vars_on, slots, vars, values);
                 Answer {
                     number: tally.number,
                     accepted: tally.accepted as usize,
+                    fresh: tally.fresh as usize,
                     ..Answer::default()
                 }
             }
@@ -231,6 +267,7 @@ impl State {
                 Answer {
                     number: tally.number,
                     accepted: tally.accepted,
+                    fresh: tally.fresh,
                     ..Answer::default()
                 }
             }

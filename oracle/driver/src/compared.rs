@@ -2,6 +2,8 @@
 
 use std::{collections::BTreeMap, fmt::Debug};
 
+use crate::calls::{Answer, Call, LIST_KINDS, SET_KINDS};
+
 /// Two answers that should have been one.
 #[derive(Debug)]
 pub struct Difference(pub String);
@@ -29,10 +31,12 @@ pub fn holds(what: &str, yes: bool, answer: impl Debug) -> Compared {
     Err(Difference(format!("{what}: {answer:?}")))
 }
 
-/// What a run has seen: how often each call answered each number.
+/// What a run has seen: how often each call answered each number, and how often what of a set, a
+/// set list or a ticket text was fresh.
 #[derive(Default)]
 pub struct Seen {
     answers: BTreeMap<(&'static str, u32), u64>,
+    sets: BTreeMap<&'static str, BTreeMap<&'static str, u64>>,
     pub total: u64,
 }
 
@@ -40,6 +44,26 @@ impl Seen {
     pub fn answered(&mut self, call: &'static str, number: u32) {
         *self.answers.entry((call, number)).or_default() += 1;
         self.total += 1;
+    }
+
+    /// A call on a relation and its answer.
+    pub fn called(&mut self, call: &Call, answer: &Answer) {
+        self.answered(call.name(), answer.number);
+        if let Some(kind) = call.freshness(answer) {
+            let kinds = self.sets.entry(call.name()).or_default();
+            *kinds.entry(kind).or_default() += 1;
+        }
+    }
+
+    /// A kind of set, set list or ticket text that was never seen, where others of it were.
+    pub fn missing(&self) -> Option<String> {
+        let kinds = |name| if name == "set" { SET_KINDS } else { LIST_KINDS };
+        let mut missing = self.sets.iter().flat_map(|(&name, seen)| {
+            let kinds = kinds(name).iter();
+            let missing = kinds.filter(|kind| !seen.contains_key(*kind));
+            missing.map(move |kind| format!("{name}: {kind}"))
+        });
+        missing.next()
     }
 
     /// One line per call: its answers, and how often each was given.
@@ -57,6 +81,11 @@ impl Seen {
             line += &format!(" {number}:{times}");
         }
         println!("{line}");
+        for (name, kinds) in &self.sets {
+            let kinds = kinds.iter();
+            let kinds: Vec<String> = kinds.map(|(kind, n)| format!("{kind}:{n}")).collect();
+            println!("  {name:<22} {}", kinds.join(", "));
+        }
     }
 }
 

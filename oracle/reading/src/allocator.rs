@@ -1,11 +1,13 @@
 //! Wires and their slots (the source's `allocator.rs`).
 
+use std::collections::BTreeSet;
+
 use crate::{
     questions::{
         ask, ask_opened, ask_room_for_vars, ask_slots, ask_vars, is_store, is_unit, is_var,
         is_width, number_of, Asked,
     },
-    Flag, On, Relation, RelationAnswer, Tally, Value, UNASSIGNED,
+    Flag, On, Relation, RelationAnswer, SetAnswer, Tally, Value, UNASSIGNED,
 };
 
 /// A relation with one wire, which has the value 0 (01: fresh). Questions 1, 2, 6.
@@ -67,10 +69,34 @@ fn ask_allocate_vars(on: &On, slots: &[u32], count: u32) -> Asked {
 }
 
 /// Assigns a wire (01: set). Questions 1, 2, 3, 4, 7, 8.
-pub fn set_var(on: impl Into<On>, slots: &mut [u32], var: u32, value: u32) -> u32 {
+pub fn set_var(on: impl Into<On>, slots: &mut [u32], var: u32, value: u32) -> SetAnswer {
     let on = on.into();
     let asked = ask_slots(&on, slots).and_then(|()| ask_opened(&on));
-    number_of(asked.and_then(|()| set_pair(on.rel, slots, var, value)))
+    let vars = BTreeSet::from([var]);
+    let (asked, fresh) = count_fresh(slots, &vars, |slots| {
+        asked.and_then(|()| set_pair(on.rel, slots, var, value))
+    });
+    SetAnswer {
+        number: number_of(asked),
+        fresh: fresh == 1,
+    }
+}
+
+/// How many of a call's sets are fresh: of a wire whose slot was F just before (02, R-5). `vars`
+/// are the wires that the call may set, each of them once. No set leaves F in a slot, so a wire is
+/// fresh at most once, in the first of its sets: where it has F before the call and not after it.
+pub fn count_fresh<T>(
+    slots: &mut [u32],
+    vars: &BTreeSet<u32>,
+    call: impl FnOnce(&mut [u32]) -> T,
+) -> (T, usize) {
+    let unset = |slots: &[u32]| {
+        let words = vars.iter().filter_map(|&var| slots.get(var as usize));
+        words.filter(|&&slot| slot == UNASSIGNED).count()
+    };
+    let before = unset(slots);
+    let answer = call(slots);
+    (answer, before - unset(slots))
 }
 
 /// 3, 4, 7 and 8 put to one pair; its slot is written where all of them say yes.
@@ -93,8 +119,15 @@ pub fn set_slot(rel: Relation, slots: &mut [u32], var: u32, value: u32) -> Asked
 /// asks whether the lists have one length (01: set list).
 pub fn set_vars(on: impl Into<On>, slots: &mut [u32], vars: &[u32], values: &[u32]) -> Tally {
     let mut accepted = 0;
-    let number = number_of(set_pairs(&on.into(), slots, vars, values, &mut accepted));
-    Tally { number, accepted }
+    let common = vars.iter().zip(values).map(|(&var, _)| var).collect();
+    let (asked, fresh) = count_fresh(slots, &common, |slots| {
+        set_pairs(&on.into(), slots, vars, values, &mut accepted)
+    });
+    Tally {
+        number: number_of(asked),
+        accepted,
+        fresh: fresh as u32,
+    }
 }
 
 fn set_pairs(

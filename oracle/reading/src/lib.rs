@@ -97,20 +97,29 @@ pub struct RelationAnswer {
     pub relation: Relation,
 }
 
-/// The answer of a set list: how many of its first pairs were accepted stands beside the
-/// number, after a refusal too.
+/// The answer of a set: fresh or, where it is accepted and not fresh, repeated (02, R-5).
+#[derive(Clone, Copy, Debug, PartialEq, Eq)]
+pub struct SetAnswer {
+    pub number: u32,
+    pub fresh: bool,
+}
+
+/// The answer of a set list: how many of its first pairs were accepted, and how many of these
+/// were fresh, stands beside the number, after a refusal too.
 #[derive(Clone, Copy, Debug, PartialEq, Eq)]
 pub struct Tally {
     pub number: u32,
     pub accepted: u32,
+    pub fresh: u32,
 }
 
-/// The answer of a ticket text: how many of its first lines were accepted stands beside the
-/// number, after a refusal too.
+/// The answer of a ticket text: how many of its first lines were accepted, and how many of these
+/// were fresh, stands beside the number, after a refusal too.
 #[derive(Clone, Copy, Debug, PartialEq, Eq)]
 pub struct TicketTally {
     pub number: u32,
     pub accepted: usize,
+    pub fresh: usize,
 }
 
 /// The answer to "which value has this wire".

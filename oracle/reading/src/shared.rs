@@ -8,8 +8,8 @@
 use crate::{
     add_equation, add_permutation, allocate_permutation, allocate_vars, compile, is_allocated, new,
     questions::{ask, ask_vars, is_store, is_width, Asked},
-    set_tickets, set_var, set_vars, value, Flag, InstanceAnswer, Relation, RelationAnswer, Tally,
-    TicketTally, Value, Weighted,
+    set_tickets, set_var, set_vars, value, Flag, InstanceAnswer, Relation, RelationAnswer,
+    SetAnswer, Tally, TicketTally, Value, Weighted,
 };
 
 /// So many relations may be opened on one allocator.
@@ -165,7 +165,7 @@ pub fn allocate_vars_on(
     shared(allocator, rel, answer)
 }
 
-/// Set. Questions 1, 2, 42, 3, 4, 7, 8.
+/// Set; fresh by the shared slots, whoever set the wire. Questions 1, 2, 42, 3, 4, 7, 8.
 pub fn set_var_on(
     allocator: VarAllocator,
     index: u32,
@@ -173,7 +173,7 @@ pub fn set_var_on(
     slots: &mut [u32],
     var: u32,
     value: u32,
-) -> u32 {
+) -> SetAnswer {
     set_var(on(allocator, index, rel), slots, var, value)
 }
 

@@ -1,7 +1,7 @@
 //! Weigh tickets (document 02, R-1): a text whose lines each set a wire to a count of steps.
 
 use crate::{
-    allocator::set_slot,
+    allocator::{count_fresh, set_slot},
     questions::{ask, ask_opened, ask_slots, number_of, Asked},
     On, TicketTally, MAX_COUNT, P,
 };
@@ -14,8 +14,16 @@ pub const TICKET_LINE: usize = 24;
 /// line by line. How long the text is isn't asked: it is no word store and no label.
 pub fn set_tickets(on: impl Into<On>, slots: &mut [u32], text: &[u8]) -> TicketTally {
     let mut accepted = 0;
-    let number = number_of(set_lines(&on.into(), slots, text, &mut accepted));
-    TicketTally { number, accepted }
+    let pairs = text.chunks(TICKET_LINE).flat_map(ticket);
+    let vars = pairs.map(|(var, _)| var).collect();
+    let (asked, fresh) = count_fresh(slots, &vars, |slots| {
+        set_lines(&on.into(), slots, text, &mut accepted)
+    });
+    TicketTally {
+        number: number_of(asked),
+        accepted,
+        fresh,
+    }
 }
 
 fn set_lines(on: &On, slots: &mut [u32], text: &[u8], accepted: &mut usize) -> Asked {

@@ -48,7 +48,8 @@ pub fn untyped(call: &Call, width: u32) -> Option<u32> {
     }
 }
 
-/// Compares a call's answer; whether the sources could be asked.
+/// Compares a call's answer; whether the sources could be asked. They don't say what was fresh: it
+/// is compared with whether their wires had a value just before.
 pub fn compare(
     call: &Call,
     answer: &Answer,
@@ -58,7 +59,8 @@ pub fn compare(
 ) -> Outcome<bool> {
     let number = answer.number;
     if let Some(expected) = untyped(call, width) {
-        same("number", ("given", number), ("types", expected))?;
+        let given = (number, answer.fresh);
+        same("number", ("given", given), ("types", (expected, 0)))?;
         return Ok(true);
     }
     // Neither room nor quotas have a counterpart.
@@ -69,13 +71,16 @@ pub fn compare(
     match call {
         Call::Allocate(count) => allocated(answer, before, relation.allocate_vars(*count)),
         Call::AllocateWith(values) => {
-            allocated(answer, before, relation.allocate_vars_with(values))
+            let vars = relation.allocate_vars_with(values);
+            let fresh = vars.as_ref().map_or(0, Vec::len);
+            allocated(answer, before, vars)?;
+            same("fresh", ("given", answer.fresh), ("source", fresh))
         }
         Call::Mint(input) => {
             let outputs = relation.allocate_permutation(input, spelling);
             allocated(answer, before, outputs)
         }
-        Call::Set(var, value) => accepted(answer, relation.set_var(*var, *value)),
+        Call::Set(var, value) => set(answer, *var, *value, relation),
         Call::SetList(vars, values) => set_list(answer, vars, values, relation),
         Call::Tickets(text) => tickets(answer, &text.0, relation),
         Call::Record(input, output) => {
@@ -121,8 +126,31 @@ fn allocated(answer: &Answer, before: u32, vars: Option<Vec<u32>>) -> Compared {
     same("first wire", ("given", answer.first), ("source", before))
 }
 
-/// Pairs with a word that the sources' types can't hold end the list that they are given.
+/// Whether a set of this wire would be fresh: the sources have no value for it.
+fn is_fresh(var: u32, relation: &dyn Relation) -> bool {
+    source::var(var).is_some() && relation.value(var).is_none()
+}
+
+fn set(answer: &Answer, var: u32, value: u32, relation: &dyn Relation) -> Compared {
+    let is_fresh = is_fresh(var, relation);
+    let done = relation.set_var(var, value);
+    accepted(answer, done)?;
+    let fresh = usize::from(is_fresh && done.is_some());
+    same("fresh", ("given", answer.fresh), ("source", fresh))
+}
+
+/// A set list, and how many of its accepted pairs were of a wire without a value just before:
+/// without one before the list, and with no earlier pair.
 fn set_list(answer: &Answer, vars: &[u32], values: &[u32], relation: &dyn Relation) -> Compared {
+    let accepted = vars.iter().enumerate().take(answer.accepted);
+    let fresh = accepted.filter(|(i, var)| !vars[..*i].contains(var) && is_fresh(**var, relation));
+    let fresh = fresh.count();
+    set_pairs(answer, vars, values, relation)?;
+    same("fresh", ("given", answer.fresh), ("source", fresh))
+}
+
+/// Pairs with a word that the sources' types can't hold end the list that they are given.
+fn set_pairs(answer: &Answer, vars: &[u32], values: &[u32], relation: &dyn Relation) -> Compared {
     let common = vars.len().min(values.len());
     let typed = |i: &usize| !are_vars(&[vars[*i]]) || !are_units(&[values[*i]]);
     if let Some(cut) = (0..common).find(typed) {
@@ -151,21 +179,26 @@ fn set_list(answer: &Answer, vars: &[u32], values: &[u32], relation: &dyn Relati
 
 /// The sources have no tickets: each line is a set of theirs, up to the first that is none.
 fn tickets(answer: &Answer, text: &[u8], relation: &dyn Relation) -> Compared {
-    let given = ("given", (answer.number, answer.accepted));
-    let mut tally = 0;
+    let given = ("given", (answer.number, answer.accepted, answer.fresh));
+    let (mut tally, mut fresh) = (0, 0);
     for line in text.chunks(TICKET_LINE) {
         let (var, value) = match reading::ticket(line) {
-            Err(number) => return same("number and tally", given, ("line", (number, tally))),
+            Err(number) => {
+                return same("number and tally", given, ("line", (number, tally, fresh)))
+            }
             Ok(pair) => pair,
         };
+        let is_fresh = is_fresh(var, relation);
         if relation.set_var(var, value).is_none() {
             let refused = matches!(answer.number, 7 | 8);
             holds("7 or 8, as the source panics", refused, answer)?;
-            return same("tally", ("given", answer.accepted), ("source", tally));
+            let given = (answer.accepted, answer.fresh);
+            return same("tally", ("given", given), ("source", (tally, fresh)));
         }
         tally += 1;
+        fresh += usize::from(is_fresh);
     }
-    same("number and tally", given, ("source", (0, tally)))
+    same("number and tally", given, ("source", (0, tally, fresh)))
 }
 
 /// Counts and held words on both sides.

@@ -88,7 +88,7 @@ impl Run<'_> {
             let call = generator.call(&state);
             self.log.say(|| format!("{call:?}"));
             let answer = state.run(&call);
-            self.seen.answered(call.name(), answer.number);
+            self.seen.called(&call, &answer);
             let spelling = generator.rng.below(3);
             let compared = calls::compare(&call, &answer, width, &*relation, spelling)?;
             self.apart.room += u64::from(!compared);
@@ -142,7 +142,7 @@ impl plant::Side for Run<'_> {
 
     fn call(&mut self, state: &mut State, call: &Call) -> Outcome<Answer> {
         let answer = state.run(call);
-        self.seen.answered(call.name(), answer.number);
+        self.seen.called(call, &answer);
         Ok(answer)
     }
 

@@ -204,7 +204,8 @@ pub fn tables(last: usize) {
     );
     table(
         "set list",
-        "An item is a pair of a fresh wire and its value, in order. The source takes its lock (a stand-in) for each pair.",
+        "An item is a pair of a fresh wire and its value, in order. The source takes its lock (a stand-in) for each pair, and \
+         counts no fresh ones.",
         last,
         set_list,
     );
@@ -466,7 +467,8 @@ fn set_list(items: usize) -> Line {
         || unset(items),
         |slots| {
             let tally = sfr::set_vars(rel, slots, &vars, &values);
-            assert_eq!((tally.number, tally.accepted), (0, items as u32));
+            let tally = (tally.number, tally.accepted, tally.fresh);
+            assert_eq!(tally, (0, items as u32, items as u32));
         },
     );
     let source = timed(

@@ -168,8 +168,8 @@ fn set(items: usize) -> Line {
             let (allocator, (rel, _)) = (plant.allocator, &plant.mixers[index]);
             for i in part(index) {
                 let (slots, var, value) = (&mut plant.slots, vars[i], values[i]);
-                let number = sfr::set_var_on(allocator, index as u32, *rel, slots, var, value);
-                assert_eq!(number, 0);
+                let answer = sfr::set_var_on(allocator, index as u32, *rel, slots, var, value);
+                assert_eq!((answer.number, answer.fresh), (0, true));
             }
         },
         items as u32,

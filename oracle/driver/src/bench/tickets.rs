@@ -29,12 +29,13 @@ fn tickets(items: usize) -> Line {
         || unset(items),
         |slots| {
             let tally = sfr::set_tickets(rel, slots, &text);
-            assert_eq!((tally.number, tally.accepted), (0, items));
+            let tally = (tally.number, tally.accepted, tally.fresh);
+            assert_eq!(tally, (0, items, items));
         },
     );
     let source = timed(
         || unset(items),
-        |slots| assert_eq!(plain(rel, slots, &text), (0, items)),
+        |slots| assert_eq!(plain(rel, slots, &text), (0, items, items)),
     );
     let [library, source] = best([library, source]);
     Line {
@@ -45,29 +46,31 @@ fn tickets(items: usize) -> Line {
     }
 }
 
-/// The call as a plain loop: the number, and how many lines were accepted.
-fn plain(rel: sfr::Relation, slots: &mut [u32], text: &[u8]) -> (u32, usize) {
+/// The call as a plain loop: the number, how many lines were accepted, and how many of them were
+/// fresh.
+fn plain(rel: sfr::Relation, slots: &mut [u32], text: &[u8]) -> (u32, usize, usize) {
     let most = sfr::MAX_COUNT as usize;
     let vars = rel.vars_count as usize;
     if !(1..=sfr::MAX_WIDTH).contains(&rel.width) {
-        return (1, 0);
+        return (1, 0, 0);
     }
     if slots.len() > most || !(1..=slots.len()).contains(&vars) {
-        return (2, 0);
+        return (2, 0, 0);
     }
     let slots = &mut slots[..vars];
-    let mut accepted = 0;
+    let (mut accepted, mut fresh) = (0, 0);
     for line in text.chunks(24) {
-        if let Err(number) = set(slots, line) {
-            return (number, accepted);
+        match set(slots, line) {
+            Err(number) => return (number, accepted, fresh),
+            Ok(first) => fresh += usize::from(first),
         }
         accepted += 1;
     }
-    (0, accepted)
+    (0, accepted, fresh)
 }
 
-/// One line; the slots are those of allocated wires.
-fn set(slots: &mut [u32], line: &[u8]) -> Result<(), u32> {
+/// One line, and whether it is fresh; the slots are those of allocated wires.
+fn set(slots: &mut [u32], line: &[u8]) -> Result<bool, u32> {
     if line.len() != 24 || line[10] != b' ' || line[23] != b'\n' {
         return Err(40);
     }
@@ -82,11 +85,12 @@ fn set(slots: &mut [u32], line: &[u8]) -> Result<(), u32> {
     }
     let steps = steps as u32;
     let slot = slots.get_mut(var as usize).ok_or(7u32)?;
-    if *slot != sfr::UNASSIGNED && *slot != steps {
+    let fresh = *slot == sfr::UNASSIGNED;
+    if !fresh && *slot != steps {
         return Err(8);
     }
     *slot = steps;
-    Ok(())
+    Ok(fresh)
 }
 
 /// A column's number: blanks, then digits, of which the first is 0 in 0 alone.

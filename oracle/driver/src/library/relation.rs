@@ -54,7 +54,7 @@ impl Pair {
         });
         let library = side::run(&mut self.library, call);
         let reading = self.reading.run(call);
-        seen.answered(call.name(), reading.number);
+        seen.called(call, &reading);
         same("answer", ("library", library), ("reading", reading))?;
         self.compare()?;
         Ok(reading)

@@ -36,15 +36,21 @@ pub fn run(state: &mut State, call: &Call) -> Answer {
             state.keep(made)
         }
         Call::AllocateWith(values) => allocate_with(state, values),
-        Call::Set(var, value) => Answer {
-            number: called!(sfr, state, set_var, set_var_on, slots, *var, *value),
-            ..Answer::default()
-        },
+        Call::Set(var, value) => {
+            let answer: sfr::SetAnswer =
+                called!(sfr, state, set_var, set_var_on, slots, *var, *value);
+            Answer {
+                number: answer.number,
+                fresh: usize::from(answer.fresh),
+                ..Answer::default()
+            }
+        }
         Call::SetList(vars, values) => {
             let tally: sfr::Tally = called!(sfr, state, set_vars, set_vars_on, slots, vars, values);
             Answer {
                 number: tally.number,
                 accepted: tally.accepted as usize,
+                fresh: tally.fresh as usize,
                 ..Answer::default()
             }
         }
@@ -54,6 +60,7 @@ pub fn run(state: &mut State, call: &Call) -> Answer {
             Answer {
                 number: tally.number,
                 accepted: tally.accepted,
+                fresh: tally.fresh,
                 ..Answer::default()
             }
         }

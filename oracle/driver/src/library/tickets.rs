@@ -108,8 +108,9 @@ pub fn long() -> Compared {
     state.new_relation(1);
     state.run(&Call::Allocate(1));
     let answer = side::run(&mut state, &Call::Tickets(Text(text)));
-    let given = (answer.number, answer.accepted, &state.slots[..]);
-    let expected = (0, lines, &[0, 3][..]);
+    let tally = (answer.number, answer.accepted, answer.fresh);
+    let given = (tally, &state.slots[..]);
+    let expected = ((0, lines, 1), &[0, 3][..]);
     same("a long text", ("library", given), ("expected", expected))
 }
 

@@ -83,7 +83,7 @@ impl Run<'_> {
             let call = generator.call(&state);
             self.log.say(|| format!("{call:?}"));
             let answer = side::run(&mut state, &call);
-            self.seen.answered(call.name(), answer.number);
+            self.seen.called(&call, &answer);
             let spelling = generator.rng.below(3);
             calls::compare(&call, &answer, width, &*relation, spelling)?;
             calls::compare_states(&state, &*relation)?;

@@ -56,17 +56,24 @@ impl Stores {
     }
 
     fn set(&mut self, var: u32, value: u32) -> u32 {
-        set_var(self.rel, &mut self.slots, var, value)
+        self.set_answer(var, value).0
     }
 
-    fn set_list(&mut self, vars: &[u32], values: &[u32]) -> (u32, u32) {
+    fn set_answer(&mut self, var: u32, value: u32) -> (u32, bool) {
+        let answer = set_var(self.rel, &mut self.slots, var, value);
+        (answer.number, answer.fresh)
+    }
+
+    /// The number, and how many pairs were accepted and how many of them were fresh.
+    fn set_list(&mut self, vars: &[u32], values: &[u32]) -> (u32, u32, u32) {
         let tally = set_vars(self.rel, &mut self.slots, vars, values);
-        (tally.number, tally.accepted)
+        (tally.number, tally.accepted, tally.fresh)
     }
 
-    fn tickets(&mut self, text: &[u8]) -> (u32, usize) {
+    /// The same of lines.
+    fn tickets(&mut self, text: &[u8]) -> (u32, usize, usize) {
         let tally = set_tickets(self.rel, &mut self.slots, text);
-        (tally.number, tally.accepted)
+        (tally.number, tally.accepted, tally.fresh)
     }
 
     fn record(&mut self, input: &[u32], output: &[u32]) -> u32 {

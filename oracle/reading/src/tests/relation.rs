@@ -54,8 +54,8 @@ fn stores_of_more_than_2_to_30_words() {
     let answer = allocate_vars(rel, &mut slots[1..], 0);
     assert_eq!((answer.number, answer.first), (0, M));
     assert_eq!(allocate_vars(rel, &mut slots[1..], 1).number, 5);
-    assert_eq!(set_var(rel, &mut slots[1..], M - 1, 0), 0);
-    assert_eq!(set_var(rel, &mut slots[1..], M, 0), 3);
+    assert_eq!(set_var(rel, &mut slots[1..], M - 1, 0).number, 0);
+    assert_eq!(set_var(rel, &mut slots[1..], M, 0).number, 3);
     assert_eq!(value(rel, &slots[1..], M - 1).value, Some(0));
 }
 
@@ -90,20 +90,105 @@ fn set() {
 fn set_list() {
     let mut stores = Stores::new(1);
     stores.allocate(5);
-    assert_eq!(stores.set_list(&[], &[]), (0, 0));
-    assert_eq!(stores.set_list(&[1], &[]), (9, 0));
-    assert_eq!(stores.set_list(&[], &[P]), (9, 0));
+    assert_eq!(stores.set_list(&[], &[]), (0, 0, 0));
+    assert_eq!(stores.set_list(&[1], &[]), (9, 0, 0));
+    assert_eq!(stores.set_list(&[], &[P]), (9, 0, 0));
     // The refused pair comes before the lengths, and the pairs before it stay set.
-    assert_eq!(stores.set_list(&[1, 2, 9], &[7, 8, 9, 9]), (7, 2));
+    assert_eq!(stores.set_list(&[1, 2, 9], &[7, 8, 9, 9]), (7, 2, 2));
     assert_eq!(stores.slots[..4], [0, 7, 8, F]);
     // A repeat meets the value that the list itself has set.
-    assert_eq!(stores.set_list(&[3, 3, 3], &[4, 4, 5]), (8, 2));
+    assert_eq!(stores.set_list(&[3, 3, 3], &[4, 4, 5]), (8, 2, 1));
     // Unequal lengths leave every common pair set.
-    assert_eq!(stores.set_list(&[4, 5, 0], &[1, 2]), (9, 2));
+    assert_eq!(stores.set_list(&[4, 5, 0], &[1, 2]), (9, 2, 2));
     assert_eq!(stores.slots[..7], [0, 7, 8, 4, 1, 2, DIRT]);
-    assert_eq!(stores.set_list(&[4, M], &[P, 0]), (4, 0));
+    assert_eq!(stores.set_list(&[4, M], &[P, 0]), (4, 0, 0));
     stores.rel.width = 0;
-    assert_eq!(stores.set_list(&[4], &[1]), (1, 0));
+    assert_eq!(stores.set_list(&[4], &[1]), (1, 0, 0));
+}
+
+#[test]
+fn a_set_is_fresh_or_repeated() {
+    let mut stores = Stores::new(1);
+    stores.allocate(3);
+    let cases = [
+        // Wire 0 has its value from the start.
+        (0, 0, (0, false)),
+        (0, 5, (8, false)),
+        (1, 7, (0, true)),
+        (1, 7, (0, false)),
+        (1, 6, (8, false)),
+        (1, 7, (0, false)),
+        // By the wire, not by the value: 7 and 0 are known, and 0 isn't F.
+        (2, 7, (0, true)),
+        (3, 0, (0, true)),
+        (3, 0, (0, false)),
+        (4, 0, (7, false)),
+        (2, P, (4, false)),
+        (M, 0, (3, false)),
+    ];
+    for (var, value, answer) in cases {
+        assert_eq!(stores.set_answer(var, value), answer, "{var} to {value}");
+    }
+    // Wires allocated later have no value, and a slot behind the count, F as it is, is nobody's.
+    stores.allocate(1);
+    stores.slots[5] = F;
+    assert_eq!(stores.set_answer(5, 1), (7, false));
+    for (width, vars_count, number) in [(0, 5, 1), (1, 0, 2), (1, 33, 2)] {
+        let rel = stores.rel;
+        (stores.rel.width, stores.rel.vars_count) = (width, vars_count);
+        assert_eq!(stores.set_answer(4, 1), (number, false));
+        stores.rel = rel;
+    }
+    assert_eq!(stores.set_answer(4, 1), (0, true));
+}
+
+#[test]
+fn fresh_pairs_of_a_set_list() {
+    let five = || {
+        let mut stores = Stores::new(1);
+        stores.allocate(5);
+        assert_eq!(stores.set(1, 7), 0);
+        stores
+    };
+    let cases: [(&[u32], &[u32], (u32, u32, u32)); 14] = [
+        (&[2, 3], &[7, 7], (0, 2, 2)),
+        (&[1], &[7], (0, 1, 0)),
+        (&[0], &[0], (0, 1, 0)),
+        (&[0, 1, 2], &[0, 7, 0], (0, 3, 1)),
+        // The first occurrence alone is fresh, wherever the second stands.
+        (&[2, 2], &[9, 9], (0, 2, 1)),
+        (&[2, 3, 2, 3, 2], &[9, 8, 9, 8, 9], (0, 5, 2)),
+        // A refused pair ends the count, whatever follows.
+        (&[2, 1, 3], &[9, 8, 9], (8, 1, 1)),
+        (&[2, 2, 3], &[9, 8, 9], (8, 1, 1)),
+        (&[6, 2], &[9, 9], (7, 0, 0)),
+        (&[2, 1, M, 3], &[9, 7, 0, 1], (3, 2, 1)),
+        (&[2, 3, 3, 4], &[9, 9, P, 0], (4, 2, 2)),
+        // 9 comes after every common pair.
+        (&[2, 1, 3], &[9, 7], (9, 2, 1)),
+        (&[2], &[9, 9], (9, 1, 1)),
+        (&[2], &[], (9, 0, 0)),
+    ];
+    for (vars, values, answer) in cases {
+        let case = format!("{vars:?} to {values:?}");
+        assert_eq!(five().set_list(vars, values), answer, "{case}");
+        // Again: every accepted pair is a repeat.
+        let mut stores = five();
+        stores.set_list(vars, values);
+        let (number, accepted, _) = answer;
+        assert_eq!(
+            stores.set_list(vars, values),
+            (number, accepted, 0),
+            "{case}"
+        );
+    }
+    for (width, vars_count, number) in [(25, 6, 1), (1, 0, 2), (1, 33, 2)] {
+        let mut stores = five();
+        (stores.rel.width, stores.rel.vars_count) = (width, vars_count);
+        assert_eq!(stores.set_list(&[2, 3], &[9, 9]), (number, 0, 0));
+    }
+    let long = vec![0; M as usize + 1];
+    assert_eq!(five().set_list(&long, &[]), (2, 0, 0));
 }
 
 #[test]

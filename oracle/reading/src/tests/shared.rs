@@ -65,8 +65,13 @@ impl Plant {
     }
 
     fn set(&mut self, index: u32, var: u32, value: u32) -> u32 {
+        self.set_answer(index, var, value).0
+    }
+
+    fn set_answer(&mut self, index: u32, var: u32, value: u32) -> (u32, bool) {
         let rel = self.mixers[index as usize].rel;
-        set_var_on(self.allocator, index, rel, &mut self.slots, var, value)
+        let answer = set_var_on(self.allocator, index, rel, &mut self.slots, var, value);
+        (answer.number, answer.fresh)
     }
 
     fn mint(&mut self, index: u32, input: &[u32]) -> (u32, u32) {
@@ -130,7 +135,7 @@ fn numbers(allocator: VarAllocator, index: u32, rel: SharedRelation, len: usize)
     let (mut publics, mut scratch) = ([DIRT], [DIRT]);
     let numbers = [
         allocate_vars_on(allocator, index, rel, &mut slots, u32::MAX).number,
-        set_var_on(allocator, index, rel, &mut slots, M, P),
+        set_var_on(allocator, index, rel, &mut slots, M, P).number,
         set_vars_on(allocator, index, rel, &mut slots, &[M], &[0, 0]).number,
         set_tickets_on(allocator, index, rel, &mut slots, b"no ticket").number,
         add_permutation_on(allocator, index, rel, &mut words, &[M; 30], &[]).number,
@@ -398,11 +403,13 @@ fn a_set_is_everybodys() {
     let mut plant = Plant::opened(8, &[(1, 4), (3, 4)]);
     plant.allocate(0, 1);
     plant.allocate(1, 1);
-    assert_eq!(plant.set(1, 1, 6), 0);
-    assert_eq!(plant.set(0, 1, 6), 0);
-    assert_eq!(plant.set(0, 1, 7), 8);
-    assert_eq!(plant.set(0, 2, 9), 0);
-    assert_eq!(plant.set(0, 3, 9), 7);
+    // What one has set is a repeat for the other, on whosesoever wire.
+    assert_eq!(plant.set_answer(1, 1, 6), (0, true));
+    assert_eq!(plant.set_answer(0, 1, 6), (0, false));
+    assert_eq!(plant.set_answer(0, 1, 7), (8, false));
+    assert_eq!(plant.set_answer(0, 2, 9), (0, true));
+    assert_eq!(plant.set_answer(1, 2, 9), (0, false));
+    assert_eq!(plant.set_answer(0, 3, 9), (7, false));
     for index in [0, 1] {
         let rel = plant.mixers[index as usize].rel;
         assert_eq!(
@@ -426,13 +433,31 @@ fn lines_and_pairs_that_stay() {
     let rel = plant.mixers[1].rel;
     let text = b"         1          274\n         2          275\n         9            0\n";
     let tally = set_tickets_on(plant.allocator, 1, rel, &mut plant.slots, text);
-    assert_eq!((tally.number, tally.accepted), (7, 2));
+    assert_eq!((tally.number, tally.accepted, tally.fresh), (7, 2, 2));
     let (vars, values) = ([2, 3, 3], [6, 1, 2, 2]);
     let tally = set_vars_on(plant.allocator, 1, rel, &mut plant.slots, &vars, &values);
-    assert_eq!((tally.number, tally.accepted), (8, 2));
+    assert_eq!((tally.number, tally.accepted, tally.fresh), (8, 2, 1));
     assert_eq!(plant.slots[..5], [0, 5, 6, 1, DIRT]);
-    let tally = set_vars_on(plant.allocator, 2, rel, &mut plant.slots, &vars, &values);
-    assert_eq!((tally.number, tally.accepted), (42, 0));
+    let tally = set_vars_on(plant.allocator, 0, rel, &mut plant.slots, &vars, &values);
+    assert_eq!((tally.number, tally.accepted, tally.fresh), (8, 2, 0));
+    let tally = set_tickets_on(plant.allocator, 0, rel, &mut plant.slots, text);
+    assert_eq!((tally.number, tally.accepted, tally.fresh), (7, 2, 0));
+}
+
+#[test]
+fn nothing_is_fresh_at_42() {
+    let mut plant = Plant::opened(8, &[(1, 4)]);
+    plant.allocate(0, 3);
+    let (allocator, rel, slots) = (plant.allocator, plant.mixers[0].rel, &mut plant.slots);
+    let answer = set_var_on(allocator, 1, rel, slots, 1, 6);
+    assert_eq!((answer.number, answer.fresh), (42, false));
+    let tally = set_vars_on(allocator, 1, rel, slots, &[1, 2], &[6, 6]);
+    assert_eq!((tally.number, tally.accepted, tally.fresh), (42, 0, 0));
+    let text = b"         1          274\n";
+    let tally = set_tickets_on(allocator, 1, rel, slots, text);
+    assert_eq!((tally.number, tally.accepted, tally.fresh), (42, 0, 0));
+    let tally = set_tickets_on(allocator, 0, rel, slots, text);
+    assert_eq!((tally.number, tally.accepted, tally.fresh), (0, 1, 1));
 }
 
 #[test]

@@ -14,13 +14,15 @@ fn five() -> Stores {
     stores
 }
 
-/// Nothing but these slots is set after the call, and the answer is the number and the count.
+/// Nothing but these slots is set after the call, and the answer is the number and the count. They
+/// are of wires that had no value, so that as many lines were fresh.
 fn left(text: &[u8], set: &[(usize, u32)], answer: (u32, usize)) {
     let mut stores = five();
     let mut expected = stores.slots.clone();
     for &(var, value) in set {
         expected[var] = value;
     }
+    let answer = (answer.0, answer.1, set.len());
     assert_eq!(stores.tickets(text), answer, "{}", text.escape_ascii());
     assert_eq!(stores.slots, expected, "{}", text.escape_ascii());
 }
@@ -186,18 +188,44 @@ fn records_and_slots_first() {
         (stores.rel.width, stores.rel.vars_count) = (width, vars_count);
         let before = stores.slots.clone();
         for text in [&text, &b"bad"[..], b""] {
-            assert_eq!(stores.tickets(text), (number, 0));
+            assert_eq!(stores.tickets(text), (number, 0, 0));
         }
         assert_eq!(stores.slots, before);
     }
     stores.rel.vars_count = 1;
     stores.slots = vec![0; M as usize + 1];
-    assert_eq!(stores.tickets(&line(0, 0)), (2, 0));
+    assert_eq!(stores.tickets(&line(0, 0)), (2, 0, 0));
     stores.slots.pop();
-    assert_eq!(stores.tickets(&line(0, 0)), (0, 1));
+    assert_eq!(stores.tickets(&line(0, 0)), (0, 1, 0));
     stores.rel.vars_count = M;
-    assert_eq!(stores.tickets(&line(u64::from(M) - 1, 24)), (0, 1));
+    assert_eq!(stores.tickets(&line(u64::from(M) - 1, 24)), (0, 1, 0));
     // A slot that is neither a unit nor F is taken by no step count.
     stores.slots[1] = DIRT;
-    assert_eq!(stores.tickets(&text), (8, 0));
+    assert_eq!(stores.tickets(&text), (8, 0, 0));
+}
+
+#[test]
+fn readings_that_are_repeats() {
+    let text = |pairs: &[(u64, u64)]| -> Vec<u8> {
+        let lines = pairs.iter().map(|&(var, grams)| line(var, grams));
+        lines.collect::<Vec<_>>().concat()
+    };
+    let mut stores = five();
+    assert_eq!(stores.set(1, 3), 0);
+    // Other grams, the same steps; a wire of an earlier call, of an earlier line, and wire 0.
+    let lines = text(&[(1, 149), (2, 25), (2, 74), (0, 24), (3, 0)]);
+    assert_eq!(stores.tickets(&lines), (0, 5, 2));
+    assert_eq!(stores.tickets(&lines), (0, 5, 0));
+    // A refused line ends the count: 8, 7, 41, and a line cut short.
+    let cases = [
+        (text(&[(3, 0), (4, 50), (1, 50), (2, 50)]), (8, 2, 1)),
+        (text(&[(4, 50), (4, 50), (5, 50), (4, 50)]), (7, 2, 1)),
+        (text(&[(4, 50), (2, 999_999_999_999)]), (41, 1, 1)),
+        (text(&[(4, 50), (4, 50)])[..47].to_vec(), (40, 1, 1)),
+    ];
+    for (text, answer) in cases {
+        assert_eq!(stores.clone().tickets(&text), answer);
+    }
+    stores.rel.width = 0;
+    assert_eq!(stores.tickets(&line(4, 50)), (1, 0, 0));
 }
