@@ -3,7 +3,9 @@
 // The numbers are two arguments and then a record. The words of an answer are the number, a value, a record, 0 where what
 // the call's own function compares is as the sample has it, else 1, and last what a shared allocator adds to a record.
 
+use crate::sample::low;
 use crate::sample::word;
+use allocator::Set;
 use allocator::VarValue;
 use instance::PermutationInstance;
 use limits::Outcome;
@@ -105,6 +107,11 @@ pub(crate) fn allocated(r: Allocated, same: bool) -> [u32; SIZE] {
         First::Var(x) => with_relation(0, x, r.relation, same),
         First::Refused(k) => with_relation(k, 0, r.relation, same),
     }
+}
+
+// The number, 0, and 1 where the set is fresh.
+pub(crate) fn set_answer(s: Set) -> [u32; SIZE] {
+    three(allocator::set_no(s), 0, low(allocator::set_fresh(s)))
 }
 
 // The number, the value or 0, and 1 where there is one.

@@ -6,6 +6,7 @@ use crate::answer::looked;
 use crate::answer::number;
 use crate::answer::recorded;
 use crate::answer::relation;
+use crate::answer::set_answer;
 use crate::answer::three;
 use crate::sample::ONE;
 use crate::sample::SECOND;
@@ -22,11 +23,11 @@ use allocator::FieldVar;
 use baby_bear::BabyBearUnit;
 use permutation::IsAllocated;
 
-// 10: record, slots, text; the number, how many lines were accepted, the slots.
+// 10: record, slots, text; the number, how many lines were accepted, how many of those were fresh, the slots.
 fn set_tickets(given: &[u32], slots: &mut [u32], text: &[u8]) -> [u32; SIZE] {
     let set = tickets::set_tickets(relation(given), slots, text);
     let outcome = set.outcome;
-    three(number(outcome), low(set.accepted), 0)
+    three(number(outcome), low(set.accepted), low(set.fresh))
 }
 
 // 11: width, slots; the number, the record, the slots.
@@ -39,17 +40,16 @@ fn allocate_vars(given: &[u32], slots: &mut [u32], n: u32) -> [u32; SIZE] {
     allocated(permutation::allocate_vars(relation(given), slots, n), true)
 }
 
-// 13: wire, unit, record, slots; the number, the slots.
+// 13: wire, unit, record, slots; the number, 0, 1 where it is fresh, the slots.
 fn set_var(given: &[u32], slots: &mut [u32], var: u32, value: u32) -> [u32; SIZE] {
-    let outcome = permutation::set_var(relation(given), slots, FieldVar(var), BabyBearUnit(value));
-    three(number(outcome), 0, 0)
+    set_answer(permutation::set_var(relation(given), slots, FieldVar(var), BabyBearUnit(value)))
 }
 
-// 14: record, slots, wires, units; the number, how many pairs were accepted, the slots.
+// 14: record, slots, wires, units; the number, how many pairs were accepted, how many of those were fresh, the slots.
 fn set_vars(given: &[u32], slots: &mut [u32], vars: &[u32], values: &[u32]) -> [u32; SIZE] {
     let set = permutation::set_vars(relation(given), slots, vars, values);
     let outcome = set.outcome;
-    three(number(outcome), set.accepted, 0)
+    three(number(outcome), set.accepted, set.fresh)
 }
 
 // 15: record, queries, inputs, outputs; the number, the record, the queries.

@@ -6,6 +6,7 @@
 use crate::answer::SIZE;
 use crate::answer::looked;
 use crate::answer::number;
+use crate::answer::set_answer;
 use crate::answer::three;
 use crate::answer::with_record;
 use crate::sample::ONE;
@@ -87,7 +88,7 @@ fn allocated(r: AllocatedOn, same: bool) -> [u32; SIZE] {
     }
 }
 
-// 10: as 10; the number, how many lines were accepted, the slots.
+// 10: as 10; the number, how many lines were accepted, how many of those were fresh, the slots.
 fn set_tickets_on(given: &[u32], slots: &mut [u32], text: &[u8]) -> [u32; SIZE] {
     let set = shared_vars::set_tickets_on(
         allocator(given),
@@ -97,7 +98,7 @@ fn set_tickets_on(given: &[u32], slots: &mut [u32], text: &[u8]) -> [u32; SIZE] 
         text,
     );
     let outcome = set.outcome;
-    three(number(outcome), low(set.accepted), 0)
+    three(number(outcome), low(set.accepted), low(set.fresh))
 }
 
 // 11: quota, width, allocator, slots; the number, the relation's number or 0, both records, the slots.
@@ -115,20 +116,19 @@ fn allocate_vars_on(given: &[u32], slots: &mut [u32], n: u32) -> [u32; SIZE] {
     )
 }
 
-// 13: as 13; the number, the slots.
+// 13: as 13; the number, 0, 1 where it is fresh, the slots.
 fn set_var_on(given: &[u32], slots: &mut [u32], var: u32, value: u32) -> [u32; SIZE] {
-    let outcome = shared_vars::set_var_on(
+    set_answer(shared_vars::set_var_on(
         allocator(given),
         index(given),
         relation(given),
         slots,
         FieldVar(var),
         BabyBearUnit(value),
-    );
-    three(number(outcome), 0, 0)
+    ))
 }
 
-// 14: as 14; the number, how many pairs were accepted, the slots.
+// 14: as 14; the number, how many pairs were accepted, how many of those were fresh, the slots.
 fn set_vars_on(given: &[u32], slots: &mut [u32], vars: &[u32], values: &[u32]) -> [u32; SIZE] {
     let set = shared_vars::set_vars_on(
         allocator(given),
@@ -139,7 +139,7 @@ fn set_vars_on(given: &[u32], slots: &mut [u32], vars: &[u32], values: &[u32]) -
         values,
     );
     let outcome = set.outcome;
-    three(number(outcome), set.accepted, 0)
+    three(number(outcome), set.accepted, set.fresh)
 }
 
 // 15: as 15; the number, both records, the queries.

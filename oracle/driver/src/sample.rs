@@ -20,7 +20,7 @@ use std::{
 };
 
 use crate::{
-    calls::DIRT,
+    calls::{Answer, Call, DIRT},
     leaf::{self, Item, Kind, ROW_ENDS},
     options::Options,
     rng::{Rng, EDGES},
@@ -171,13 +171,14 @@ pub fn run(options: &Options) -> bool {
     true
 }
 
-/// The words so far, how many cases each operation has, and how often it expects which
-/// number.
+/// The words so far, how many cases each operation has, how often it expects which number, and
+/// how often what of a set, a set list or a ticket text is fresh.
 #[derive(Default)]
 struct Sample {
     words: Vec<u32>,
     cases: BTreeMap<u32, u64>,
     numbers: BTreeMap<(u32, u32), u64>,
+    fresh: BTreeMap<(u32, &'static str, &'static str), u64>,
 }
 
 impl Sample {
@@ -205,13 +206,28 @@ impl Sample {
         self.words.extend(case.words());
     }
 
-    /// A line for each operation: its cases, and how often which number is expected.
+    /// Counts what of a set, a set list or a ticket text is fresh.
+    fn count_fresh(&mut self, operation: u32, call: &Call, answer: &Answer) {
+        if let Some(kind) = call.freshness(answer) {
+            let times = self
+                .fresh
+                .entry((operation, call.name(), kind))
+                .or_default();
+            *times += 1;
+        }
+    }
+
+    /// A line for each operation: its cases, and how often which number is expected; and one for
+    /// each kind of set, set list and ticket text.
     fn tell(&self) {
         for (operation, cases) in &self.cases {
             let numbers = self.numbers.iter().filter(|(key, _)| key.0 == *operation);
             let numbers = numbers.map(|((_, number), times)| format!(" {number}:{times}"));
             let numbers: String = numbers.collect();
             eprintln!("operation {operation:<2} {cases:>5} cases {numbers}");
+        }
+        for ((operation, name, kind), times) in &self.fresh {
+            eprintln!("operation {operation:<2} {times:>5} of {name}: {kind}");
         }
     }
 

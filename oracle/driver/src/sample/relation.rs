@@ -79,9 +79,11 @@ impl Sample {
         let case = handed_in(&state, call);
         let answer = state.run(call);
         let number = answer.number;
+        self.count_fresh(case.operation, call, &answer);
         let case = match call {
-            Call::Set(..) => case.answer(&[number]),
-            Call::SetList(..) | Call::Tickets(_) => case.answer(&[number, answer.accepted as u32]),
+            Call::Set(..) | Call::SetList(..) | Call::Tickets(_) => {
+                case.answer(&[number, answer.accepted as u32, answer.fresh as u32])
+            }
             Call::Value(_) => {
                 let (some, value) = (answer.value.is_some(), answer.value.unwrap_or(0));
                 case.answer(&[number, value, u32::from(some)])
@@ -172,6 +174,9 @@ impl Sample {
         ];
         for call in calls {
             self.call(fresh(8), &call);
+        }
+        for call in repeats() {
+            self.call(some_set(), &call);
         }
         // The count of equations has to fit the store by itself, beside the used words.
         for (equations, words) in [(1, 0), (4, 0), (4, 8), (5, 0), (5, 8), (0, 9)] {
@@ -297,6 +302,28 @@ pub fn fresh(len: usize) -> State {
     let mut state = State::sized(len, len, len);
     state.new_relation(1);
     state
+}
+
+/// A relation of four wires, of which wires 0 and 1 have values.
+pub fn some_set() -> State {
+    let mut state = fresh(5);
+    state.run(&Call::Allocate(3));
+    state.run(&Call::Set(1, 7));
+    state
+}
+
+/// Sets of such wires that are fresh, repeated or both, lists that are then refused, and lists of
+/// which no pair is tried.
+pub fn repeats() -> [Call; 7] {
+    [
+        Call::Set(1, 7),
+        Call::Set(2, 7),
+        Call::SetList(vec![2, 3], vec![7, 7]),
+        Call::SetList(vec![0, 1, 2, 2], vec![0, 7, 0, 0]),
+        Call::SetList(vec![2, 2, 1, 3], vec![9, 9, 8, 9]),
+        Call::SetList(vec![1, 2, 3], vec![7, 9]),
+        Call::SetList(vec![2, 3], vec![]),
+    ]
 }
 
 /// Words left over behind what a call needs: none, one, or a few.

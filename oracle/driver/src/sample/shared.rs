@@ -10,7 +10,7 @@ use reading::{Relation, Share, MAX_COUNT, MAX_RELATIONS};
 use super::{
     case::{FIRST, FIRST_AFTER},
     instance::small_stores,
-    relation::{accepted_call, answered, case_of, fault, fresh, NO_WIDTHS},
+    relation::{accepted_call, answered, case_of, fault, fresh, repeats, some_set, NO_WIDTHS},
     tickets::tickets_call,
     trace::small_width,
     Sample,
@@ -54,7 +54,8 @@ impl Sample {
     }
 
     /// The cases that every sample has: every call of a number that is opened, that isn't, and
-    /// on allocators that no list makes; 5, 43 and 6 in turn; and openings.
+    /// on allocators that no list makes; sets that are fresh or repeated; 5, 43 and 6 in turn; and
+    /// openings.
     pub fn fixed_shared(&mut self) {
         let calls = [
             Call::Allocate(1),
@@ -82,6 +83,14 @@ impl Sample {
             Call::Tickets(Text(line(0, 999_999_999_999))),
         ] {
             let mut state = fresh(4);
+            state.share = share(1, 2, 0, 0);
+            self.call(state, &call);
+        }
+        // What another relation has set is a repeat.
+        let [one, two] = [line(1, 350), line(2, 350)];
+        let text = Call::Tickets(Text([one, two.clone(), two, line(2, 0)].concat()));
+        for call in repeats().into_iter().chain([text]) {
+            let mut state = some_set();
             state.share = share(1, 2, 0, 0);
             self.call(state, &call);
         }
