@@ -75,7 +75,7 @@ int main(int argc, char **argv) {
         at = sfr_allocate_permutation(at.relation, slots, vars, queries, cells, inputs, WIDTH);
         accepted("mint", at.number);
         const sfr_weighted terms[] = {{at.first, 1}, {at.first + 1, PRIME - 1}};
-        accepted("set", sfr_set_var(at.relation, slots, vars, at.first, 5));
+        accepted("set", sfr_set_var(at.relation, slots, vars, at.first, 5).number);
         at = sfr_add_equation(at.relation, equations, words, terms, 2, 0);
         accepted("equation", at.number);
     }

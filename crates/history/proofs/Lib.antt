@@ -14,6 +14,7 @@ pub mod Keeps
 pub mod Lengths
 pub mod Fresh
 pub mod Told
+pub mod Grown
 pub mod Gate
 pub mod Made
 pub mod Checks
