@@ -10,11 +10,11 @@ use native.Mathlib.Omega.{arith}
 use borrow.Author.Tests.{eq-eqb, ne-eqb, eqb-true, eqb-false, ltb-true}
 use lib.Dec.{eqb}
 use lib.ListN.{length}
-use Rattle.limits.specs.Questions.{pick, firstNo, onYes}
+use Rattle.limits.specs.Questions.{pick, onYes}
 use Rattle.limits.proofs.Questions.{puts, puts-yes}
 use Rattle.words.specs.Store.{All}
 use Rattle.allocator.specs.Slots.{Pair, SetRun}
-use Rattle.permutation.specs.Left.{setVarLeft}
+use Rattle.permutation.specs.Left.{setVarLeft, pairLeft, pairsSet}
 use Rattle.permutation.proofs.Left.{newly, RunLeft}
 use Rattle.instance.specs.Parts.{pairVars, has}
 use Rattle.history.specs.Ledger.{Ledger}
@@ -95,31 +95,29 @@ pub run-tallies : (n : ℕ) (sets ps : List Pair) (k : ℕ) (r : SetRun) → Run
     → (a : Answer) → a .accepted ≡ r .accepted → a .fresh ≡ r .fresh → Tallies n sets ps a
 run-tallies n sets ps k r l a e f = record { accepted = e ∙ l .accepted; fresh = f ∙ l .fresh ∙ newly-count n sets ps (l .below) }
 
--- ---- one set along the list: fresh exactly where no set of the ledger names its wire
-module _ (w : ℕ) (s : State) (l : Ledger) (p : Pair) (t : Told w s l (Set p)) (a : Accepted (answer s (Set p) .outcome)) where
-  left-no : firstNo (setVarLeft (l .count) (l .sets) p) ≡ 0
-  unfolding leftWith
-  left-no = accepted-no _ (sym (t .answers .by-ledger) ∙ a)
-
-  one-fresh : answer s (Set p) .fresh ≡ pick (has (pairVars (l .sets)) (p .var)) 0 1
-  unfolding setBy
+-- ---- one set that the ledger lets through: fresh exactly where no set of the ledger names its wire
+module _ (n : ℕ) (sets : List Pair) (p : Pair) (z : pairLeft n sets p ≡ 0) (f : ℕ) (e : f ≡ freshCount n sets (pairsSet n sets (p ∷ []))) where
+  one-fresh : f ≡ pick (has (pairVars sets) (p .var)) 0 1
   one-fresh =
-      let n = l .count in
-      let sets = l .sets in
-      let below : p .var < n = ltb-true _ _ (puts-yes (setVarLeft n sets p) left-no 7 _ tt (search puts depth 20)) in
+      let below : p .var < n = ltb-true _ _ (puts-yes (setVarLeft n sets p) z 7 _ tt (search puts depth 20)) in
       let one = one-named (p .var) [] (pairVars sets) n below in
-      t .fresh
-      ∙ ap (λ (k : ℕ). freshCount n sets (onYes k (p ∷ []) [])) left-no
-      ∙ omega (arith, one, none-pass 0 n)
+      e ∙ ap (λ (k : ℕ). freshCount n sets (onYes k (p ∷ []) [])) z ∙ omega (arith, one, none-pass 0 n)
 
-  pub fresh-unnamed : (answer s (Set p) .fresh ≡ 1) ↔ (has (pairVars (l .sets)) (p .var) ≡ false)
-  fresh-unnamed =
-      let b = by (has (pairVars (l .sets)) (p .var)) in
-      ((λ e. b .0 (sym one-fresh ∙ e)), (λ e. one-fresh ∙ b .1 e))
+  pub one-unnamed : (f ≡ 1) ↔ (has (pairVars sets) (p .var) ≡ false)
+  one-unnamed =
+      let b = by (has (pairVars sets) (p .var)) in
+      ((λ u. b .0 (sym one-fresh ∙ u)), (λ u. one-fresh ∙ b .1 u))
     where
       by : (b : Bool) → (pick {A = ℕ} b 0 1 ≡ 1) ↔ (b ≡ false)
-      by true = ((λ e. absurd (omega (arith, e))), (λ e. cc))
-      by false = ((λ e. refl), (λ e. refl))
+      by true = ((λ u. absurd (omega (arith, u))), (λ u. cc))
+      by false = ((λ u. refl), (λ u. refl))
+
+-- along the list
+pub fresh-unnamed : (w : ℕ) (s : State) (l : Ledger) (p : Pair) → Told w s l (Set p) → Accepted (answer s (Set p) .outcome)
+    → (answer s (Set p) .fresh ≡ 1) ↔ (has (pairVars (l .sets)) (p .var) ≡ false)
+unfolding leftWith setBy
+fresh-unnamed w s l p t a =
+    one-unnamed (l .count) (l .sets) p (accepted-no _ (sym (t .answers .by-ledger) ∙ a)) _ (t .fresh)
 
 -- ---- whatever number is answered as fresh, the ledger is the same
 pub fresh-unnoted : (w : ℕ) (l : Ledger) (c : Call) (a : Answer) (f : ℕ)

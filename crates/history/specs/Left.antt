@@ -1,5 +1,5 @@
--- Which questions can still say no on a state that a list of calls came to, at the gate and after it: by the
--- ledger and the lengths of what is lent alone. Assumes nothing.
+-- Which questions can still say no on a state that a list of calls came to, at the gate and after it, and what a call
+-- sets there: by the ledger and the lengths of what is lent alone. Assumes nothing.
 use Prim.Native.Nat.{ℕ, zero, suc, _+_, _*_}
 use mathlib.Core.Bool.{Bool, not, _&&_}
 use mathlib.Core.List.{List, [], _∷_, _++_}

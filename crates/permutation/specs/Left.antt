@@ -1,5 +1,5 @@
--- What a call on the wires can still say no to along a list of calls from an accepted fresh, by a book of the calls
--- and the sizes alone: the wire count n, the sets, and the stores' lengths. Numbers 1, 2 of the counts and 2 of the
+-- What a call on the wires can still say no to along a list of calls from an accepted fresh, and what it sets, by a book
+-- of the calls and the sizes alone: the wire count n, the sets, and the stores' lengths. Numbers 1, 2 of the counts and 2 of the
 -- slots are never answered there. Assumes nothing.
 use Prim.Native.Nat.{ℕ}
 use mathlib.Core.Bool.{Bool}

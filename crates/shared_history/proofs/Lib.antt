@@ -3,6 +3,7 @@ pub mod Fronts
 pub mod Stands
 pub mod Keeps
 pub mod Told
+pub mod Fresh
 pub mod Gate
 pub mod Theorem
 pub mod Looks

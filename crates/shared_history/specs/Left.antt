@@ -1,5 +1,5 @@
--- Which questions can still say no along a list of openings and calls: by the ledger and the lengths of what is lent
--- alone. Assumes nothing.
+-- Which questions can still say no along a list of openings and calls, and what a call sets: by the ledger and the lengths
+-- of what is lent alone. Assumes nothing.
 use Prim.Native.Nat.{ℕ}
 use mathlib.Core.List.{List, [], _∷_, _++_}
 use lib.Dec.{ltb}

@@ -1,5 +1,5 @@
--- What a ticket call can still say no to along a list of calls from an accepted fresh, by the wire count and the sets
--- of a book alone; 1 and 2 are never answered there. Assumes nothing.
+-- What a ticket call can still say no to along a list of calls from an accepted fresh, and what it sets, by the wire count
+-- and the sets of a book alone; 1 and 2 are never answered there. Assumes nothing.
 use Prim.Native.Nat.{ℕ}
 use mathlib.Core.List.{List}
 use Rattle.limits.specs.Questions.{firstNo}

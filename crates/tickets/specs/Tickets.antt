@@ -20,7 +20,8 @@ setTicketsAsksWith h rel slots text = relationFront h rel (length slots) ++ line
 abbrev pub setTicketsAsks : PermutationRelation → List ℕ → List ℕ → List Question
 setTicketsAsks = setTicketsAsksWith alone
 
--- the number, how many lines were accepted, how many of those were fresh, and the slots: nothing is tried where 1 or 2 says no
+-- the number, how many lines were accepted, how many of those were fresh, and the slots: nothing is tried where 1 or 2
+-- says no
 unfoldable pub setTicketsRun : PermutationRelation → List ℕ → List ℕ → SetRun
 setTicketsRun rel slots text = runAfter (firstNo (relationAsks rel (length slots))) (setLines (rel .vars) slots text) slots
 
