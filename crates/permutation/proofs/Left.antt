@@ -38,7 +38,7 @@ module _ (n : ℕ) (slots : List ℕ) (sets : List Pair) (o : HoldsSlots n slots
       ∙ ap (λ (q : Option ℕ). fits q (p .value)) (ap slotUnit (sym (getD-take n slots (p .var) unassigned h)) ∙ o .held (p .var))
 
   -- a pair is fresh where the sets give its wire nothing
-  pub fresh-is : (p : Pair) → p .var < n → _≡_ {A = ℕ} (pick (isFresh slots p) 1 0) (pick (isSome (look sets (p .var))) 0 1)
+  fresh-is : (p : Pair) → p .var < n → _≡_ {A = ℕ} (pick (isFresh slots p) 1 0) (pick (isSome (look sets (p .var))) 0 1)
   fresh-is p h =
       go (isFresh slots p) (getD slots (p .var) unassigned)
       ∙ ap (λ (q : Option ℕ). pick (isSome q) 0 1) (ap slotUnit (sym (getD-take n slots (p .var) unassigned h)) ∙ o .held (p .var))
