@@ -13,7 +13,7 @@ use lib.ListN.{length}
 use Rattle.limits.specs.Questions.{pick, onYes}
 use Rattle.limits.proofs.Questions.{puts, puts-yes}
 use Rattle.words.specs.Store.{All}
-use Rattle.allocator.specs.Slots.{Pair, SetRun}
+use Rattle.allocator.specs.Slots.{Pair, pair, SetRun}
 use Rattle.permutation.specs.Left.{setVarLeft, pairLeft, pairsSet}
 use Rattle.permutation.proofs.Left.{newly, RunLeft}
 use Rattle.instance.specs.Parts.{pairVars, has}
@@ -23,6 +23,10 @@ use Rattle.history.specs.Left.{leftWith, setBy, numberOf, freshCount}
 use Rattle.history.specs.Demand.{Accepted, Told}
 use Rattle.history.proofs.Outcomes.{accepted-no}
 use Rattle.history.proofs.Publics.{look-domain}
+
+-- ---- worked: of four wires the pairs name 1 and 2, and 2 twice; the sets name 0 and 1
+pub worked : freshCount 4 (pair 1 7 ∷ pair 0 0 ∷ []) (pair 1 7 ∷ pair 2 9 ∷ pair 2 9 ∷ []) ≡ 1
+worked = refl
 
 -- ---- counting wires
 -- none passes
