@@ -272,9 +272,10 @@ impl Generator {
         Call::AllocateWith((0..len).map(|_| self.rng.unit()).collect())
     }
 
-    /// Up to five wires, with a value for each.
+    /// Up to five wires, now and then up to forty, with a value for each.
     fn pairs(&mut self, state: &State) -> (Vec<u32>, Vec<u32>) {
-        let len = self.rng.below(6);
+        let most = if self.rng.once_in(16) { 40 } else { 5 };
+        let len = self.rng.below(most + 1);
         let (mut vars, mut values) = (Vec::new(), Vec::new());
         for _ in 0..len {
             let (var, value) = match vars.len() {

@@ -1,14 +1,15 @@
-//! Calls on stores of 2^30 words and of one more, where questions 2, 5 and 10 turn.
+//! Calls on stores of 2^30 words and of one more, where questions 2, 5 and 10 turn; and more wires
+//! set by one call than half a word counts.
 //!
 //! Zeroed pages take no memory until somebody writes to them, so such a store costs little;
 //! only the words at its two ends are compared.
 
-use reading::{Relation, Share, MAX_COUNT};
+use reading::{Relation, Share, MAX_COUNT, P, UNASSIGNED};
 
 use super::side;
 use crate::{
     calls::{Call, State},
-    compared::{same, Compared},
+    compared::{holds, same, Compared},
     tickets::{self, Text},
 };
 
@@ -30,6 +31,8 @@ const REL: Relation = Relation {
     words: 0,
 };
 const FEW: usize = 8;
+/// More than half a word counts, in stores of no such size.
+const MANY: u32 = 70_000;
 
 /// The calls of a relation with each of these shares, or alone.
 pub fn compare(shares: &[Option<Share>]) -> Compared {
@@ -42,6 +45,7 @@ pub fn compare(shares: &[Option<Share>]) -> Compared {
         for len in [LIMIT, LIMIT + 1] {
             compare_fresh(len, share)?;
         }
+        compare_many(share)?;
     }
     Ok(())
 }
@@ -62,6 +66,43 @@ fn compare_fresh(len: usize, share: Option<Share>) -> Compared {
     let what = format!("fresh over {len} slots, {share:?}");
     same(&what, ("library", given), ("reading", expected))?;
     compare_records(&what, &library, &reading)
+}
+
+/// Wire 0, and many wires by one list and by one text, whole and with a last one that is refused,
+/// each of them twice. All slots are F at first, wire 0's too, as no list of calls leaves it.
+fn compare_many(share: Option<Share>) -> Compared {
+    for last in [3, P] {
+        let vars: Vec<u32> = (0..MANY).collect();
+        let mut values = vec![3; vars.len()];
+        values[MANY as usize - 1] = last;
+        let pairs = vars.iter().zip(&values);
+        let lines = pairs.map(|(&var, &value)| tickets::line(var.into(), 50 * u64::from(value)));
+        let text = Text(lines.collect::<Vec<_>>().concat());
+        let calls = [
+            Call::Set(0, 3),
+            Call::SetList(vars, values),
+            Call::Tickets(text),
+        ];
+        for call in calls {
+            compare_twice(&call, share)?;
+        }
+    }
+    Ok(())
+}
+
+fn compare_twice(call: &Call, share: Option<Share>) -> Compared {
+    let mut library = zeroed([MANY as usize, 0, 0], share);
+    library.rel.vars_count = MANY;
+    library.slots.fill(UNASSIGNED);
+    let mut reading = library.clone();
+    for time in ["first", "again"] {
+        let what = format!("{} on {MANY} wires, {time}, {share:?}", call.name());
+        let (given, expected) = (side::run(&mut library, call), reading.run(call));
+        same(&what, ("library", given), ("reading", expected))?;
+        compare_records(&what, &library, &reading)?;
+        holds(&what, library.slots == reading.slots, "the slots differ")?;
+    }
+    Ok(())
 }
 
 fn compare_records(what: &str, library: &State, reading: &State) -> Compared {
