@@ -1,8 +1,8 @@
--- Of calls made one after the other: what each keeps is kept along the list, what is told of each is told along it, and
--- calls made in turn by code are the list's. Assumes nothing.
-use mathlib.Core.Path.{_≡_, refl, ap, _∙_}
-use mathlib.Core.List.{List, [], _∷_}
-use Rattle.history.specs.Along.{Logged, leftBy, logBy, ledgerBy, Along, PerformedBy, calledIn}
+-- Of calls made one after the other: what each keeps is kept along the list, what is told of each is told along it, what
+-- each shows as the ledger tells it is shown so along it, and calls made in turn by code are the list's. Assumes nothing.
+use mathlib.Core.Path.{_≡_, refl, ap, ap₂, _∙_}
+use mathlib.Core.List.{List, [], _∷_, map}
+use Rattle.history.specs.Along.{Logged, leftBy, logBy, ledgerBy, toldBy, Along, PerformedBy, calledIn}
 
 module _ {S L C A : Type 0} (answer : S → C → A) (after : S → C → S) (noted : L → C → A → L) (In : S → L → Type 0)
     (keeps : (c : C) (s : S) (l : L) → In s l → In (after s c) (noted l c (answer s c))) where
@@ -14,6 +14,14 @@ module _ {S L C A : Type 0} (answer : S → C → A) (after : S → C → S) (no
       → (cs : List C) (s : S) (l : L) → In s l → Along answer after noted Told s l cs
   along-told Told told [] s l i = tt
   along-told Told told (c ∷ cs) s l i = (told c s l i, along-told Told told cs (after s c) (noted l c (answer s c)) (keeps c s l i))
+
+module _ {S L C A R : Type 0} (answer : S → C → A) (after : S → C → S) (noted : L → C → A → L) (Told : S → L → C → Type 0)
+    (shows : A → R) (tells : L → C → R) (shown : (s : S) (l : L) (c : C) → Told s l c → shows (answer s c) ≡ tells l c) where
+  pub along-shown : (cs : List C) (s : S) (l : L) → Along answer after noted Told s l cs
+      → map (λ (e : Logged C A). shows (e .answered)) (logBy answer after s cs) ≡ toldBy noted tells l (logBy answer after s cs)
+  along-shown [] s l t = refl
+  along-shown (c ∷ cs) s l t =
+      ap₂ (λ (r : R) (rs : List R). r ∷ rs) (shown s l c (t .0)) (along-shown cs (after s c) (noted l c (answer s c)) (t .1))
 
 module _ {S C A : Type 0} (answer : S → C → A) (after : S → C → S) where
   pub log-is : (s t : S) (es : List (Logged C A)) → PerformedBy answer after s es t → logBy answer after s (calledIn es) ≡ es

@@ -6,7 +6,7 @@ use Prim.Native.Nat.{ℕ}
 use mathlib.Core.Path.{_≡_, refl, ap}
 use mathlib.Core.List.{List, [], _∷_, _++_, map}
 use native.Mathlib.Omega.{arith}
-use lib.ListN.{length, take, replicate}
+use lib.ListN.{length, replicate}
 use Rattle.limits.specs.Numbers.{unassigned}
 use Rattle.limits.specs.Questions.{ask, _▸_}
 use Rattle.limits.specs.declared.Outcome.{Outcome}
@@ -45,10 +45,11 @@ use Rattle.decoding.specs.Answers.{instanceFromBytes, witnessFromBytes}
 use Rattle.roundtrip.proofs.Examples.{outcomes as reads, examples as on-bytes}
 use Rattle.permutation.proofs.Examples.{Examples, examples}
 use Rattle.history.specs.Sat.{Sat, Evaluates}
-use Rattle.history.specs.Calls.{Call, Allocate, Set, SetList, Record, Mint, Equate, Tickets, State, Entry, answer, after, noted, ledger, log, final}
+use Rattle.history.specs.Calls.{Call, Allocate, Set, SetList, Record, Mint, Equate, Tickets, Entry, answer, after, noted, ledger, log}
 use Rattle.history.specs.Left.{setBy}
 use Rattle.history.specs.Whole.{FileLent, TraceLent, compiled, begin, last, lastLedger}
 use Rattle.history.proofs.Outcomes.{accepted-no}
+use Rattle.history.proofs.Fresh.{tally, all-tallied}
 use Rattle.history.proofs.Theorem.{whole}
 
 abbrev term : ℕ → ℕ → Term
@@ -76,17 +77,20 @@ publics = 6 ∷ 6 ∷ 6 ∷ 6 ∷ []
 abbrev scratch : List ℕ
 scratch = 6 ∷ 6 ∷ 6 ∷ []
 
+-- a ticket's line
+abbrev line : (wire grams : ℕ) → List ℕ
+line wire grams = ticketLine (record { wire = wire; grams = grams })
+
 -- the tickets of wire 2 with 249 g and of wire 7 with 250 g, and the first bytes of one more
 abbrev text : List ℕ
-text =
-    ticketLine (record { wire = 2; grams = 249 }) ++ (ticketLine (record { wire = 7; grams = 250 }) ++ (32 ∷ 32 ∷ []))
+text = line 2 249 ++ (line 7 250 ++ (32 ∷ 32 ∷ []))
 
 abbrev calls : List Call
 calls =
     Allocate 2
     ∷ Set (pair 0 5)
     ∷ Tickets text
-    ∷ Tickets (ticketLine (record { wire = 0; grams = 24 }))
+    ∷ Tickets (line 0 24)
     ∷ SetList (0 ∷ 7 ∷ []) (0 ∷ 5 ∷ [])
     ∷ SetList (2 ∷ []) []
     ∷ Record (1 ∷ []) (2 ∷ [])
@@ -172,41 +176,27 @@ pub minted : answer (after (begin 1 slots queries equations taking) (Allocate 2)
 unfolding ask _▸_ newRelationNo allocateVarsNo setVarNo setVarsNo addPermutationNo allocatePermutationNo addEquationNo pairNo setItems setVarsRun ticketLine gramsToSteps readLine linesOf lineNo setTicketsRun allBelow answer after noted
 minted = whole 1 slots queries equations fresh-accepted taking .told .1 .0 .first refl refl
 
--- ---- how many sets are fresh: a wire named twice counts once, wire 0 never; a refused list tells of what it set
+-- ---- how many sets are accepted, and how many of those fresh, by every kind of call: a wire named twice is fresh once, wire 0
+-- never; the second list stops at its third pair with 8, the second set gets 8, the third list 9, the first tickets 40 at what is cut off
 abbrev setting : List Call
 setting =
-    Allocate 3
+    Allocate 5
     ∷ SetList (1 ∷ 1 ∷ 0 ∷ 2 ∷ []) (7 ∷ 7 ∷ 0 ∷ 9 ∷ [])
     ∷ SetList (2 ∷ 3 ∷ 1 ∷ 3 ∷ []) (9 ∷ 5 ∷ 8 ∷ 5 ∷ [])
     ∷ Set (pair 3 5)
+    ∷ Set (pair 3 6)
+    ∷ SetList (4 ∷ 5 ∷ []) (1 ∷ [])
+    ∷ Tickets (line 4 50 ++ (line 5 50 ++ (line 5 49 ++ (32 ∷ []))))
+    ∷ Tickets (line 5 51)
+    ∷ Record (1 ∷ []) (2 ∷ [])
+    ∷ Equate (weighted 1 3 ∷ []) 6
+    ∷ Mint (1 ∷ [])
     ∷ []
 
--- what the first k of them leave
-abbrev afterFirst : ℕ → State
-afterFirst k = final (begin 1 slots queries equations setting) (take k setting)
-
--- four are accepted, and wires 1 and 2 are fresh
-pub listed : (answer (afterFirst 1) (SetList (1 ∷ 1 ∷ 0 ∷ 2 ∷ []) (7 ∷ 7 ∷ 0 ∷ 9 ∷ [])) .accepted ≡ 4)
-    × (answer (afterFirst 1) (SetList (1 ∷ 1 ∷ 0 ∷ 2 ∷ []) (7 ∷ 7 ∷ 0 ∷ 9 ∷ [])) .fresh ≡ 2)
-unfolding ask _▸_ newRelationNo allocateVarsNo setVarNo setVarsNo pairNo setItems setVarsRun answer after noted setBy
-listed =
-    let t = whole 1 slots queries equations fresh-accepted setting .told .1 .0 in
-    (t .accepted, t .fresh)
-
--- refused at its third pair: of the two before it wire 3 is fresh
-pub refused-list : (answer (afterFirst 2) (SetList (2 ∷ 3 ∷ 1 ∷ 3 ∷ []) (9 ∷ 5 ∷ 8 ∷ 5 ∷ [])) .accepted ≡ 2)
-    × (answer (afterFirst 2) (SetList (2 ∷ 3 ∷ 1 ∷ 3 ∷ []) (9 ∷ 5 ∷ 8 ∷ 5 ∷ [])) .fresh ≡ 1)
-unfolding ask _▸_ newRelationNo allocateVarsNo setVarNo setVarsNo pairNo setItems setVarsRun answer after noted setBy
-refused-list =
-    let t = whole 1 slots queries equations fresh-accepted setting .told .1 .1 .0 in
-    (t .accepted, t .fresh)
-
--- and it stays set
-pub repeated : (answer (afterFirst 3) (Set (pair 3 5)) .accepted ≡ 1) × (answer (afterFirst 3) (Set (pair 3 5)) .fresh ≡ 0)
-unfolding ask _▸_ newRelationNo allocateVarsNo setVarNo setVarsNo pairNo setItems setVarsRun answer after noted setBy
-repeated =
-    let t = whole 1 slots queries equations fresh-accepted setting .told .1 .1 .1 .0 in
-    (t .accepted, t .fresh)
+pub tallied : map (λ (e : Entry). tally (e .answered)) (log (begin 1 slots queries equations setting) setting)
+    ≡ (0, 0) ∷ (4, 2) ∷ (2, 1) ∷ (1, 0) ∷ (0, 0) ∷ (1, 1) ∷ (3, 1) ∷ (1, 0) ∷ (0, 0) ∷ (0, 0) ∷ (0, 0) ∷ []
+unfolding ask _▸_ newRelationNo allocateVarsNo setVarNo setVarsNo addPermutationNo allocatePermutationNo addEquationNo pairNo setItems setVarsRun ticketLine gramsToSteps readLine linesOf lineNo setTicketsRun allBelow answer after noted setBy
+tallied = all-tallied 1 _ _ setting (whole 1 slots queries equations fresh-accepted setting .told)
 
 -- ---- document 01's starred examples, all of them, as one fact of the definitions
 -- the gate on wire 0 with 0, another wire of no value, and the equation of that wire with weight k and image 0

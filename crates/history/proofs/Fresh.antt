@@ -5,7 +5,7 @@ use Prim.Native.Nat.{ℕ, zero, suc, _+_, _≤_, _<_}
 use mathlib.Core.Path.{_≡_, refl, sym, ap, ap₂, _∙_}
 use mathlib.Core.Bool.{Bool, true, false, not, _&&_}
 use mathlib.Core.Logic.{_↔_}
-use mathlib.Core.List.{List, [], _∷_}
+use mathlib.Core.List.{List, [], _∷_, map}
 use native.Mathlib.Omega.{arith}
 use borrow.Author.Tests.{eq-eqb, ne-eqb, eqb-true, eqb-false, ltb-true}
 use lib.Dec.{eqb}
@@ -17,10 +17,12 @@ use Rattle.allocator.specs.Slots.{Pair, pair, SetRun}
 use Rattle.permutation.specs.Left.{setVarLeft, pairLeft, pairsSet}
 use Rattle.permutation.proofs.Left.{newly, RunLeft}
 use Rattle.instance.specs.Parts.{pairVars, has}
+use Rattle.history.specs.Along.{toldBy}
 use Rattle.history.specs.Ledger.{Ledger}
-use Rattle.history.specs.Calls.{Call, Allocate, Set, SetList, Record, Mint, Equate, Tickets, State, Answer, answer, noted}
+use Rattle.history.specs.Calls.{Call, Allocate, Set, SetList, Record, Mint, Equate, Tickets, State, Answer, answer, after, noted, Entry, log}
 use Rattle.history.specs.Left.{leftWith, setBy, numberOf, freshCount}
-use Rattle.history.specs.Demand.{Accepted, Told}
+use Rattle.history.specs.Demand.{Accepted, Told, AllTold}
+use Rattle.history.proofs.Along.{along-shown}
 use Rattle.history.proofs.Outcomes.{accepted-no}
 use Rattle.history.proofs.Publics.{look-domain}
 
@@ -122,6 +124,17 @@ pub fresh-unnamed : (w : ℕ) (s : State) (l : Ledger) (p : Pair) → Told w s l
 unfolding leftWith setBy
 fresh-unnamed w s l p t a =
     one-unnamed (l .count) (l .sets) p (accepted-no _ (sym (t .answers .by-ledger) ∙ a)) _ (t .fresh)
+
+-- ---- the two tallies along a list: those that are answered are those that the ledger tells
+abbrev pub tally : Answer → ℕ × ℕ
+tally a = (a .accepted, a .fresh)
+
+abbrev pub tallyBy : Ledger → Call → ℕ × ℕ
+tallyBy l c = (length (setBy l c), freshCount (l .count) (l .sets) (setBy l c))
+
+pub all-tallied : (w : ℕ) (s : State) (l : Ledger) (cs : List Call) → AllTold w s l cs
+    → map (λ (e : Entry). tally (e .answered)) (log s cs) ≡ toldBy (noted w) tallyBy l (log s cs)
+all-tallied w s l cs = along-shown answer after (noted w) (Told w) tally tallyBy (λ s l c t. λ j. (t .accepted j, t .fresh j)) cs s l
 
 -- ---- whatever number is answered as fresh, the ledger is the same
 pub fresh-unnoted : (w : ℕ) (l : Ledger) (c : Call) (a : Answer) (f : ℕ)

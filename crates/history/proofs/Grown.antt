@@ -10,18 +10,19 @@ use lib.Dec.{eqb}
 use lib.ListN.{length, take, List·getD-eq-default}
 use lib.Seq.{length-take-le}
 use Rattle.limits.specs.Numbers.{unassigned}
-use Rattle.limits.specs.Questions.{pick, onYes}
+use Rattle.limits.specs.Questions.{Question, pick, onYes}
 use Rattle.limits.specs.Outcome.{outcomeOf, outcomeNumber, isAccepted}
 use Rattle.limits.specs.declared.Outcome.{Outcome}
 use Rattle.allocator.specs.Slots.{Pair, pairs}
 use Rattle.allocator.specs.Values.{joins, isSome, slotUnit}
+use Rattle.permutation.specs.Sharing.{nothing}
 use Rattle.permutation.specs.Answers.{newRelation}
 use Rattle.permutation.specs.Left.{itemsSet, pairLeft, pairsSet, listsLeft}
 use Rattle.tickets.specs.Lines.{linesOf, linePair}
 use Rattle.tickets.specs.Left.{lineLeft}
 use Rattle.instance.specs.Parts.{pairVars, has}
 use Rattle.history.specs.Ledger.{Ledger}
-use Rattle.history.specs.Calls.{Call, Allocate, Set, SetList, Record, Mint, Equate, Tickets, State, answer, after, ledger, noted, Entry, log, ledgerOf}
+use Rattle.history.specs.Calls.{Call, Allocate, Set, SetList, Record, Mint, Equate, Tickets, State, Lengths, lengthsOf, Answer, answer, after, ledger, noted, Entry, log, ledgerOf}
 use Rattle.history.specs.Left.{leftWith, setBy, numberOf, freshCount, publicCount}
 use Rattle.history.specs.Demand.{Accepted, Told}
 use Rattle.history.specs.Whole.{begin, lastLedger}
@@ -47,7 +48,8 @@ taken-by : (k : ℕ) (ps qs : List Pair) → take (length ps) qs ≡ ps → take
 taken-by zero ps qs e = e
 taken-by (suc k) ps qs e = refl
 
-module _ (w : ℕ) (s : State) (l : Ledger) where
+-- by any answer that has the number and the tally that the ledger tells
+module _ (w : ℕ) (l : Ledger) where
   -- sets that are the same either way
   same-sets : (b : Bool) (new : Ledger) → new .sets ≡ l .sets → pick b new l .sets ≡ l .sets
   same-sets true new e = e
@@ -58,22 +60,39 @@ module _ (w : ℕ) (s : State) (l : Ledger) where
   one-joins p zero o e = rw e
   one-joins p (suc k) o e = rw e
 
-  pub joined : (c : Call) → Told w s l c → noted w l c (answer s c) .sets ≡ joins (l .sets) (setBy l c)
+  pub joined-by : (within : ℕ → List Question) (lengths : Lengths) (c : Call) (a : Answer)
+      → a .outcome ≡ outcomeOf (leftWith within w lengths l c) → a .accepted ≡ length (setBy l c)
+      → noted w l c a .sets ≡ joins (l .sets) (setBy l c)
   unfolding noted setBy leftWith
-  joined (Allocate n) t = same-sets (isAccepted (answer s (Allocate n) .outcome)) _ refl
-  joined (Set p) t = one-joins p (pairLeft (l .count) (l .sets) p) (answer s (Set p) .outcome) (t .answers .by-ledger)
-  joined (SetList vars values) t =
+  joined-by within lengths (Allocate n) a o e = same-sets (isAccepted (a .outcome)) _ refl
+  joined-by within lengths (Set p) a o e = one-joins p (pairLeft (l .count) (l .sets) p) (a .outcome) o
+  joined-by within lengths (SetList vars values) a o e =
       let ps = pairsSet (l .count) (l .sets) (pairs vars values) in
       ap (joins (l .sets))
-      (ap (λ (k : ℕ). take k (pairs vars values)) (t .accepted)
+      (ap (λ (k : ℕ). take k (pairs vars values)) e
       ∙ taken-by (listsLeft vars values) ps (pairs vars values)
       (sym (map-id (take (length ps) (pairs vars values))) ∙ items-taken (pairLeft (l .count)) (λ p. p) (pairs vars values) (l .sets)))
-  joined (Record input output) t = same-sets (isAccepted (answer s (Record input output) .outcome)) _ refl
-  joined (Mint input) t = same-sets (isAccepted (answer s (Mint input) .outcome)) _ refl
-  joined (Equate terms image) t = same-sets (isAccepted (answer s (Equate terms image) .outcome)) _ refl
-  joined (Tickets text) t =
+  joined-by within lengths (Record input output) a o e = same-sets (isAccepted (a .outcome)) _ refl
+  joined-by within lengths (Mint input) a o e = same-sets (isAccepted (a .outcome)) _ refl
+  joined-by within lengths (Equate terms image) a o e = same-sets (isAccepted (a .outcome)) _ refl
+  joined-by within lengths (Tickets text) a o e =
       ap (joins (l .sets))
-      (ap (λ (k : ℕ). map linePair (take k (linesOf text))) (t .accepted) ∙ items-taken (lineLeft (l .count)) linePair (linesOf text) (l .sets))
+      (ap (λ (k : ℕ). map linePair (take k (linesOf text))) e ∙ items-taken (lineLeft (l .count)) linePair (linesOf text) (l .sets))
+
+  -- a refused one that sets nothing
+  pub none-joined : (c : Call) (a : Answer) → isAccepted (a .outcome) ≡ false → a .accepted ≡ 0 → noted w l c a .sets ≡ l .sets
+  unfolding noted
+  none-joined (Allocate n) a o e = same-sets (isAccepted (a .outcome)) _ refl
+  none-joined (Set p) a o e = rw o
+  none-joined (SetList vars values) a o e = rw e
+  none-joined (Record input output) a o e = same-sets (isAccepted (a .outcome)) _ refl
+  none-joined (Mint input) a o e = same-sets (isAccepted (a .outcome)) _ refl
+  none-joined (Equate terms image) a o e = same-sets (isAccepted (a .outcome)) _ refl
+  none-joined (Tickets text) a o e = rw e
+
+-- along the list
+pub joined : (w : ℕ) (s : State) (l : Ledger) (c : Call) → Told w s l c → noted w l c (answer s c) .sets ≡ joins (l .sets) (setBy l c)
+joined w s l c t = joined-by w l nothing (lengthsOf s) c (answer s c) (t .answers .by-ledger) (t .accepted)
 
 -- ---- counting wires
 -- tests that agree everywhere

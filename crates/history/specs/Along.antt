@@ -23,6 +23,11 @@ abbrev pub ledgerBy : {L C A : Type 0} → (L → C → A → L) → L → List 
 ledgerBy noted l [] = l
 ledgerBy noted l (e ∷ es) = ledgerBy noted (noted l (e .called) (e .answered)) es
 
+-- what the ledger before each entry tells of its call
+abbrev pub toldBy : {L C A R : Type 0} → (L → C → A → L) → (L → C → R) → L → List (Logged C A) → List R
+toldBy noted tells l [] = []
+toldBy noted tells l (e ∷ es) = tells l (e .called) ∷ toldBy noted tells (noted l (e .called) (e .answered)) es
+
 -- said of each call, on the state and beside the ledger as they were before it
 abbrev pub Along : {S L C A : Type 0} → (S → C → A) → (S → C → S) → (L → C → A → L) → (S → L → C → Type 0) → S → L → List C → Type 0
 Along answer after noted Told s l [] = Unit {0}

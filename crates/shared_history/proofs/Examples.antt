@@ -1,13 +1,13 @@
 -- Two relations of different widths on one allocator and on stores that hold anything: each new number at its place among
 -- the others, first wires of one count, the ledger, and a ninth opening. And relation 0 through its gate, both byte forms
 -- and the check, to a yes and to a no that hang on values which relation 1 set, while relation 1 goes on between gate and
--- write: the theorem is not empty. Then the theorem along a list, at a number that isn't opened, and of a
--- set that another relation made before. Assumes nothing.
+-- write: the theorem is not empty. Then the theorem along a list, at a number that isn't opened, and of sets that are fresh or
+-- that another relation made before. Assumes nothing.
 use Prim.Native.Nat.{ℕ}
 use mathlib.Core.Path.{_≡_, refl, ap}
-use mathlib.Core.List.{List, [], _∷_, map}
+use mathlib.Core.List.{List, [], _∷_, _++_, map}
 use native.Mathlib.Omega.{arith}
-use lib.ListN.{take, replicate}
+use lib.ListN.{replicate}
 use Rattle.limits.specs.Questions.{ask, _▸_}
 use Rattle.limits.specs.declared.Outcome.the-variants.{Accepted, Refused}
 use Rattle.words.specs.Store.{allBelow}
@@ -47,9 +47,11 @@ use Rattle.history.specs.Calls.{Allocate, Set, SetList, Record, Mint, Equate, T
 use Rattle.history.specs.Left.{setBy}
 use Rattle.history.specs.Whole.{FileLent, TraceLent}
 use Rattle.history.proofs.Outcomes.{accepted-no}
+use Rattle.history.proofs.Fresh.{tally}
 use Rattle.shared_history.specs.Calls.{OwnState, SharedState, SharedCall, Open, On, ownAt, frontNo, sharedAnswer, sharedAfter, SharedLedger, ownLedgerAt, judgedOn, sharedNoted, sharedFinal, SharedEntry, sharedLog}
 use Rattle.shared_history.specs.Left.{sharedSetBy}
 use Rattle.shared_history.specs.Whole.{gateOn, noneOpened, opening, sharedBegin, sharedLast, sharedLedger}
+use Rattle.shared_history.proofs.Fresh.{shared-tallied}
 use Rattle.shared_history.proofs.Theorem.{shared-whole}
 
 abbrev weighted : ℕ → ℕ → Weighted
@@ -74,6 +76,10 @@ scratch = 6 ∷ 6 ∷ 6 ∷ 6 ∷ 6 ∷ 6 ∷ []
 abbrev stray : ℕ → OwnState
 stray width = record { relation = newShared width 5; queries = queries; equations = equations }
 
+-- a ticket's line
+abbrev line : (wire grams : ℕ) → List ℕ
+line wire grams = ticketLine (record { wire = wire; grams = grams })
+
 -- relation 0 has width 1 and quota 3, relation 1 width 2 and quota 2
 abbrev calls : List SharedCall
 calls =
@@ -85,7 +91,7 @@ calls =
     ∷ On 0 (stray 1) (Allocate 1073741824)
     ∷ On 0 (stray 1) (Allocate 8)
     ∷ On 0 (stray 1) (Allocate 2)
-    ∷ On 1 (stray 1) (Tickets (ticketLine (record { wire = 2; grams = 249 })))
+    ∷ On 1 (stray 1) (Tickets (line 2 249))
     ∷ On 0 (stray 1) (Set (pair 2 6))
     ∷ On 1 (stray 1) (Mint (1 ∷ 2 ∷ []))
     ∷ On 1 (stray 1) (SetList (3 ∷ 2 ∷ []) (7 ∷ 6 ∷ []))
@@ -222,20 +228,21 @@ unfolding ask _▸_ withAllocatorNo frontAsks frontNo allocateVarsNo setVarNo se
 not-opened-42 =
     shared-whole 77 slots 1 3 queries equations calls first-accepted .not-opened 2 (omega (arith, two-opened)) (stray 1) [] publics scratch .number refl
 
--- ---- what relation 0 set is repeated where relation 1 sets it
+-- ---- how many sets are accepted, and how many of those fresh: what one relation set is repeated for the other; the list stops at
+-- its third pair with 8, the tickets at what is cut off with 40, and relation 2 isn't opened
 abbrev setting : List SharedCall
-setting = Open 2 2 [] [] ∷ On 0 (stray 1) (Allocate 1) ∷ On 0 (stray 1) (Set (pair 1 7)) ∷ On 1 (stray 1) (Set (pair 1 7)) ∷ []
+setting =
+    Open 2 2 [] []
+    ∷ On 0 (stray 1) (Allocate 3)
+    ∷ On 0 (stray 1) (Set (pair 1 1))
+    ∷ On 1 (stray 1) (Set (pair 1 1))
+    ∷ On 1 (stray 1) (SetList (1 ∷ 2 ∷ 2 ∷ []) (1 ∷ 7 ∷ 8 ∷ []))
+    ∷ On 0 (stray 1) (Tickets (line 2 350 ++ (line 3 50 ++ (32 ∷ []))))
+    ∷ On 1 (stray 1) (Tickets (line 3 50))
+    ∷ On 2 (stray 1) (Tickets (line 3 50))
+    ∷ []
 
--- what the first k of them leave
-abbrev afterFirst : ℕ → SharedState
-afterFirst k = sharedFinal (sharedBegin 77 slots 1 3 queries equations setting) (take k setting)
-
-pub set-fresh : sharedAnswer (afterFirst 2) (On 0 (stray 1) (Set (pair 1 7))) .fresh ≡ 1
-unfolding ask _▸_ withAllocatorNo frontAsks frontNo allocateVarsNo setVarNo pairNo answer after noted sharedAnswer sharedAfter sharedNoted sharedSetBy setBy
-set-fresh = shared-whole 77 slots 1 3 queries equations setting first-accepted .told .1 .1 .0 .fresh
-
-pub set-repeated : (sharedAnswer (afterFirst 3) (On 1 (stray 1) (Set (pair 1 7))) .accepted ≡ 1) × (sharedAnswer (afterFirst 3) (On 1 (stray 1) (Set (pair 1 7))) .fresh ≡ 0)
-unfolding ask _▸_ withAllocatorNo frontAsks frontNo allocateVarsNo setVarNo pairNo answer after noted sharedAnswer sharedAfter sharedNoted sharedSetBy setBy
-set-repeated =
-    let t = shared-whole 77 slots 1 3 queries equations setting first-accepted .told .1 .1 .1 .0 in
-    (t .accepted, t .fresh)
+pub tallied : map (λ (e : SharedEntry). tally (e .answered)) (sharedLog (sharedBegin 77 slots 1 3 queries equations setting) setting)
+    ≡ (0, 0) ∷ (0, 0) ∷ (1, 1) ∷ (1, 0) ∷ (2, 1) ∷ (2, 1) ∷ (1, 0) ∷ (0, 0) ∷ []
+unfolding ask _▸_ withAllocatorNo frontAsks frontNo allocateVarsNo setVarNo setVarsNo pairNo setItems setVarsRun ticketLine gramsToSteps readLine linesOf lineNo setTicketsRun answer after noted sharedAnswer sharedAfter sharedNoted sharedSetBy setBy
+tallied = shared-tallied _ _ setting (shared-whole 77 slots 1 3 queries equations setting first-accepted .told)
