@@ -30,6 +30,9 @@ pub record Examples : Type 0 where
   -- a refused set is neither
   pub other : set (slots 7 unassigned) (pair 1 8) ≡ Refused 8
   pub unheld : set before (pair 3 7) ≡ Refused 7
+  -- nor is one on a slot that holds no unit; a wire below the count whose slot the store lacks is fresh
+  pub no-unit : set (slots prime unassigned) (pair 1 7) ≡ Refused 8
+  pub no-slot : setOf (pairNo 4 before (pair 3 7)) (isFresh before (pair 3 7)) ≡ Fresh
   -- of a list the second occurrence is repeated, and so is wire 0
   pub twice : setRun 3 before (pair 1 7 ∷ pair 1 7 ∷ []) ≡ ran 0 2 1 (slots 7 unassigned)
   pub both : setRun 3 before (pair 0 0 ∷ pair 1 7 ∷ pair 2 7 ∷ pair 1 7 ∷ []) ≡ ran 0 4 2 (slots 7 7)
@@ -47,6 +50,8 @@ examples =
       zero-wire = refl;
       other = refl;
       unheld = refl;
+      no-unit = refl;
+      no-slot = refl;
       twice = refl;
       both = refl;
       refused = refl;

@@ -49,7 +49,7 @@ growAsksWith between count len n = mostAsks count n ++ (between ++ roomAsks coun
 abbrev pub growAsks : ℕ → ℕ → ℕ → List Question
 growAsks = growAsksWith []
 
--- a pair is fresh where the slot of its wire is unassigned (document 02's R-5)
+-- a pair is fresh where the slot of its wire is unassigned, or where the store lacks it (document 02's R-5)
 abbrev pub isFresh : List ℕ → Pair → Bool
 isFresh slots p = eqb (getD slots (p .var) unassigned) unassigned
 

@@ -78,7 +78,8 @@ fn asked_wire(count: u32, var: u32, value: u32) -> u32
     limits::asked(no, var < count, 7)
 }
 
-// One wire set: questions 3, 4, 7 and 8 (what the source's `set_var` does behind its lock).
+// One wire set: questions 3, 4, 7 and 8 (what the source's `set_var` does behind its lock). A slot that the store lacks
+// counts as unassigned.
 pub fn assign_var(count: u32, slots: &mut [u32], var: FieldVar, value: BabyBearUnit) -> Set
     ensures { λ r. ⌜ AssignsVar count (now (slots .entry)) (pair (var .0) (value .0)) r (now (slots .exit)) ⌝ }
 {
