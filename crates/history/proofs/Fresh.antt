@@ -1,6 +1,7 @@
 -- How many of a call's sets are fresh, by the ledger: of pairs that join the sets one by one as many as there are wires
 -- that the pairs name and the sets don't, since a wire's second pair finds the first among the sets. So one set is fresh
--- exactly where no set of the ledger names its wire; and the ledger goes on the same whatever is fresh. Assumes nothing.
+-- exactly where no set of the ledger names its wire; along a list the tallies that are answered are those that the ledger
+-- tells; and the ledger goes on the same whatever is fresh. Assumes nothing.
 use Prim.Native.Nat.{ℕ, zero, suc, _+_, _≤_, _<_}
 use mathlib.Core.Path.{_≡_, refl, sym, ap, ap₂, _∙_}
 use mathlib.Core.Bool.{Bool, true, false, not, _&&_}
