@@ -24,6 +24,9 @@ pub enum Mood {
     Wild,
 }
 
+/// Where the version stands in a file of either form.
+const VERSION: usize = 4;
+
 pub struct Generator {
     pub rng: Rng,
     pub mood: Mood,
@@ -430,6 +433,18 @@ pub fn damaged(rng: &mut Rng, bytes: &[u8], fields: &[usize]) -> Vec<u8> {
     let mut bytes = bytes.to_vec();
     for _ in 0..rng.between(1, 3) {
         damage(rng, &mut bytes, fields);
+    }
+    bytes
+}
+
+/// A file damaged so, or now and then sound but for its version.
+pub fn damaged_file(rng: &mut Rng, bytes: &[u8], fields: &[usize]) -> Vec<u8> {
+    if !rng.once_in(12) {
+        return damaged(rng, bytes, fields);
+    }
+    let mut bytes = bytes.to_vec();
+    if let Some(version) = bytes.get_mut(VERSION) {
+        *version = *rng.pick(&[0, 2, 3, u8::MAX]);
     }
     bytes
 }

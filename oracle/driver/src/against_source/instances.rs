@@ -86,7 +86,7 @@ impl Run<'_> {
         let later = (17 + held.label.len()..bytes.len()).step_by(4);
         let fields: Vec<usize> = [5, 9, 13].into_iter().chain(later).collect();
         for _ in 0..6 {
-            let damaged = generate::damaged(&mut generator.rng, &bytes, &fields);
+            let damaged = generate::damaged_file(&mut generator.rng, &bytes, &fields);
             self.read_and_check(generator, held.ins.width, &damaged, trace)?;
         }
 

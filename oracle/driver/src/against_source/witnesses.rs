@@ -57,7 +57,7 @@ impl Run<'_> {
         self.read_witness(generator.width, &bytes)?;
         let fields: Vec<usize> = (5..bytes.len()).step_by(4).collect();
         for _ in 0..3 {
-            let damaged = generate::damaged(&mut generator.rng, &bytes, &fields);
+            let damaged = generate::damaged_file(&mut generator.rng, &bytes, &fields);
             self.read_witness(generator.width, &damaged)?;
         }
         Ok(trace)

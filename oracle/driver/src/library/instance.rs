@@ -107,7 +107,7 @@ fn instance(rng: &mut Rng, held: &Held, seen: &mut Seen, log: &Log) -> Compared 
     let later = (17 + held.label.len()..bytes.len()).step_by(4);
     let fields: Vec<usize> = [5, 9, 13].into_iter().chain(later).collect();
     for i in 0..4 {
-        let damaged = generate::damaged(rng, &bytes, &fields);
+        let damaged = generate::damaged_file(rng, &bytes, &fields);
         let bytes = if i == 0 { &bytes } else { &damaged };
         read(rng, held, bytes, seen, log)?;
     }

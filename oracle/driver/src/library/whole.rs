@@ -219,7 +219,7 @@ impl Run<'_> {
         let later = (17 + held.label.len()..bytes.len()).step_by(4);
         let fields: Vec<usize> = [5, 9, 13].into_iter().chain(later).collect();
         for i in 0..5 {
-            let damaged = generate::damaged(&mut generator.rng, &bytes, &fields);
+            let damaged = generate::damaged_file(&mut generator.rng, &bytes, &fields);
             let bytes = if i == 0 { &bytes } else { &damaged };
             if let Some((held, instance)) = self.read(width, bytes)? {
                 self.checks(generator, &held, &*instance, trace)?;

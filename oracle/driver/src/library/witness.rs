@@ -169,7 +169,7 @@ fn write(rng: &mut Rng, steps: &Steps, seen: &mut Seen, log: &Log) -> Outcome<Ve
 
 fn read(rng: &mut Rng, width: u32, bytes: &[u8], seen: &mut Seen, log: &Log) -> Compared {
     let fields: Vec<usize> = (5..bytes.len().max(6)).step_by(4).collect();
-    let damaged = generate::damaged(rng, bytes, &fields);
+    let damaged = generate::damaged_file(rng, bytes, &fields);
     let bytes = if rng.once_in(3) { bytes } else { &damaged };
     let width = if rng.once_in(10) {
         astray::width(rng)
