@@ -1,6 +1,7 @@
 /* A batch of premix, weighed by hopper, sack included, and by hand, in steps of 50 g. The two weights stay hidden behind
  * their seals, the sack's is public, from a weigh ticket, and an equation says that they agree: by hand + sack = hopper.
- * The sack was put on the scale twice, and the second reading is a repeat.
+ * The sack was put on the scale twice, and the second reading is a repeat. The recipe's draft sealed the sack too, and had
+ * an equation without it: both lines are struck.
  * From the repository's root:
  *
  *   cc -Iinclude examples/batch.c target/staticlib/libsfr.a -o target/batch && target/batch */
@@ -31,21 +32,27 @@ static sfr_relation go_on(sfr_relation_answer answer)
 static uint32_t batch(const uint32_t weights[2])
 {
     enum { HOPPER = 1, HAND, SACK }; /* wire 0 is there from the start */
-    uint32_t slots[6], queries[4], equations[8], publics[4], trace[4], scratch[6];
+    uint32_t slots[7], uses[7], queries[6], equations[14], publics[4], trace[4], scratch[7];
     uint8_t sfri[128], sfrw[64];
     char ticket[49];
 
-    sfr_relation rel = go_on(sfr_new_relation(1, LENT(slots)));
+    sfr_relation rel = go_on(sfr_new_relation(1, LENT(slots), LENT(uses)));
     rel = go_on(sfr_allocate_vars(rel, LENT(slots), 3));
     snprintf(ticket, sizeof ticket, "%10d %12d\n%10d %12d\n", SACK, 50, SACK, 55); /* both are 1 step */
     sfr_ticket_tally tally = sfr_set_tickets(rel, LENT(slots), (const uint8_t *)ticket, 48);
     accepted(tally.number);
     printf("ticket: %zu readings, %zu repeated\n", tally.accepted, tally.accepted - tally.fresh);
-    rel = go_on(sfr_allocate_permutation(rel, LENT(slots), LENT(queries), &(uint32_t){HOPPER}, 1));
-    rel = go_on(sfr_allocate_permutation(rel, LENT(slots), LENT(queries), &(uint32_t){HAND}, 1));
-    sfr_weighted terms[] = {{HAND, 1}, {SACK, 1}, {HOPPER, SFR_PRIME - 1}};
+    const uint32_t sealed[] = {HOPPER, SACK, HAND};
+    for (int i = 0; i < 3; i++)
+        rel = go_on(sfr_allocate_permutation(rel, LENT(slots), LENT(queries), LENT(uses), &sealed[i], 1));
+    const sfr_weighted terms[] = {{HAND, 1}, {HOPPER, SFR_PRIME - 1}, {SACK, 1}};
+    rel = go_on(sfr_add_equation(rel, LENT(equations), terms, 2, 0));
     rel = go_on(sfr_add_equation(rel, LENT(equations), LENT(terms), 0));
-    sfr_instance_answer gate = sfr_compile(rel, LENT(label), LENT(slots), LENT(queries), LENT(equations),
+    rel = go_on(sfr_withdraw_query(rel, LENT(slots), LENT(queries), LENT(uses), 1)); /* the sack's */
+    rel = go_on(sfr_withdraw_equation(rel, LENT(equations), 0));                     /* the one of two terms */
+    printf("struck: %u queries and %u equation remain, the sack in %u cells\n", (unsigned)rel.queries,
+           (unsigned)rel.equations, (unsigned)uses[SACK]);
+    sfr_instance_answer gate = sfr_compile(rel, LENT(label), LENT(slots), LENT(queries), LENT(equations), LENT(uses),
                                            LENT(publics), LENT(scratch));
     accepted(gate.number);
 

@@ -1,6 +1,7 @@
 //! A batch of premix, weighed by hopper, sack included, and by hand, in steps of 50 g. The two weights stay hidden behind
 //! their seals, the sack's is public, from a weigh ticket, and an equation says that they agree: by hand + sack = hopper.
-//! The sack was put on the scale twice, and the second reading is a repeat.
+//! The sack was put on the scale twice, and the second reading is a repeat. The recipe's draft sealed the sack too, and had
+//! an equation without it: both lines are struck.
 //! From the repository's root:
 //!
 //! ```sh
@@ -15,23 +16,35 @@ const PARAMS: [u32; 3] = [0, PRIME - 1, 5];
 
 /// The check's answer on the files of a batch of these two weights.
 fn batch(by_hopper: u32, by_hand: u32) -> Result<u32, Refused> {
-    let (slots, queries, equations) = (&mut [0; 6], &mut [0; 4], &mut [0; 8]);
-    let (publics, trace, scratch) = (&mut [0; 4], &mut [0; 4], &mut [0; 6]);
+    let (slots, uses, scratch) = (&mut [0; 7], &mut [0; 7], &mut [0; 7]);
+    let (queries, equations) = (&mut [0; 6], &mut [0; 14]);
+    let (publics, trace) = (&mut [0; 4], &mut [0; 4]);
     let (sfri, sfrw) = (&mut [0; 128], &mut [0; 64]);
 
-    let rel = sfr::new_relation(1, slots).accepted()?;
-    let (hopper, rel) = sfr::allocate_vars(rel, slots, 3).allocated()?;
+    let rel = sfr::new_relation(1, slots, uses).accepted()?;
+    let (hopper, mut rel) = sfr::allocate_vars(rel, slots, 3).allocated()?;
     let (hand, sack) = (hopper + 1, hopper + 2);
     let ticket = [50, 55].map(|grams| format!("{sack:>10} {grams:>12}\n")); // both are 1 step
     let tally = sfr::set_tickets(rel, slots, ticket.concat().as_bytes());
     let repeated = tally.accepted()? - tally.fresh;
     println!("ticket: {} readings, {repeated} repeated", tally.accepted);
-    let rel = sfr::allocate_permutation(rel, slots, queries, &[hopper]).accepted()?;
-    let rel = sfr::allocate_permutation(rel, slots, queries, &[hand]).accepted()?;
-    let terms = [(hand, 1), (sack, 1), (hopper, PRIME - 1)];
+    for sealed in [hopper, sack, hand] {
+        rel = sfr::allocate_permutation(rel, slots, queries, uses, &[sealed]).accepted()?;
+    }
+    let terms = [(hand, 1), (hopper, PRIME - 1), (sack, 1)];
     let terms = terms.map(|(var, weight)| Weighted { var, weight });
-    let rel = sfr::add_equation(rel, equations, &terms, 0).accepted()?;
-    let ins = sfr::compile(rel, LABEL, slots, queries, equations, publics, scratch).accepted()?;
+    rel = sfr::add_equation(rel, equations, &terms[..2], 0).accepted()?;
+    rel = sfr::add_equation(rel, equations, &terms, 0).accepted()?;
+    rel = sfr::withdraw_query(rel, slots, queries, uses, 1).accepted()?; // the sack's
+    rel = sfr::withdraw_equation(rel, equations, 0).accepted()?; // the one of two terms
+    println!(
+        "struck: {} queries and {} equation remain, the sack in {} cells",
+        rel.queries, rel.equations, uses[sack as usize]
+    );
+    let gate = sfr::compile(
+        rel, LABEL, slots, queries, equations, uses, publics, scratch,
+    );
+    let ins = gate.accepted()?;
 
     let mut rec = Trace { width: 1, steps: 0 };
     for weight in [by_hopper, by_hand] {

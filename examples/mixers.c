@@ -23,7 +23,7 @@ typedef struct {
 typedef struct {
     uint32_t index;
     sfr_shared_relation rel;
-    uint32_t queries[4], equations[8];
+    uint32_t queries[4], uses[7], equations[8];
     const uint32_t *params;
     size_t params_len;
 } mixer;
@@ -61,7 +61,7 @@ static uint32_t check(const plant *p, const mixer *m, const uint32_t *inputs)
     const uint32_t width = m->rel.width;
 
     sfr_instance_answer gate = sfr_compile_on(ON(p, m), LENT(label), LENT(p->slots), LENT(m->queries),
-                                              LENT(m->equations), LENT(publics), LENT(scratch));
+                                              LENT(m->equations), LENT(m->uses), LENT(publics), LENT(scratch));
     accepted(gate.number);
     sfr_trace_answer steps = sfr_evaluate_step((sfr_trace){width, 0}, LENT(trace), inputs, width, 1, m->params,
                                                m->params_len);
@@ -93,8 +93,8 @@ int main(void)
     mixer last = {.params = two, .params_len = 7}, *finish = &last;
     char ticket[25];
 
-    premix->index = go_on(p, premix, sfr_with_allocator(p->allocator, 1, 2, LENT(p->slots)));
-    finish->index = go_on(p, finish, sfr_with_allocator(p->allocator, 2, 4, LENT(p->slots)));
+    premix->index = go_on(p, premix, sfr_with_allocator(p->allocator, 1, 2, LENT(p->slots), LENT(premix->uses)));
+    finish->index = go_on(p, finish, sfr_with_allocator(p->allocator, 2, 4, LENT(p->slots), LENT(finish->uses)));
     const uint32_t hopper = go_on(p, premix, sfr_allocate_vars_on(ON(p, premix), LENT(p->slots), 1));
     const uint32_t hand = go_on(p, finish, sfr_allocate_vars_on(ON(p, finish), LENT(p->slots), 2));
     const uint32_t sack = hand + 1;
@@ -103,8 +103,10 @@ int main(void)
     read_ticket(p, premix, "premix", ticket); /* the other has set the wire */
 
     const uint32_t sealed[] = {hand, hopper};
-    go_on(p, premix, sfr_allocate_permutation_on(ON(p, premix), LENT(p->slots), LENT(premix->queries), &hopper, 1));
-    go_on(p, finish, sfr_allocate_permutation_on(ON(p, finish), LENT(p->slots), LENT(finish->queries), LENT(sealed)));
+    go_on(p, premix, sfr_allocate_permutation_on(ON(p, premix), LENT(p->slots), LENT(premix->queries), LENT(premix->uses),
+                                                 &hopper, 1));
+    go_on(p, finish, sfr_allocate_permutation_on(ON(p, finish), LENT(p->slots), LENT(finish->queries), LENT(finish->uses),
+                                                 LENT(sealed)));
     const uint32_t more = sfr_allocate_vars_on(ON(p, premix), LENT(p->slots), 1).number;
     printf("a third wire for premix: %u\n", (unsigned)more); /* its quota is 2 */
 

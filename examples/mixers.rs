@@ -24,6 +24,7 @@ struct Mixer {
     index: u32,
     rel: SharedRelation,
     queries: [u32; 4],
+    uses: [u32; 7],
     equations: [u32; 8],
     params: &'static [u32],
 }
@@ -41,7 +42,8 @@ impl Plant {
             params,
             ..Mixer::default()
         };
-        let answer = sfr::with_allocator(self.allocator, width, quota, &mut self.slots);
+        let (slots, uses) = (&mut self.slots, &mut mixer.uses);
+        let answer = sfr::with_allocator(self.allocator, width, quota, slots, uses);
         mixer.index = self.go_on(&mut mixer, answer)?;
         Ok(mixer)
     }
@@ -60,13 +62,14 @@ impl Plant {
     }
 
     fn mint(&mut self, mixer: &mut Mixer, input: &[u32]) -> Result<u32, Refused> {
-        let (slots, queries) = (&mut self.slots, &mut mixer.queries);
+        let (slots, queries, uses) = (&mut self.slots, &mut mixer.queries, &mut mixer.uses);
         let answer = sfr::allocate_permutation_on(
             self.allocator,
             mixer.index,
             mixer.rel,
             slots,
             queries,
+            uses,
             input,
         );
         self.go_on(mixer, answer)
@@ -106,6 +109,7 @@ impl Plant {
             &self.slots,
             &mixer.queries,
             &mixer.equations,
+            &mixer.uses,
             publics,
             scratch,
         );

@@ -12,11 +12,15 @@
  * below 2^30, a unit one below p. The word stores, all of u32:
  *   slots      a unit per wire, or F where the wire has no value yet
  *   queries    2w wires each, inputs then outputs
+ *   uses       per slot, how many cells of the relation's queries name its wire
  *   equations  each a term count, then wire and weight per term, then the image
  *   publics    wire and unit pairs
  *   trace      2w units per step, inputs then outputs
  *   sheet      per round a kind (0 or 1) and w constants, then w*w matrix units row by row; lent as rounds and words
  *   scratch    may hold anything before a call, and is all 0 after it
+ * A use store is one relation's own, and exactly as long as the slots. Fresh or the relation's opening fills it with 0;
+ * from then on it is handed from call to call as the queries are, and nobody else writes it. A cell whose wire has a
+ * slot is counted there, allocated or not; any other is stray, and is counted in the relation's record.
  *
  * The questions:
  *    1  Is w from 1 to 24?
@@ -29,11 +33,14 @@
  *    7  Is the set wire allocated?
  *    8  Is its slot F or that value?
  *    9  Have lent lists of a query or step w words each, and the set list's two lists one length?
- *   10  Is the store, trace or output written to long enough?
+ *   10  Is the store, trace or output written to long enough, and the use store as long as the slots?
  *   11  Do the equations end exactly at the used words, are held wires below 2^30, held units below p, slots of
- *       allocated wires below p or F, and is the label UTF-8?
+ *       allocated wires below p or F, and is the label UTF-8? Would each use count, and the stray count, that a query
+ *       changes be from 0 to 2^30?
  *   12  Are public wires below the wire count?  13  Query wires?
  *   14  Is the term's wire below the count?  15  Is it bound (public or in a query), or its weight 0?
+ *       (A relation's gate asks the counts: 13 whether the stray count and those of unallocated wires are 0, 15 whether
+ *       the wire's is above 0.)
  *   16  Has scratch a word per wire?
  *   17  Has the sheet R <= 128, exactly R(w+1)+w*w words, kinds 0 or 1, units below p?
  *   20  Do the bytes hold the field?
@@ -52,6 +59,7 @@
  *   42  Is a relation of this number opened? Of an opening: are fewer than 8?
  *   43  Does the quota hold what the relation obtained and the new wires?
  *   44  Has the sheet no rounds, or a matrix that is not singular?
+ *   45  Is there a query, or an equation, of this number?
  *
  * The same functions stand for Rust in rust/, behind slices. */
 #ifndef SFR_H
@@ -122,14 +130,15 @@ sfr_place sfr_read_vars(const uint8_t *bytes, size_t len, size_t at,
 
 /* ---- Relations. ---- */
 
-/* A relation's record, handed in and back by value: width, counts of wires, queries and equations, and how many words
- * of the equation store these use. */
+/* A relation's record, handed in and back by value: width, counts of wires, queries and equations, how many words of the
+ * equation store these use, and how many query cells are stray. */
 typedef struct {
     uint32_t width;
     uint32_t vars;
     uint32_t queries;
     uint32_t equations;
     uint32_t words;
+    uint32_t stray;
 } sfr_relation;
 
 /* `first` is the first wire that an allocation or a mint answers, 0 elsewhere and after a refusal. A refused call gives
@@ -181,9 +190,12 @@ typedef struct {
     bool yes;
 } sfr_flag;
 
-/* Fresh: a relation of that width with wire 0 alone, whose slot becomes 0.
- * Questions 1, 2, 6. Lent: slots, at least one word. A refusal leaves them as they were. */
-sfr_relation_answer sfr_new_relation(uint32_t width, uint32_t *slots, size_t slots_len);
+/* Fresh: a relation of that width with wire 0 alone, whose slot becomes 0, and no queries: its use counts become 0.
+ * Questions 1, 2, 6, 10. Lent: slots, at least one word; uses, exactly a word per slot. A refusal leaves both as they
+ * were. */
+sfr_relation_answer sfr_new_relation(uint32_t width,
+                                     uint32_t *slots, size_t slots_len,
+                                     uint32_t *uses, size_t uses_len);
 
 /* Allocate: the next n wires, whose slots become F; answers the first, the wire count before the call. n may be 0.
  * Questions 1, 2, 5, 6. Lent: slots, a word per wire with the new ones. A refusal leaves slots and record as they
@@ -211,21 +223,35 @@ sfr_ticket_tally sfr_set_tickets(sfr_relation rel,
                                  uint32_t *slots, size_t slots_len,
                                  const uint8_t *text, size_t text_len);
 
-/* Record: a query of inputs and outputs; unallocated wires are taken.
- * Questions 1, 2, 9, 3, 10. Lent: queries, 2w words for each with the new one; input and output, exactly w words each,
- * only read. A refusal leaves queries and record as they were. */
+/* Record: a query of inputs and outputs, whose cells are counted; unallocated wires are taken.
+ * Questions 1, 2, 9, 3, 11 of the counts, 10. Lent: slots, a word per wire, only read; queries, 2w words for each with
+ * the new one; uses, exactly a word per slot; input and output, exactly w words each, only read. A refusal leaves
+ * queries, uses and record as they were. */
 sfr_relation_answer sfr_add_permutation(sfr_relation rel,
+                                        const uint32_t *slots, size_t slots_len,
                                         uint32_t *queries, size_t queries_len,
+                                        uint32_t *uses, size_t uses_len,
                                         const uint32_t *input, size_t input_len,
                                         const uint32_t *output, size_t output_len);
 
 /* Mint: allocates w outputs, answered as by sfr_allocate_vars, and records the query, or does neither.
- * Questions 1, 2, 9, 3, 5, 6, 10. Lent: slots, a word per wire with the w new ones; queries, 2w words for each with the
- * new one; input, exactly w words, only read. A refusal leaves slots, queries and record as they were. */
+ * Questions 1, 2, 9, 3, 5, 6, 11 of the counts, 10. Lent: slots, a word per wire with the w new ones; queries, 2w words
+ * for each with the new one; uses, exactly a word per slot; input, exactly w words, only read. A refusal leaves slots,
+ * queries, uses and record as they were. */
 sfr_relation_answer sfr_allocate_permutation(sfr_relation rel,
                                              uint32_t *slots, size_t slots_len,
                                              uint32_t *queries, size_t queries_len,
+                                             uint32_t *uses, size_t uses_len,
                                              const uint32_t *input, size_t input_len);
+
+/* Withdraw a query: number i, counted from 0. Later ones move down by one, and the 2w words freed at their end become 0;
+ * its cells are taken off the counts. Wires that it minted stay allocated.
+ * Questions 1, 2, 45, 11 of the counts, 10. Lent: slots, a word per wire, only read; queries, 2w words for each; uses,
+ * exactly a word per slot. A refusal leaves queries, uses and record as they were. */
+sfr_relation_answer sfr_withdraw_query(sfr_relation rel,
+                                       const uint32_t *slots, size_t slots_len,
+                                       uint32_t *queries, size_t queries_len,
+                                       uint32_t *uses, size_t uses_len, uint32_t i);
 
 /* Equation: weight times value, summed over the terms, is the image. Kept in order, repeats and zero weights too.
  * Questions 1, 2, 3 over all wires, 4 over all weights and the image, 10. Lent: equations, the used words and 2 + 2t
@@ -234,6 +260,12 @@ sfr_relation_answer sfr_add_equation(sfr_relation rel,
                                      uint32_t *equations, size_t equations_len,
                                      const sfr_weighted *terms, size_t terms_len,
                                      uint32_t image);
+
+/* Withdraw an equation: number i, counted from 0. Later ones move down by one, and the words freed at their end become 0.
+ * Questions 1, 2, 45, 11 of the equations' end. Lent: equations, the used words. A refusal leaves equations and record as
+ * they were. */
+sfr_relation_answer sfr_withdraw_equation(sfr_relation rel,
+                                          uint32_t *equations, size_t equations_len, uint32_t i);
 
 /* Every weight of the list times the factor; by 0 too, which keeps the terms.
  * Questions 3 over all wires, 4 over all weights and the factor. Lent: terms, whose weights are written. A refusal
@@ -250,10 +282,10 @@ sfr_flag sfr_is_allocated(sfr_relation rel, uint32_t var);
 /* ---- Relations on one allocator. ----
  *
  * Up to 8 relations, of any widths, over one slot store and one wire count. They are numbered from 0 as they are opened.
- * Each has queries and equations of its own, and a quota: how many wires it may allocate and mint. A wire that one of
- * them sets is set for all. A call is handed the allocator, the relation's number and its record, as the last calls gave
- * them back; it is the call of the same name without _on, with the allocator's wire count as the relation's. Where
- * nothing is opened, 2 isn't asked of the wire count, which may then be anything. */
+ * Each has queries, use counts and equations of its own, and a quota: how many wires it may allocate and mint. A wire
+ * that one of them sets is set for all. A call is handed the allocator, the relation's number and its record, as the
+ * last calls gave them back; it is the call of the same name without _on, with the allocator's wire count as the
+ * relation's. Where nothing is opened, 2 isn't asked of the wire count, which may then be anything. */
 
 /* What they share, handed in and back by value: the wire count, and how many relations are opened. All zeros before the
  * first opening. */
@@ -269,6 +301,7 @@ typedef struct {
     uint32_t queries;
     uint32_t equations;
     uint32_t words;
+    uint32_t stray;
     uint32_t quota;
     uint32_t obtained;
 } sfr_shared_relation;
@@ -284,10 +317,13 @@ typedef struct {
 } sfr_shared_answer;
 
 /* Opens a relation of that width and quota, and answers its number: how many were opened before. The first opening
- * does to slots and wire count what sfr_new_relation does, a later one leaves both. The quota may be any number.
- * Questions 1, 2, 42, 6. Lent: slots, at least one word, and a word per wire. A refusal leaves them as they were. */
+ * does to slots and wire count what sfr_new_relation does, a later one leaves both; each fills the relation's own use
+ * store with 0. The quota may be any number.
+ * Questions 1, 2, 42, 6, 10. Lent: slots, at least one word, and a word per wire; uses, exactly a word per slot. A
+ * refusal leaves both as they were. */
 sfr_shared_answer sfr_with_allocator(sfr_var_allocator allocator, uint32_t width, uint32_t quota,
-                                     uint32_t *slots, size_t slots_len);
+                                     uint32_t *slots, size_t slots_len,
+                                     uint32_t *uses, size_t uses_len);
 
 /* Allocate: the next n wires, whose slots become F, counted among those that the relation obtained; answers the first,
  * the wire count before the call. n may be 0.
@@ -316,23 +352,36 @@ sfr_ticket_tally sfr_set_tickets_on(sfr_var_allocator allocator, uint32_t index,
                                     uint32_t *slots, size_t slots_len,
                                     const uint8_t *text, size_t text_len);
 
-/* Record: a query of inputs and outputs; unallocated wires are taken.
- * Questions 1, 2, 42, 9, 3, 10. Lent: the relation's queries, 2w words for each with the new one; input and output,
- * exactly w words each, only read. A refusal leaves queries and records as they were. */
+/* Record: a query of inputs and outputs, whose cells are counted; unallocated wires are taken.
+ * Questions 1, 2, 42, 9, 3, 11 of the counts, 10. Lent: slots, a word per wire, only read; the relation's queries, 2w
+ * words for each with the new one, and its uses, exactly a word per slot; input and output, exactly w words each, only
+ * read. A refusal leaves queries, uses and records as they were. */
 sfr_shared_answer sfr_add_permutation_on(sfr_var_allocator allocator, uint32_t index, sfr_shared_relation rel,
+                                         const uint32_t *slots, size_t slots_len,
                                          uint32_t *queries, size_t queries_len,
+                                         uint32_t *uses, size_t uses_len,
                                          const uint32_t *input, size_t input_len,
                                          const uint32_t *output, size_t output_len);
 
 /* Mint: allocates w outputs, answered as by sfr_allocate_vars_on, and records the query, or does neither: a refused mint
  * takes nothing from the quota.
- * Questions 1, 2, 42, 9, 3, 5, 43, 6, 10. Lent: slots, a word per wire with the w new ones; the relation's queries, 2w
- * words for each with the new one; input, exactly w words, only read. A refusal leaves slots, queries and records as
- * they were. */
+ * Questions 1, 2, 42, 9, 3, 5, 43, 6, 11 of the counts, 10. Lent: slots, a word per wire with the w new ones; the
+ * relation's queries, 2w words for each with the new one, and its uses, exactly a word per slot; input, exactly w words,
+ * only read. A refusal leaves slots, queries, uses and records as they were. */
 sfr_shared_answer sfr_allocate_permutation_on(sfr_var_allocator allocator, uint32_t index, sfr_shared_relation rel,
                                               uint32_t *slots, size_t slots_len,
                                               uint32_t *queries, size_t queries_len,
+                                              uint32_t *uses, size_t uses_len,
                                               const uint32_t *input, size_t input_len);
+
+/* Withdraw a query of the relation: number i, counted from 0. Later ones move down by one, and the 2w words freed at
+ * their end become 0; its cells are taken off the counts. Wires that it minted stay allocated, and obtained.
+ * Questions 1, 2, 42, 45, 11 of the counts, 10. Lent: slots, a word per wire, only read; the relation's queries, 2w words
+ * for each, and its uses, exactly a word per slot. A refusal leaves queries, uses and records as they were. */
+sfr_shared_answer sfr_withdraw_query_on(sfr_var_allocator allocator, uint32_t index, sfr_shared_relation rel,
+                                        const uint32_t *slots, size_t slots_len,
+                                        uint32_t *queries, size_t queries_len,
+                                        uint32_t *uses, size_t uses_len, uint32_t i);
 
 /* Equation: weight times value, summed over the terms, is the image. Kept in order, repeats and zero weights too.
  * Questions 1, 2, 42, 3 over all wires, 4 over all weights and the image, 10. Lent: the relation's equations, the used
@@ -341,6 +390,13 @@ sfr_shared_answer sfr_add_equation_on(sfr_var_allocator allocator, uint32_t inde
                                       uint32_t *equations, size_t equations_len,
                                       const sfr_weighted *terms, size_t terms_len,
                                       uint32_t image);
+
+/* Withdraw an equation of the relation: number i, counted from 0. Later ones move down by one, and the words freed at
+ * their end become 0.
+ * Questions 1, 2, 42, 45, 11 of the equations' end. Lent: the relation's equations, the used words. A refusal leaves
+ * equations and records as they were. */
+sfr_shared_answer sfr_withdraw_equation_on(sfr_var_allocator allocator, uint32_t index, sfr_shared_relation rel,
+                                           uint32_t *equations, size_t equations_len, uint32_t i);
 
 /* Value of a wire: its slot; none where that is F or the wire isn't allocated.
  * Questions 1, 2, 42, 3. Lent: slots, a word per wire, only read. */
@@ -450,27 +506,31 @@ typedef struct {
 } sfr_heading_answer;
 
 /* The gate: an instance of the relation, whose publics are the assigned wires in index order.
- * Questions 1, 2, 11, 10, 16, 12, 13; then term by term 14, 15. Lent: label, slots, queries and equations, as the
- * relation's calls left them, only read; publics, 2 words per assigned wire, which become the pairs and then 0 to their
- * end; scratch, a word per wire. A refusal leaves publics and scratch all 0. */
+ * Questions 1, 2, 11, 10, 16, 12, 13; then term by term 14, 15; 13 and 15 go by the use counts and the stray count,
+ * whatever they are. Lent: label, slots, queries, equations and uses, exactly a word per slot, as the relation's calls
+ * left them, only read; publics, 2 words per assigned wire, which become the pairs and then 0 to their end; scratch, a
+ * word per wire. A refusal leaves publics and scratch all 0. */
 sfr_instance_answer sfr_compile(sfr_relation rel,
                                 const uint8_t *label, size_t label_len,
                                 const uint32_t *slots, size_t slots_len,
                                 const uint32_t *queries, size_t queries_len,
                                 const uint32_t *equations, size_t equations_len,
+                                const uint32_t *uses, size_t uses_len,
                                 uint32_t *publics, size_t publics_len,
                                 uint32_t *scratch, size_t scratch_len);
 
 /* The gate of a relation on a shared allocator: as sfr_compile, with all wires and everybody's sets, and the relation's
- * own queries and equations. Later calls don't change the instance.
- * Questions 1, 2, 42, 11, 10, 16, 12, 13; then term by term 14, 15. Lent: label, slots, and the relation's queries and
- * equations, as the calls left them, only read; publics, 2 words per assigned wire, which become the pairs and then 0 to
- * their end; scratch, a word per wire. A refusal leaves publics and scratch all 0. */
+ * own queries, equations and use counts. Later calls don't change the instance.
+ * Questions 1, 2, 42, 11, 10, 16, 12, 13; then term by term 14, 15. Lent: label, slots, and the relation's queries,
+ * equations and uses, exactly a word per slot, as the calls left them, only read; publics, 2 words per assigned wire,
+ * which become the pairs and then 0 to their end; scratch, a word per wire. A refusal leaves publics and scratch
+ * all 0. */
 sfr_instance_answer sfr_compile_on(sfr_var_allocator allocator, uint32_t index, sfr_shared_relation rel,
                                    const uint8_t *label, size_t label_len,
                                    const uint32_t *slots, size_t slots_len,
                                    const uint32_t *queries, size_t queries_len,
                                    const uint32_t *equations, size_t equations_len,
+                                   const uint32_t *uses, size_t uses_len,
                                    uint32_t *publics, size_t publics_len,
                                    uint32_t *scratch, size_t scratch_len);
 

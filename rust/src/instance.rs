@@ -4,16 +4,19 @@ use crate::{sys, Instance, InstanceAnswer, InstanceRead, Relation, Value, Writte
 
 /// The gate: an instance of the relation, whose publics are the assigned wires in index order.
 ///
-/// Questions 1, 2, 11, 10, 16, 12, 13; then term by term 14, 15. Lent: label, slots, queries and
-/// equations as the relation's calls left them; publics, 2 words per assigned wire, which become
-/// the pairs and then 0 to their end; scratch, a word per wire. A refusal leaves publics and
+/// Questions 1, 2, 11, 10, 16, 12, 13; then term by term 14, 15; 13 and 15 go by the use counts and
+/// the stray count, whatever they are. Lent: label, slots, queries, equations and uses, exactly a
+/// word per slot, as the relation's calls left them; publics, 2 words per assigned wire, which
+/// become the pairs and then 0 to their end; scratch, a word per wire. A refusal leaves publics and
 /// scratch all 0.
+#[allow(clippy::too_many_arguments)]
 pub fn compile(
     rel: Relation,
     label: &[u8],
     slots: &[u32],
     queries: &[u32],
     equations: &[u32],
+    uses: &[u32],
     publics: &mut [u32],
     scratch: &mut [u32],
 ) -> InstanceAnswer {
@@ -29,6 +32,8 @@ pub fn compile(
             queries.len(),
             equations.as_ptr(),
             equations.len(),
+            uses.as_ptr(),
+            uses.len(),
             publics.as_mut_ptr(),
             publics.len(),
             scratch.as_mut_ptr(),

@@ -15,14 +15,20 @@
 //!
 //! - *slots*: a unit or F per wire;
 //! - *queries*: 2w wires each, inputs then outputs;
+//! - *uses*: per slot, how many cells of the relation's queries name its wire;
 //! - *equations*: each a term count, then wire and weight per term, then the image;
 //! - *publics*: wire and unit pairs;
 //! - *trace*: 2w units per step, inputs then outputs;
 //! - a *sheet*: per round a kind and w constants, then w·w matrix units row by row.
 //!
+//! A use store is one relation's own, and exactly as long as the slots. [`new_relation`], or the
+//! relation's opening, fills it with 0; from then on it is handed from call to call as the queries
+//! are, and nobody else writes it. A cell whose wire has a slot is counted there, allocated or not;
+//! any other is *stray*, and is counted in the relation's record.
+//!
 //! ```
-//! let mut slots = [0; 8];
-//! let rel = sfr::new_relation(1, &mut slots).accepted()?; // one wire, wire 0, that carries 0
+//! let (mut slots, mut uses) = ([0; 8], [0; 8]);
+//! let rel = sfr::new_relation(1, &mut slots, &mut uses).accepted()?; // wire 0, that carries 0
 //! assert_eq!(sfr::set_var(rel, &mut slots, 0, 0).accepted()?, sfr::Set::Repeated);
 //! let refused = sfr::set_var(rel, &mut slots, 0, 5).accepted().unwrap_err();
 //! assert_eq!(refused.to_string(), "8: is its slot F or that value?");

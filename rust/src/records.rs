@@ -57,6 +57,8 @@ pub struct Relation {
     pub equations: u32,
     /// How many words of the equation store they use.
     pub words: u32,
+    /// How many query cells name wires beyond the slots.
+    pub stray: u32,
 }
 
 /// The answer of a call that returns a relation's record.
@@ -178,6 +180,8 @@ pub struct SharedRelation {
     pub equations: u32,
     /// How many words of the equation store they use.
     pub words: u32,
+    /// How many query cells name wires beyond the slots.
+    pub stray: u32,
     /// How many wires it may allocate and mint.
     pub quota: u32,
     /// How many wires it obtained.

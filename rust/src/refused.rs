@@ -34,8 +34,8 @@ impl Refused {
             7 => "is the set wire allocated?",
             8 => "is its slot F or that value?",
             9 => "have lent lists of a query or step w words each, and the set list's two lists one length?",
-            10 => "is the store, trace or output written to long enough?",
-            11 => "do the equations end exactly at the used words, are held wires below 2^30, held units below p, slots of allocated wires below p or F, and is the label UTF-8?",
+            10 => "is the store, trace or output written to long enough, and the use store as long as the slots?",
+            11 => "do the equations end exactly at the used words, are held wires below 2^30, held units below p, slots of allocated wires below p or F, and is the label UTF-8? Would each use count, and the stray count, that a query changes be from 0 to 2^30?",
             12 => "are public wires below the wire count?",
             13 => "are query wires below the wire count?",
             14 => "is the term's wire below the wire count?",
@@ -61,6 +61,7 @@ impl Refused {
             42 => "is a relation of this number opened? Of an opening: are fewer than 8?",
             43 => "does the quota hold what the relation obtained and the new wires?",
             44 => "has the sheet no rounds, or a matrix that is not singular?",
+            45 => "is there a query, or an equation, of this number?",
             _ => "?",
         }
     }

@@ -2,12 +2,15 @@
 
 use crate::{sys, Flag, Relation, RelationAnswer, SetAnswer, Tally, TicketTally, Value, Weighted};
 
-/// Fresh: a relation of that width with wire 0 alone, whose slot becomes 0.
+/// Fresh: a relation of that width with wire 0 alone, whose slot becomes 0, and no queries: its
+/// use counts become 0.
 ///
-/// Questions 1, 2, 6. Lent: slots, at least one word. A refusal leaves them as they were.
-pub fn new_relation(width: u32, slots: &mut [u32]) -> RelationAnswer {
+/// Questions 1, 2, 6, 10. Lent: slots, at least one word; uses, exactly a word per slot. A refusal
+/// leaves both as they were.
+pub fn new_relation(width: u32, slots: &mut [u32], uses: &mut [u32]) -> RelationAnswer {
+    let (words, len) = (slots.as_mut_ptr(), slots.len());
     // SAFETY: see the head of this file.
-    unsafe { sys::sfr_new_relation(width, slots.as_mut_ptr(), slots.len()) }
+    unsafe { sys::sfr_new_relation(width, words, len, uses.as_mut_ptr(), uses.len()) }
 }
 
 /// Allocates the next n wires, whose slots become F, and answers the first: the wire count
@@ -61,13 +64,16 @@ pub fn set_tickets(rel: Relation, slots: &mut [u32], text: &[u8]) -> TicketTally
     unsafe { sys::sfr_set_tickets(rel, words, len, text.as_ptr(), text.len()) }
 }
 
-/// Records a query; unallocated wires are taken.
+/// Records a query, and counts its cells; unallocated wires are taken.
 ///
-/// Questions 1, 2, 9, 3, 10. Lent: queries, 2w words for each with the new one; w inputs and w
-/// outputs. A refusal leaves the queries and the record as they were.
+/// Questions 1, 2, 9, 3, 11 of the counts, 10. Lent: slots, a word per wire; queries, 2w words for
+/// each with the new one; uses, exactly a word per slot; w inputs and w outputs. A refusal leaves
+/// the queries, the uses and the record as they were.
 pub fn add_permutation(
     rel: Relation,
+    slots: &[u32],
     queries: &mut [u32],
+    uses: &mut [u32],
     input: &[u32],
     output: &[u32],
 ) -> RelationAnswer {
@@ -75,8 +81,12 @@ pub fn add_permutation(
     unsafe {
         sys::sfr_add_permutation(
             rel,
+            slots.as_ptr(),
+            slots.len(),
             queries.as_mut_ptr(),
             queries.len(),
+            uses.as_mut_ptr(),
+            uses.len(),
             input.as_ptr(),
             input.len(),
             output.as_ptr(),
@@ -88,13 +98,14 @@ pub fn add_permutation(
 /// Mint: allocates w outputs, answered as by [`allocate_vars`], and records the query, or does
 /// neither.
 ///
-/// Questions 1, 2, 9, 3, 5, 6, 10. Lent: slots, a word per wire with the w new ones; queries, 2w
-/// words for each with the new one; w inputs. A refusal leaves both stores and the record as they
-/// were.
+/// Questions 1, 2, 9, 3, 5, 6, 11 of the counts, 10. Lent: slots, a word per wire with the w new
+/// ones; queries, 2w words for each with the new one; uses, exactly a word per slot; w inputs. A
+/// refusal leaves the three stores and the record as they were.
 pub fn allocate_permutation(
     rel: Relation,
     slots: &mut [u32],
     queries: &mut [u32],
+    uses: &mut [u32],
     input: &[u32],
 ) -> RelationAnswer {
     // SAFETY: see the head of this file.
@@ -105,8 +116,51 @@ pub fn allocate_permutation(
             slots.len(),
             queries.as_mut_ptr(),
             queries.len(),
+            uses.as_mut_ptr(),
+            uses.len(),
             input.as_ptr(),
             input.len(),
+        )
+    }
+}
+
+/// Withdraws query i, counted from 0: later ones move down by one, and the 2w words freed at their
+/// end become 0. Its cells are taken off the counts; wires that it minted stay allocated.
+///
+/// Questions 1, 2, 45, 11 of the counts, 10. Lent: slots, a word per wire; queries, 2w words for
+/// each; uses, exactly a word per slot. A refusal leaves the queries, the uses and the record as
+/// they were.
+///
+/// ```
+/// let (slots, queries, uses) = (&mut [0; 4], &mut [0; 4], &mut [0; 4]);
+/// let rel = sfr::new_relation(1, slots, uses).accepted()?;
+/// let rel = sfr::allocate_permutation(rel, slots, queries, uses, &[0]).accepted()?;
+/// let rel = sfr::add_permutation(rel, slots, queries, uses, &[1], &[7]).accepted()?;
+/// assert_eq!((*queries, *uses, rel.stray), ([0, 1, 1, 7], [1, 2, 0, 0], 1)); // 7 has no slot
+/// let rel = sfr::withdraw_query(rel, slots, queries, uses, 0).accepted()?;
+/// assert_eq!((*queries, *uses, rel.stray), ([1, 7, 0, 0], [0, 1, 0, 0], 1));
+/// let refused = sfr::withdraw_query(rel, slots, queries, uses, 1).accepted().unwrap_err();
+/// assert_eq!(refused.number(), 45); // one query is left, and its number is 0
+/// # Ok::<(), sfr::Refused>(())
+/// ```
+pub fn withdraw_query(
+    rel: Relation,
+    slots: &[u32],
+    queries: &mut [u32],
+    uses: &mut [u32],
+    i: u32,
+) -> RelationAnswer {
+    // SAFETY: see the head of this file.
+    unsafe {
+        sys::sfr_withdraw_query(
+            rel,
+            slots.as_ptr(),
+            slots.len(),
+            queries.as_mut_ptr(),
+            queries.len(),
+            uses.as_mut_ptr(),
+            uses.len(),
+            i,
         )
     }
 }
@@ -133,6 +187,16 @@ pub fn add_equation(
             image,
         )
     }
+}
+
+/// Withdraws equation i, counted from 0: later ones move down by one, and the words freed at their
+/// end become 0.
+///
+/// Questions 1, 2, 45, 11 of the equations' end. Lent: equations, the used words. A refusal leaves
+/// them and the record as they were.
+pub fn withdraw_equation(rel: Relation, equations: &mut [u32], i: u32) -> RelationAnswer {
+    // SAFETY: see the head of this file.
+    unsafe { sys::sfr_withdraw_equation(rel, equations.as_mut_ptr(), equations.len(), i) }
 }
 
 /// Multiplies every weight of the list by the factor; by 0 too, which keeps the terms.

@@ -1,11 +1,12 @@
 //! Relations on one allocator: up to 8, of any widths, over one slot store and one wire count. In
 //! each call, a pointer and the length after it are those of one slice.
 //!
-//! They are numbered from 0 as they are opened. Each has queries and equations of its own, and a
-//! quota: how many wires it may allocate and mint. A wire that one of them sets is set for all. A
-//! call is handed the allocator, the relation's number (`index`) and the relation's record, as the
-//! last calls gave them back; it is the call of the same name without `_on`, with the allocator's
-//! wire count as the relation's. Where nothing is opened, 2 isn't asked of the wire count.
+//! They are numbered from 0 as they are opened. Each has queries, use counts and equations of its
+//! own, and a quota: how many wires it may allocate and mint. A wire that one of them sets is set
+//! for all. A call is handed the allocator, the relation's number (`index`) and the relation's
+//! record, as the last calls gave them back; it is the call of the same name without `_on`, with
+//! the allocator's wire count as the relation's. Where nothing is opened, 2 isn't asked of the wire
+//! count.
 
 use crate::{
     sys, Flag, InstanceAnswer, SetAnswer, SharedAnswer, SharedRelation, Tally, TicketTally, Value,
@@ -14,16 +15,17 @@ use crate::{
 
 /// Opens a relation of that width and quota, and answers its number: how many were opened before.
 /// The first opening does to slots and wire count what [`new_relation`](crate::new_relation) does,
-/// a later one leaves both. The quota may be any number.
+/// a later one leaves both; each fills the relation's own use store with 0. The quota may be any
+/// number.
 ///
-/// Questions 1, 2, 42, 6. Lent: slots, at least one word, and a word per wire. A refusal leaves
-/// them as they were.
+/// Questions 1, 2, 42, 6, 10. Lent: slots, at least one word, and a word per wire; uses, exactly a
+/// word per slot. A refusal leaves both as they were.
 ///
 /// ```
-/// let mut slots = [0; 8];
+/// let (mut slots, mut uses) = ([0; 8], [[0; 8]; 2]);
 /// let none = sfr::VarAllocator::default();
-/// let (premix, plant, one) = sfr::with_allocator(none, 1, 2, &mut slots).first()?;
-/// let (salt, plant, two) = sfr::with_allocator(plant, 3, 5, &mut slots).first()?;
+/// let (premix, plant, one) = sfr::with_allocator(none, 1, 2, &mut slots, &mut uses[0]).first()?;
+/// let (salt, plant, two) = sfr::with_allocator(plant, 3, 5, &mut slots, &mut uses[1]).first()?;
 /// assert_eq!((premix, salt), (0, 1));
 /// let (first, plant, one) = sfr::allocate_vars_on(plant, premix, one, &mut slots, 2).first()?;
 /// assert_eq!(first, 1);
@@ -40,10 +42,20 @@ pub fn with_allocator(
     width: u32,
     quota: u32,
     slots: &mut [u32],
+    uses: &mut [u32],
 ) -> SharedAnswer {
-    let (words, len) = (slots.as_mut_ptr(), slots.len());
     // SAFETY: see the head of this file.
-    unsafe { sys::sfr_with_allocator(allocator, width, quota, words, len) }
+    unsafe {
+        sys::sfr_with_allocator(
+            allocator,
+            width,
+            quota,
+            slots.as_mut_ptr(),
+            slots.len(),
+            uses.as_mut_ptr(),
+            uses.len(),
+        )
+    }
 }
 
 /// Allocates the next n wires, whose slots become F, counted among those that the relation
@@ -135,15 +147,19 @@ pub fn set_tickets_on(
     }
 }
 
-/// Records a query; unallocated wires are taken.
+/// Records a query, and counts its cells; unallocated wires are taken.
 ///
-/// Questions 1, 2, 42, 9, 3, 10. Lent: the relation's queries, 2w words for each with the new one;
-/// w inputs and w outputs. A refusal leaves the queries and the records as they were.
+/// Questions 1, 2, 42, 9, 3, 11 of the counts, 10. Lent: slots, a word per wire; the relation's
+/// queries, 2w words for each with the new one, and its uses, exactly a word per slot; w inputs and
+/// w outputs. A refusal leaves the queries, the uses and the records as they were.
+#[allow(clippy::too_many_arguments)]
 pub fn add_permutation_on(
     allocator: VarAllocator,
     index: u32,
     rel: SharedRelation,
+    slots: &[u32],
     queries: &mut [u32],
+    uses: &mut [u32],
     input: &[u32],
     output: &[u32],
 ) -> SharedAnswer {
@@ -153,8 +169,12 @@ pub fn add_permutation_on(
             allocator,
             index,
             rel,
+            slots.as_ptr(),
+            slots.len(),
             queries.as_mut_ptr(),
             queries.len(),
+            uses.as_mut_ptr(),
+            uses.len(),
             input.as_ptr(),
             input.len(),
             output.as_ptr(),
@@ -166,15 +186,16 @@ pub fn add_permutation_on(
 /// Mint: allocates w outputs, answered as by [`allocate_vars_on`], and records the query, or does
 /// neither: a refused mint takes nothing from the quota.
 ///
-/// Questions 1, 2, 42, 9, 3, 5, 43, 6, 10. Lent: slots, a word per wire with the w new ones; the
-/// relation's queries, 2w words for each with the new one; w inputs. A refusal leaves both stores
-/// and the records as they were.
+/// Questions 1, 2, 42, 9, 3, 5, 43, 6, 11 of the counts, 10. Lent: slots, a word per wire with the w
+/// new ones; the relation's queries, 2w words for each with the new one, and its uses, exactly a
+/// word per slot; w inputs. A refusal leaves the three stores and the records as they were.
 pub fn allocate_permutation_on(
     allocator: VarAllocator,
     index: u32,
     rel: SharedRelation,
     slots: &mut [u32],
     queries: &mut [u32],
+    uses: &mut [u32],
     input: &[u32],
 ) -> SharedAnswer {
     // SAFETY: see the head of this file.
@@ -187,8 +208,43 @@ pub fn allocate_permutation_on(
             slots.len(),
             queries.as_mut_ptr(),
             queries.len(),
+            uses.as_mut_ptr(),
+            uses.len(),
             input.as_ptr(),
             input.len(),
+        )
+    }
+}
+
+/// Withdraws query i of the relation, counted from 0: later ones move down by one, and the 2w words
+/// freed at their end become 0. Its cells are taken off the counts; wires that it minted stay
+/// allocated, and obtained.
+///
+/// Questions 1, 2, 42, 45, 11 of the counts, 10. Lent: slots, a word per wire; the relation's
+/// queries, 2w words for each, and its uses, exactly a word per slot. A refusal leaves the queries,
+/// the uses and the records as they were.
+pub fn withdraw_query_on(
+    allocator: VarAllocator,
+    index: u32,
+    rel: SharedRelation,
+    slots: &[u32],
+    queries: &mut [u32],
+    uses: &mut [u32],
+    i: u32,
+) -> SharedAnswer {
+    // SAFETY: see the head of this file.
+    unsafe {
+        sys::sfr_withdraw_query_on(
+            allocator,
+            index,
+            rel,
+            slots.as_ptr(),
+            slots.len(),
+            queries.as_mut_ptr(),
+            queries.len(),
+            uses.as_mut_ptr(),
+            uses.len(),
+            i,
         )
     }
 }
@@ -222,6 +278,23 @@ pub fn add_equation_on(
     }
 }
 
+/// Withdraws equation i of the relation, counted from 0: later ones move down by one, and the words
+/// freed at their end become 0.
+///
+/// Questions 1, 2, 42, 45, 11 of the equations' end. Lent: the relation's equations, the used words.
+/// A refusal leaves them and the records as they were.
+pub fn withdraw_equation_on(
+    allocator: VarAllocator,
+    index: u32,
+    rel: SharedRelation,
+    equations: &mut [u32],
+    i: u32,
+) -> SharedAnswer {
+    let (words, len) = (equations.as_mut_ptr(), equations.len());
+    // SAFETY: see the head of this file.
+    unsafe { sys::sfr_withdraw_equation_on(allocator, index, rel, words, len, i) }
+}
+
 /// The value of a wire: its slot, none where that is F or the wire isn't allocated.
 ///
 /// Questions 1, 2, 42, 3. Lent: slots, a word per wire.
@@ -244,11 +317,12 @@ pub fn is_allocated_on(allocator: VarAllocator, index: u32, rel: SharedRelation,
 }
 
 /// The gate: an instance of the relation, with all wires and everybody's sets, and the relation's
-/// own queries and equations. Its publics are the assigned wires in index order. Later calls don't
-/// change the instance.
+/// own queries, equations and use counts. Its publics are the assigned wires in index order. Later
+/// calls don't change the instance.
 ///
-/// Questions 1, 2, 42, 11, 10, 16, 12, 13; then term by term 14, 15. Lent: label, slots, and the
-/// relation's queries and equations, as the calls left them; publics, 2 words per assigned wire,
+/// Questions 1, 2, 42, 11, 10, 16, 12, 13; then term by term 14, 15; 13 and 15 go by the use counts
+/// and the stray count, whatever they are. Lent: label, slots, and the relation's queries, equations
+/// and uses, exactly a word per slot, as the calls left them; publics, 2 words per assigned wire,
 /// which become the pairs and then 0 to their end; scratch, a word per wire. A refusal leaves
 /// publics and scratch all 0.
 #[allow(clippy::too_many_arguments)]
@@ -260,6 +334,7 @@ pub fn compile_on(
     slots: &[u32],
     queries: &[u32],
     equations: &[u32],
+    uses: &[u32],
     publics: &mut [u32],
     scratch: &mut [u32],
 ) -> InstanceAnswer {
@@ -277,6 +352,8 @@ pub fn compile_on(
             queries.len(),
             equations.as_ptr(),
             equations.len(),
+            uses.as_ptr(),
+            uses.len(),
             publics.as_mut_ptr(),
             publics.len(),
             scratch.as_mut_ptr(),

@@ -31,7 +31,13 @@ unsafe extern "C" {
 
 // Relations.
 unsafe extern "C" {
-    pub fn sfr_new_relation(width: u32, slots: *mut u32, slots_len: usize) -> RelationAnswer;
+    pub fn sfr_new_relation(
+        width: u32,
+        slots: *mut u32,
+        slots_len: usize,
+        uses: *mut u32,
+        uses_len: usize,
+    ) -> RelationAnswer;
     pub fn sfr_allocate_vars(
         rel: Relation,
         slots: *mut u32,
@@ -63,8 +69,12 @@ unsafe extern "C" {
     ) -> TicketTally;
     pub fn sfr_add_permutation(
         rel: Relation,
+        slots: *const u32,
+        slots_len: usize,
         queries: *mut u32,
         queries_len: usize,
+        uses: *mut u32,
+        uses_len: usize,
         input: *const u32,
         input_len: usize,
         output: *const u32,
@@ -76,8 +86,20 @@ unsafe extern "C" {
         slots_len: usize,
         queries: *mut u32,
         queries_len: usize,
+        uses: *mut u32,
+        uses_len: usize,
         input: *const u32,
         input_len: usize,
+    ) -> RelationAnswer;
+    pub fn sfr_withdraw_query(
+        rel: Relation,
+        slots: *const u32,
+        slots_len: usize,
+        queries: *mut u32,
+        queries_len: usize,
+        uses: *mut u32,
+        uses_len: usize,
+        i: u32,
     ) -> RelationAnswer;
     pub fn sfr_add_equation(
         rel: Relation,
@@ -86,6 +108,12 @@ unsafe extern "C" {
         terms: *const Weighted,
         terms_len: usize,
         image: u32,
+    ) -> RelationAnswer;
+    pub fn sfr_withdraw_equation(
+        rel: Relation,
+        equations: *mut u32,
+        equations_len: usize,
+        i: u32,
     ) -> RelationAnswer;
     pub fn sfr_scale(terms: *mut Weighted, terms_len: usize, factor: u32) -> u32;
     pub fn sfr_value_of(rel: Relation, slots: *const u32, slots_len: usize, var: u32) -> Value;
@@ -100,6 +128,8 @@ unsafe extern "C" {
         quota: u32,
         slots: *mut u32,
         slots_len: usize,
+        uses: *mut u32,
+        uses_len: usize,
     ) -> SharedAnswer;
     pub fn sfr_allocate_vars_on(
         allocator: VarAllocator,
@@ -142,8 +172,12 @@ unsafe extern "C" {
         allocator: VarAllocator,
         index: u32,
         rel: SharedRelation,
+        slots: *const u32,
+        slots_len: usize,
         queries: *mut u32,
         queries_len: usize,
+        uses: *mut u32,
+        uses_len: usize,
         input: *const u32,
         input_len: usize,
         output: *const u32,
@@ -157,8 +191,22 @@ unsafe extern "C" {
         slots_len: usize,
         queries: *mut u32,
         queries_len: usize,
+        uses: *mut u32,
+        uses_len: usize,
         input: *const u32,
         input_len: usize,
+    ) -> SharedAnswer;
+    pub fn sfr_withdraw_query_on(
+        allocator: VarAllocator,
+        index: u32,
+        rel: SharedRelation,
+        slots: *const u32,
+        slots_len: usize,
+        queries: *mut u32,
+        queries_len: usize,
+        uses: *mut u32,
+        uses_len: usize,
+        i: u32,
     ) -> SharedAnswer;
     pub fn sfr_add_equation_on(
         allocator: VarAllocator,
@@ -169,6 +217,14 @@ unsafe extern "C" {
         terms: *const Weighted,
         terms_len: usize,
         image: u32,
+    ) -> SharedAnswer;
+    pub fn sfr_withdraw_equation_on(
+        allocator: VarAllocator,
+        index: u32,
+        rel: SharedRelation,
+        equations: *mut u32,
+        equations_len: usize,
+        i: u32,
     ) -> SharedAnswer;
     pub fn sfr_value_of_on(
         allocator: VarAllocator,
@@ -196,6 +252,8 @@ unsafe extern "C" {
         queries_len: usize,
         equations: *const u32,
         equations_len: usize,
+        uses: *const u32,
+        uses_len: usize,
         publics: *mut u32,
         publics_len: usize,
         scratch: *mut u32,
@@ -270,6 +328,8 @@ unsafe extern "C" {
         queries_len: usize,
         equations: *const u32,
         equations_len: usize,
+        uses: *const u32,
+        uses_len: usize,
         publics: *mut u32,
         publics_len: usize,
         scratch: *mut u32,

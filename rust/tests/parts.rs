@@ -1,6 +1,6 @@
 //! What comes back as a part of what was lent, and what the answers become as results.
 
-use sfr::{accepted, Refused, Set, Weighted, PRIME};
+use sfr::{accepted, Refused, Set, Weighted, MAX_COUNT, PRIME};
 
 /// Is it the very same part, not only equal bytes?
 fn same_part(a: &[u8], b: &[u8]) -> bool {
@@ -65,7 +65,7 @@ fn scaling_keeps_the_terms() {
 #[test]
 fn every_number_has_its_question() {
     let numbers = (1..=17).chain(20..=25).chain([27, 28]).chain(31..=36);
-    for number in numbers.chain(40..=44) {
+    for number in numbers.chain(40..=45) {
         let refused = accepted(number).unwrap_err();
         assert_eq!(refused.number(), number);
         assert!(refused.question().len() > 1, "{number}");
@@ -80,7 +80,7 @@ fn every_number_has_its_question() {
 #[test]
 fn answers_are_results() -> Result<(), Refused> {
     let mut slots = [0; 4];
-    let rel = sfr::new_relation(1, &mut slots).accepted()?;
+    let rel = sfr::new_relation(1, &mut slots, &mut [0; 4]).accepted()?;
     let (first, rel) = sfr::allocate_vars(rel, &mut slots, 2).allocated()?;
     assert_eq!(first, 1);
     let tally = sfr::set_vars(rel, &mut slots, &[1, 9, 2], &[5, 5, 5]);
@@ -108,7 +108,7 @@ fn answers_are_results() -> Result<(), Refused> {
 #[test]
 fn sets_are_fresh_or_repeated() -> Result<(), Refused> {
     let mut slots = [0; 5];
-    let rel = sfr::new_relation(1, &mut slots).accepted()?;
+    let rel = sfr::new_relation(1, &mut slots, &mut [0; 5]).accepted()?;
     let rel = sfr::allocate_vars(rel, &mut slots, 4).accepted()?;
     let mut set = |var, value| sfr::set_var(rel, &mut slots, var, value).accepted();
     assert_eq!(set(1, 5)?, Set::Fresh);
@@ -130,5 +130,79 @@ fn sets_are_fresh_or_repeated() -> Result<(), Refused> {
     let text = b"         4           24\n         4            0\n         0            0\n";
     let tally = sfr::set_tickets(rel, &mut slots, text);
     assert_eq!((tally.accepted()?, tally.fresh), (3, 1));
+    Ok(())
+}
+
+#[test]
+fn what_is_withdrawn_is_gone() -> Result<(), Refused> {
+    let (slots, queries, uses) = (&mut [0; 4], &mut [9; 7], &mut [9; 4]);
+    let refused = sfr::new_relation(1, slots, &mut uses[..3]);
+    assert_eq!((refused.number, refused.relation), (10, Default::default()));
+    let rel = sfr::new_relation(1, slots, uses).accepted()?;
+    let rel = sfr::allocate_permutation(rel, slots, queries, uses, &[0]).accepted()?;
+    let rel = sfr::add_permutation(rel, slots, queries, uses, &[1], &[3]).accepted()?;
+    let rel = sfr::add_permutation(rel, slots, queries, uses, &[4], &[1]).accepted()?;
+    assert_eq!((&*queries, &*uses), (&[0, 1, 1, 3, 4, 1, 9], &[1, 3, 0, 1]));
+    assert_eq!((rel.vars_count, rel.queries, rel.stray), (2, 3, 1));
+
+    // Counts that are not those of the queries: 11, and before it 45, after it 10.
+    let strike = |counts: &[u32], i| {
+        let (held, uses) = (&mut queries.clone(), &mut counts.to_vec());
+        let refused = sfr::withdraw_query(rel, slots, held, uses, i);
+        assert_eq!((refused.relation, &*held), (rel, &*queries));
+        assert_eq!(uses, counts);
+        refused.number
+    };
+    assert_eq!(strike(&[1, 3, 0, 0], 3), 45);
+    assert_eq!(strike(&[1, 3, 0, 0], 1), 11);
+    assert_eq!(strike(&[1, MAX_COUNT + 2, 0, 1], 1), 11);
+    assert_eq!(strike(&[1, 0, 0], 1), 11);
+    assert_eq!(strike(&[1, 3, 0], 1), 10);
+
+    let rel = sfr::withdraw_query(rel, slots, queries, uses, 1).accepted()?;
+    assert_eq!((&*queries, &*uses), (&[0, 1, 4, 1, 0, 0, 9], &[1, 2, 0, 0]));
+    assert_eq!((rel.vars_count, rel.queries, rel.stray), (2, 2, 1));
+    let rel = sfr::withdraw_query(rel, slots, queries, uses, 1).accepted()?;
+    assert_eq!((&*queries, &*uses), (&[0, 1, 0, 0, 0, 0, 9], &[1, 1, 0, 0]));
+    assert_eq!((rel.vars_count, rel.queries, rel.stray), (2, 1, 0));
+
+    let equations = &mut [9; 12];
+    let terms = [1, 0].map(|var| Weighted { var, weight: 1 });
+    let rel = sfr::add_equation(rel, equations, &terms, 6).accepted()?;
+    let rel = sfr::add_equation(rel, equations, &terms[..1], 7).accepted()?;
+    assert_eq!((rel.equations, rel.words), (2, 10));
+    let refused = sfr::withdraw_equation(rel, equations, 2);
+    assert_eq!((refused.number, refused.relation), (45, rel));
+    let short = sfr::Relation { words: 9, ..rel };
+    let refused = sfr::withdraw_equation(short, equations, 0);
+    assert_eq!((refused.number, refused.relation), (11, short));
+    assert_eq!(equations, &[2, 1, 1, 0, 1, 6, 1, 1, 1, 7, 9, 9]);
+    let rel = sfr::withdraw_equation(rel, equations, 0).accepted()?;
+    assert_eq!((rel.equations, rel.words), (1, 4));
+    assert_eq!(equations, &[1, 1, 1, 7, 0, 0, 0, 0, 0, 0, 9, 9]);
+    Ok(())
+}
+
+#[test]
+fn the_gate_goes_by_the_counts() -> Result<(), Refused> {
+    let (slots, queries, equations) = (&mut [0; 4], &mut [0; 2], &mut [0; 4]);
+    let uses = &mut [0; 4];
+    let rel = sfr::new_relation(1, slots, uses).accepted()?;
+    let rel = sfr::allocate_permutation(rel, slots, queries, uses, &[0]).accepted()?;
+    let term = [Weighted { var: 1, weight: 1 }];
+    let rel = sfr::add_equation(rel, equations, &term, 0).accepted()?;
+    let gate = |stray, uses: &[u32]| {
+        let (publics, scratch) = (&mut [9; 3], &mut [9; 2]);
+        let rel = sfr::Relation { stray, ..rel };
+        let answer = sfr::compile(rel, b"", slots, queries, equations, uses, publics, scratch);
+        assert_eq!((publics, scratch), (&mut [0; 3], &mut [0; 2]));
+        answer.number
+    };
+    assert_eq!(gate(0, uses), 0);
+    assert_eq!(gate(0, &[5, 1, 0, 0]), 0);
+    assert_eq!(gate(0, &uses[..3]), 10);
+    assert_eq!(gate(1, uses), 13);
+    assert_eq!(gate(0, &[1, 1, 0, 1]), 13);
+    assert_eq!(gate(0, &[1, 0, 0, 0]), 15);
     Ok(())
 }

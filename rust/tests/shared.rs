@@ -3,8 +3,12 @@
 use sfr::{Refused, Set, SharedRelation, VarAllocator, Weighted, MAX_RELATIONS, UNASSIGNED};
 
 /// A relation opened on an allocator of its own.
-fn opened(width: u32, quota: u32, slots: &mut [u32]) -> (VarAllocator, SharedRelation) {
-    let answer = sfr::with_allocator(VarAllocator::default(), width, quota, slots);
+fn opened<const N: usize>(
+    width: u32,
+    quota: u32,
+    slots: &mut [u32; N],
+) -> (VarAllocator, SharedRelation) {
+    let answer = sfr::with_allocator(VarAllocator::default(), width, quota, slots, &mut [0; N]);
     answer.accepted().expect("the first of eight")
 }
 
@@ -13,29 +17,34 @@ fn eight_are_opened_and_no_ninth() {
     let mut slots = [7; 3];
     let mut plant = VarAllocator::default();
     for index in 0..MAX_RELATIONS {
-        let (first, allocator, rel) = sfr::with_allocator(plant, 24 - index, index, &mut slots)
-            .first()
-            .expect("eight may be opened");
+        let mut uses = [7; 3];
+        let answer = sfr::with_allocator(plant, 24 - index, index, &mut slots, &mut uses);
+        let (first, allocator, rel) = answer.first().expect("eight may be opened");
         assert_eq!((first, allocator.opened), (index, index + 1));
         assert_eq!(allocator.vars_count, 1);
         assert_eq!((rel.width, rel.quota, rel.obtained), (24 - index, index, 0));
-        // The first opening writes slot 0, a later one none.
+        // The first opening writes slot 0, a later one none; each writes its own use store.
         assert_eq!(slots, [if index == 0 { 0 } else { 7 }, 7, 7]);
+        assert_eq!((uses, rel.stray), ([0; 3], 0));
         plant = allocator;
         slots[0] = 7;
     }
-    let refused = sfr::with_allocator(plant, 1, 1, &mut slots);
+    let mut uses = [7; 3];
+    let refused = sfr::with_allocator(plant, 1, 1, &mut slots, &mut uses);
     assert_eq!((refused.number, refused.first), (42, 0));
     assert_eq!(refused.allocator, plant);
     assert_eq!(refused.relation, SharedRelation::default());
-    assert_eq!(slots, [7; 3]);
+    plant.opened = 7;
+    let refused = sfr::with_allocator(plant, 1, 1, &mut slots, &mut uses[..2]);
+    assert_eq!((refused.number, refused.allocator), (10, plant));
+    assert_eq!((slots, uses), ([7; 3], [7; 3]));
 }
 
 #[test]
 fn answers_are_results() -> Result<(), Refused> {
-    let (mut slots, mut queries, mut equations) = ([0; 8], [9; 8], [9; 8]);
+    let (mut slots, mut queries, mut uses, mut equations) = ([0; 8], [9; 8], [9; 8], [9; 8]);
     let (plant, one) = opened(1, 3, &mut slots);
-    let (two, plant, other) = sfr::with_allocator(plant, 2, 2, &mut slots).first()?;
+    let (two, plant, other) = sfr::with_allocator(plant, 2, 2, &mut slots, &mut uses).first()?;
     let (var, plant, one) = sfr::allocate_vars_on(plant, 0, one, &mut slots, 2).first()?;
     assert_eq!((two, var, plant.vars_count, one.obtained), (1, 1, 3, 2));
 
@@ -54,23 +63,50 @@ fn answers_are_results() -> Result<(), Refused> {
     assert_eq!((value(1)?, value(2)?, value(3)?), (Some(5), Some(5), None));
     assert!(!sfr::is_allocated_on(plant, 0, one, 3).accepted()?);
 
-    let mint = |rel, slots: &mut [u32], queries: &mut [u32]| {
-        sfr::allocate_permutation_on(plant, two, rel, slots, queries, &[1, 2])
+    let mint = |slots: &mut [u32], queries: &mut [u32], uses: &mut [u32]| {
+        sfr::allocate_permutation_on(plant, two, other, slots, queries, uses, &[1, 2])
     };
-    let refused = mint(other, &mut slots, &mut queries[..3]);
+    let refused = mint(&mut slots, &mut queries[..3], &mut uses);
     assert_eq!((refused.number, refused.relation), (10, other));
-    let (first, plant, other) = mint(other, &mut slots, &mut queries).first()?;
+    let refused = mint(&mut slots, &mut queries, &mut uses[..7]);
+    assert_eq!((refused.number, refused.relation), (10, other));
+    let (first, plant, other) = mint(&mut slots, &mut queries, &mut uses).first()?;
     assert_eq!((first, other.obtained, other.queries), (3, 2, 1));
     assert_eq!(queries, [1, 2, 3, 4, 9, 9, 9, 9]);
-    let answer = sfr::add_permutation_on(plant, two, other, &mut queries, &[0, 0], &[0, 0]);
-    let (plant, other) = answer.accepted()?;
-    assert_eq!((other.queries, other.obtained), (2, 2));
+    let record = |rel, queries: &mut [u32], uses: &mut [u32]| {
+        sfr::add_permutation_on(plant, two, rel, &slots, queries, uses, &[0, 8], &[0, 7])
+    };
+    let (plant, other) = record(other, &mut queries, &mut uses).accepted()?;
+    assert_eq!((other.queries, other.obtained, other.stray), (2, 2, 1));
+    assert_eq!(uses, [2, 1, 1, 1, 1, 0, 0, 1]);
 
     let terms = [Weighted { var: 3, weight: 1 }];
-    let (plant, other) =
-        sfr::add_equation_on(plant, two, other, &mut equations, &terms, 6).accepted()?;
-    assert_eq!(equations, [1, 3, 1, 6, 9, 9, 9, 9]);
+    let state = |rel, equations: &mut [u32], image| {
+        sfr::add_equation_on(plant, two, rel, equations, &terms, image).accepted()
+    };
+    let (_, other) = state(other, &mut equations, 6)?;
+    let (_, other) = state(other, &mut equations, 7)?;
+    assert_eq!(equations, [1, 3, 1, 6, 1, 3, 1, 7]);
     assert_eq!(slots, [0, 5, 5, UNASSIGNED, UNASSIGNED, 0, 0, 0]);
+
+    // A query and an equation are withdrawn, each by its number.
+    let strike = |index, rel, queries: &mut [u32], uses: &mut [u32], i| {
+        sfr::withdraw_query_on(plant, index, rel, &slots, queries, uses, i)
+    };
+    for (index, i, number) in [(2, 1, 42), (two, 2, 45)] {
+        let refused = strike(index, other, &mut queries, &mut uses, i);
+        assert_eq!((refused.number, refused.relation), (number, other));
+        let refused = sfr::withdraw_equation_on(plant, index, other, &mut equations, i);
+        assert_eq!((refused.number, refused.relation), (number, other));
+    }
+    let (_, other) = strike(two, other, &mut queries, &mut uses, 1).accepted()?;
+    assert_eq!((other.queries, other.obtained, other.stray), (1, 2, 0));
+    assert_eq!(queries, [1, 2, 3, 4, 0, 0, 0, 0]);
+    assert_eq!(uses, [0, 1, 1, 1, 1, 0, 0, 0]);
+    let answer = sfr::withdraw_equation_on(plant, two, other, &mut equations, 0);
+    let (_, other) = answer.accepted()?;
+    assert_eq!((other.equations, other.words), (1, 4));
+    assert_eq!(equations, [1, 3, 1, 7, 0, 0, 0, 0]);
 
     let gate = |index| {
         let (mut publics, mut scratch) = ([9; 7], [9; 5]);
@@ -82,6 +118,7 @@ fn answers_are_results() -> Result<(), Refused> {
             &slots,
             &queries,
             &equations,
+            &uses,
             &mut publics,
             &mut scratch,
         );

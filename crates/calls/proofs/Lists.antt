@@ -10,10 +10,10 @@ use Rattle.history.proofs.Theorem.{whole}
 use Rattle.calls.specs.Performs.{Starts, Performed, callsOf, Run}
 
 -- after an accepted fresh
-pub run-is : (w : ℕ) (slots queries equations : List ℕ) (s t : State) (es : List Entry)
-    → Starts w slots queries equations Accepted s → Performed s es t → Run w slots queries equations es t
-run-is w slots queries equations s t es f p = record {
-  whole = whole w slots queries equations (f .answers) (callsOf es);
+pub run-is : (w : ℕ) (slots queries equations uses : List ℕ) (s t : State) (es : List Entry)
+    → Starts w slots queries equations uses Accepted s → Performed s es t → Run w slots queries equations uses es t
+run-is w slots queries equations uses s t es f p = record {
+  whole = whole w slots queries equations uses (f .answers) (callsOf es);
   last-is = ap (λ (u : State). final u (callsOf es)) (f .leaves) ∙ final-is answer after s t es p;
   ledger-is = ap (ledgerOf w firstLedger) (ap (λ (u : State). log u (callsOf es)) (f .leaves) ∙ log-is answer after s t es p);
 }

@@ -1,5 +1,5 @@
-// Each call of demand 3's list by code that runs: a thin open function that hands it on to `permutation`, `recording` or
-// `tickets`, with what the theorem says of the call as its contract.
+// Each call of demand 3's list by code that runs: a thin open function that hands it on to `permutation`, `recording`,
+// `withdraw` or `tickets`, with what the theorem says of the call as its contract.
 //
 // For every state, what the function answers and leaves is what the list has there (`answer` and `after` of
 // history/specs/Calls), whatever the stores hold that the call is not lent. So of calls made in turn, each on what the
@@ -8,7 +8,7 @@
 // definitions that the contracts of `compile`, `encoding`, `decoding` and `validity` cite.
 
 ghost use Rattle.allocator.specs.Slots.{pair};
-ghost use Rattle.history.specs.Calls.{Allocate, Set, SetList, Record, Mint, Equate, Tickets, ofOutcome, ofFirst, ofSet, ofSetVars, ofSetTickets};
+ghost use Rattle.history.specs.Calls.{Allocate, Set, SetList, Record, Mint, Equate, Tickets, WithdrawQuery, WithdrawEquation, ofOutcome, ofFirst, ofSet, ofSetVars, ofSetTickets};
 ghost use Rattle.calls.specs.Performs.{StartsSlots, OnSlots, OnQueries, OnSlotsQueries, OnEquations};
 use allocator::FieldVar;
 use baby_bear::BabyBearUnit;
@@ -20,10 +20,10 @@ use permutation::SetVars;
 use tickets::SetTickets;
 
 // What the list starts from.
-pub fn new_relation(width: u32, slots: &mut [u32]) -> Recorded
-    ensures { λ r. ⌜ StartsSlots width (now (slots .entry)) r (now (slots .exit)) ⌝ }
+pub fn new_relation(width: u32, slots: &mut [u32], uses: &mut [u32]) -> Recorded
+    ensures { λ r. ⌜ StartsSlots width (now (slots .entry)) (now (uses .entry)) r (now (slots .exit)) (now (uses .exit)) ⌝ }
 {
-    permutation::new_relation(width, slots)
+    permutation::new_relation(width, slots, uses)
 }
 
 // Allocate.
@@ -60,13 +60,16 @@ pub fn set_vars(
 // Record.
 pub fn add_permutation(
     rel: PermutationRelation,
+    slots: &[u32],
     queries: &mut [u32],
+    uses: &mut [u32],
     input: &[u32],
     output: &[u32],
 ) -> Recorded
-    ensures { λ r. ⌜ OnQueries rel (now (queries .entry)) (Record (now (input .entry)) (now (output .entry))) (ofOutcome (r .outcome)) (r .relation) (now (queries .exit)) ⌝ }
+    ensures { λ r. ⌜ OnQueries rel (now (slots .entry)) (now (queries .entry)) (now (uses .entry)) (Record (now (input .entry)) (now (output .entry)))
+        (ofOutcome (r .outcome)) (r .relation) (now (queries .exit)) (now (uses .exit)) ⌝ }
 {
-    recording::add_permutation(rel, queries, input, output)
+    recording::add_permutation(rel, slots, queries, uses, input, output)
 }
 
 // Mint.
@@ -74,12 +77,34 @@ pub fn allocate_permutation(
     rel: PermutationRelation,
     slots: &mut [u32],
     queries: &mut [u32],
+    uses: &mut [u32],
     input: &[u32],
 ) -> Allocated
-    ensures { λ r. ⌜ OnSlotsQueries rel (now (slots .entry)) (now (queries .entry)) (Mint (now (input .entry))) (ofFirst (r .first))
-        (r .relation) (now (slots .exit)) (now (queries .exit)) ⌝ }
+    ensures { λ r. ⌜ OnSlotsQueries rel (now (slots .entry)) (now (queries .entry)) (now (uses .entry)) (Mint (now (input .entry))) (ofFirst (r .first))
+        (r .relation) (now (slots .exit)) (now (queries .exit)) (now (uses .exit)) ⌝ }
 {
-    recording::allocate_permutation(rel, slots, queries, input)
+    recording::allocate_permutation(rel, slots, queries, uses, input)
+}
+
+// A query withdrawn.
+pub fn withdraw_query(
+    rel: PermutationRelation,
+    slots: &[u32],
+    queries: &mut [u32],
+    uses: &mut [u32],
+    i: u32,
+) -> Recorded
+    ensures { λ r. ⌜ OnQueries rel (now (slots .entry)) (now (queries .entry)) (now (uses .entry)) (WithdrawQuery i) (ofOutcome (r .outcome))
+        (r .relation) (now (queries .exit)) (now (uses .exit)) ⌝ }
+{
+    withdraw::withdraw_query(rel, slots, queries, uses, i)
+}
+
+// An equation withdrawn.
+pub fn withdraw_equation(rel: PermutationRelation, equations: &mut [u32], i: u32) -> Recorded
+    ensures { λ r. ⌜ OnEquations rel (now (equations .entry)) (WithdrawEquation i) (ofOutcome (r .outcome)) (r .relation) (now (equations .exit)) ⌝ }
+{
+    withdraw::withdraw_equation(rel, equations, i)
 }
 
 // Equation.

@@ -1,24 +1,32 @@
 -- The gate says yes exactly where these facts on lists hold, group by group of its questions: 1 and 2, 11 of each store,
--- 10, 16, and 12 to 15 (`compile-facts`, `facts-compile`). Assumes nothing.
-use Prim.Native.Nat.{ℕ, _*_, _≤_, _<_}
+-- 10, 16, and 12 to 15 by counts (`compile-facts`, `facts-compile`). What it let through passes 2 and 11 as an instance.
+-- Assumes nothing.
+use Prim.Native.Nat.{ℕ, _*_, _-_, _≤_, _<_}
 use mathlib.Core.Path.{_≡_, refl, sym, _∙_}
-use mathlib.Core.Bool.{true}
+use mathlib.Core.Bool.{Bool, true, and-eq-true-iff}
 use mathlib.Core.List.{List, _++_}
-use borrow.Author.Tests.{lt-ltb, le-leb, ltb-true, leb-true}
+use borrow.Author.Tests.{lt-ltb, le-leb, eq-eqb, ltb-true, leb-true, eqb-true}
 use lib.Dec.{leb}
-use lib.ListN.{length, take}
-use Rattle.limits.specs.Numbers.{maxCount, maxWidth, labelEnd}
+use lib.ListN.{length, take, drop, replicate}
+use Rattle.limits.specs.Numbers.{prime, maxCount, maxWidth, labelEnd}
 use Rattle.limits.specs.Questions.{ask, firstNo}
+use Rattle.limits.specs.Asks.{storeAsks}
 use Rattle.limits.proofs.Questions.{ask-yes, says-yes, both, join, firstNo-append, puts, puts-yes}
 use Rattle.words.specs.Store.{All}
 use Rattle.words.specs.Pieces.{wordsOf}
 use Rattle.utf8.specs.Utf8.{isUtf8}
-use Rattle.expr.specs.Equation.{equationsAt, equationsEnd}
+use Rattle.allocator.specs.Slots.{Pair}
+use Rattle.expr.specs.Equation.{Equation, equationsAt, equationsEnd}
 use Rattle.permutation.specs.Relation.{relationAsks}
 use Rattle.permutation.specs.declared.PermutationRelation.{PermutationRelation}
 use Rattle.held.proofs.Facts.{Below, allBelow-facts, facts-allBelow, SoundEquation, equationsSound-facts, facts-equationsSound, SoundSlot, slotsSound-facts, facts-slotsSound}
-use Rattle.validated.proofs.Facts.{Valid, validated-facts, facts-validated, gate-facts, facts-gate}
-use Rattle.compile.specs.Gate.{GateLent, publicsOf, compiledParts, storesAsks, soundAsks, lentStoresAsks, lentSoundAsks, preparedNo, compileNo}
+use Rattle.instance.specs.Parts.{pairVars, pairValues}
+use Rattle.instance.proofs.Parts.{pairsAt-pairWords, pairsAt-take}
+use Rattle.held.specs.Held.{publicsSound}
+use Rattle.validated.specs.Validated.{boundBy}
+use Rattle.validated.proofs.Facts.{ValidEquation, equations-valid, valid-equations}
+use Rattle.compile.specs.Gate.{GateLent, publicsOf, publicsStore, compiledParts, storesAsks, soundAsks, lentStoresAsks, lentSoundAsks, preparedNo, compileNo}
+use Rattle.compile.proofs.Rising.{within, publicsOf-below, publicsOf-values}
 use Rattle.compile.proofs.Gate.{compileNo-is}
 
 fits : {a b : ℕ} → a ≤ b → ask 2 (leb a b) ≡ 0
@@ -34,7 +42,7 @@ pub record RelationFits (rel : PermutationRelation) (slots : ℕ) : Type 0 where
   pub vars-held : rel .vars ≤ slots
 
 module _ (rel : PermutationRelation) (slots : ℕ) where
-  relationAsks-yes : firstNo (relationAsks rel slots) ≡ 0 → RelationFits rel slots
+  pub relationAsks-yes : firstNo (relationAsks rel slots) ≡ 0 → RelationFits rel slots
   relationAsks-yes e =
       let says = puts-yes (relationAsks rel slots) e in
       record {
@@ -118,52 +126,84 @@ module _ (rel : PermutationRelation) (label slots queries equations : List ℕ) 
       (join _ _ (ask-yes 11 _ (facts-allBelow maxCount _ (s .queries-sound)))
       (join _ _ (ask-yes 11 _ (facts-slotsSound _ (s .slots-sound))) (join _ _ (ask-yes 11 _ (s .label-sound)) refl)))
 
+-- ---- 13 to 15 by counts; the slots are those of the allocated wires
+pub record CountsValid (vars : ℕ) (slots uses : List ℕ) (stray : ℕ) (equations : List Equation) : Type 0 where
+  pub no-stray : stray ≡ 0
+  pub none-past : Below 1 (drop vars uses)
+  pub terms : All (ValidEquation vars (boundBy slots uses)) equations
+
 -- ---- 1, 2 and 11 together, and with 10, 16 and 12 to 15
 module _ (l : GateLent) where
   abbrev rel : PermutationRelation
   rel = l .relation
 
+  abbrev ps : List Pair
+  ps = publicsOf rel (l .slots)
+
+  -- what binds, by counts, and the equations
+  abbrev binds : ℕ → Bool
+  binds = boundBy (take (rel .vars) (l .slots)) (l .uses)
+
+  abbrev equations : List Equation
+  equations = equationsAt (rel .equations) (take (rel .words) (l .equations))
+
   pub record Prepared : Type 0 where
     pub relation : RelationFits rel (length (l .slots))
     pub stores : StoresFit rel (length (l .label)) (length (l .queries)) (length (l .equations)) (l .publics) (l .scratch)
+    pub uses-high : length (l .uses) ≤ maxCount
     pub sound : StoresSound rel (l .label) (l .slots) (l .queries) (l .equations)
 
   pub record CompileFacts : Type 0 where
     pub prepared : Prepared
-    pub room : 2 * length (publicsOf rel (l .slots)) ≤ l .publics
+    pub room : 2 * length ps ≤ l .publics
+    pub uses-same : length (l .uses) ≡ length (l .slots)
     pub scratch-held : rel .vars ≤ l .scratch
-    pub valid : Valid (compiledParts rel (l .slots) (l .queries) (l .equations))
+    pub valid : CountsValid (rel .vars) (take (rel .vars) (l .slots)) (l .uses) (rel .stray) equations
 
   pub prepared-facts : preparedNo l ≡ 0 → Prepared
   unfolding preparedNo
   prepared-facts e =
-      let a = both _ _ (sym (firstNo-append (relationAsks rel (length (l .slots))) (lentStoresAsks l ++ lentSoundAsks l)) ∙ e) in
-      let b = both _ _ (sym (firstNo-append (lentStoresAsks l) (lentSoundAsks l)) ∙ a .1) in
+      let uses = storeAsks (length (l .uses)) in
+      let a = both _ _ (sym (firstNo-append (relationAsks rel (length (l .slots))) (lentStoresAsks l ++ (uses ++ lentSoundAsks l))) ∙ e) in
+      let b = both _ _ (sym (firstNo-append (lentStoresAsks l) (uses ++ lentSoundAsks l)) ∙ a .1) in
+      let c = both _ _ (b .1) in
       record {
         relation = relationAsks-yes _ _ (a .0);
         stores = storesAsks-yes _ _ _ _ _ _ (b .0);
-        sound = soundAsks-yes _ _ _ _ _ (b .1);
+        uses-high = leb-true _ _ (says-yes 1 _ (c .0));
+        sound = soundAsks-yes _ _ _ _ _ (c .1);
       }
 
   facts-prepared : Prepared → preparedNo l ≡ 0
   unfolding preparedNo
   facts-prepared p =
-      firstNo-append (relationAsks rel (length (l .slots))) (lentStoresAsks l ++ lentSoundAsks l)
+      let uses = storeAsks (length (l .uses)) in
+      firstNo-append (relationAsks rel (length (l .slots))) (lentStoresAsks l ++ (uses ++ lentSoundAsks l))
       ∙ join _ _ (yes-relationAsks _ _ (p .relation))
-      (firstNo-append (lentStoresAsks l) (lentSoundAsks l)
-      ∙ join _ _ (yes-storesAsks _ _ _ _ _ _ (p .stores)) (yes-soundAsks _ _ _ _ _ (p .sound)))
+      (firstNo-append (lentStoresAsks l) (uses ++ lentSoundAsks l)
+      ∙ join _ _ (yes-storesAsks _ _ _ _ _ _ (p .stores)) (join _ _ (fits (p .uses-high)) (yes-soundAsks _ _ _ _ _ (p .sound))))
 
   pub compile-facts : compileNo l ≡ 0 → CompileFacts
   unfolding compiledParts
   compile-facts e =
       let n = both _ _ (sym (compileNo-is l) ∙ e) in
-      let m = both _ _ (n .1) in
-      let g = gate-facts (compiledParts rel (l .slots) (l .queries) (l .equations)) (l .scratch) (m .1) in
+      let room = both _ _ (n .1) in
+      let same = both _ _ (room .1) in
+      let scratch = both _ _ (same .1) in
+      let twelve = both _ _ (scratch .1) in
+      let thirteen = both _ _ (twelve .1) in
+      let below = and-eq-true-iff _ _ .0 (says-yes 12 _ (thirteen .0)) in
       record {
         prepared = prepared-facts (n .0);
-        room = leb-true _ _ (says-yes 9 _ (m .0));
-        scratch-held = g .0;
-        valid = validated-facts _ (g .1);
+        room = leb-true _ _ (says-yes 9 _ (room .0));
+        uses-same = eqb-true _ _ (says-yes 9 _ (same .0));
+        scratch-held = leb-true _ _ (says-yes 15 _ (scratch .0));
+        valid =
+            record {
+              no-stray = eqb-true _ _ (below .0);
+              none-past = allBelow-facts 1 (drop (rel .vars) (l .uses)) (below .1);
+              terms = equations-valid (rel .vars) binds equations (thirteen .1);
+            };
       }
 
   pub facts-compile : CompileFacts → compileNo l ≡ 0
@@ -172,4 +212,17 @@ module _ (l : GateLent) where
       compileNo-is l
       ∙ join _ _ (facts-prepared (c .prepared))
       (join _ _ (ask-yes 10 _ (le-leb _ _ (c .room)))
-      (facts-gate (compiledParts rel (l .slots) (l .queries) (l .equations)) (l .scratch) (c .scratch-held) (facts-validated _ (c .valid))))
+      (join _ _ (ask-yes 10 _ (eq-eqb _ _ (c .uses-same)))
+      (join _ _ (ask-yes 16 _ (le-leb _ _ (c .scratch-held)))
+      (join _ _ (ask-yes 12 _ (facts-allBelow (rel .vars) (pairVars ps) (publicsOf-below rel (l .slots))))
+      (join _ _ (ask-yes 13 _ (and-eq-true-iff _ _ .1 (eq-eqb _ _ (c .valid .no-stray), facts-allBelow 1 _ (c .valid .none-past))))
+      (valid-equations (rel .vars) binds equations (c .valid .terms)))))))
+
+  -- ---- what the gate let through passes 2 and 11 as an instance, in a store of any sound length
+  pub publics-sound : Prepared → publicsSound (length ps) (take (2 * length ps) (publicsStore (l .publics) ps)) ≡ true
+  unfolding publicsSound
+  publics-sound p =
+      let e = pairsAt-take (length ps) (publicsStore (l .publics) ps) ∙ pairsAt-pairWords ps (replicate (l .publics - 2 * length ps) 0) in
+      let a = facts-allBelow maxCount (pairVars ps) (within (rel .vars) maxCount (pairVars ps) (p .relation .vars-high) (publicsOf-below rel (l .slots))) in
+      let b = facts-allBelow prime (pairValues ps) (publicsOf-values rel (l .slots) (p .sound .slots-sound)) in
+      rw (e, a, b)

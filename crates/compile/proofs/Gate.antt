@@ -1,14 +1,14 @@
 -- The gate: the parts that it judges, and what it answers. Assumes nothing.
-use Prim.Native.Nat.{ℕ, zero, suc, _+_, _*_, _-_}
+use Prim.Native.Nat.{ℕ, zero, suc, _*_, _-_}
 use mathlib.Core.Path.{_≡_, refl, sym, ap, _∙_}
-use mathlib.Core.Bool.{Bool, true, false}
-use mathlib.Core.List.{List, _++_}
-use native.Mathlib.Omega.{arith}
+use mathlib.Core.Bool.{Bool, true}
+use mathlib.Core.List.{List, [], _∷_, append-nil}
 use borrow.Author.Tests.{leb-true}
-use lib.Dec.{leb}
+use lib.Dec.{eqb, leb}
 use lib.ListN.{length, take, replicate, length-replicate}
-use Rattle.limits.specs.Questions.{ask, _▸_, firstNo}
-use Rattle.limits.proofs.Questions.{ask-no, stays, goes-on, join, both, says-yes, ▸-assoc, firstNo-append}
+use Rattle.limits.specs.Questions.{Question, ask, _▸_, firstNo}
+use Rattle.limits.specs.Asks.{storeAsks}
+use Rattle.limits.proofs.Questions.{stays, goes-on, join, both, says-yes, zero-▸, ▸-assoc, firstNo-append, chain-from}
 use Rattle.words.specs.Store.{putWords}
 use Rattle.words.specs.Pieces.{stepsOf}
 use Rattle.allocator.specs.Slots.{Pair}
@@ -16,11 +16,15 @@ use Rattle.expr.specs.Equation.{equationsAt}
 use Rattle.permutation.specs.Relation.{relationAsks}
 use Rattle.limits.specs.declared.Outcome.the-variants as outcome
 use Rattle.permutation.specs.declared.PermutationRelation.{PermutationRelation}
-use Rattle.instance.specs.Parts.{Parts, pairWords, partsOf}
-use Rattle.validated.specs.Validated.{gateNo}
+use Rattle.instance.specs.Parts.{pairVars, pairWords, partsOf}
 use Rattle.instance.proofs.Parts.{pairsAt-pairWords, pairsAt-take}
-use Rattle.compile.specs.Gate.{GateLent, publicsOf, publicsStore, PutsPublics, instanceOf, refusedBy, compiledParts, lentStoresAsks, lentSoundAsks, preparedAsks, preparedNo, madeAsks, compileNo, compile, compilePublics}
+use Rattle.held.proofs.Facts.{facts-allBelow}
+use Rattle.validated.specs.Validated.{boundBy, gateAsksBy}
+use Rattle.use_gate.specs.UseGate.{usesBelow, usedNo}
+use Rattle.use_gate.proofs.Same.{used-no}
+use Rattle.compile.specs.Gate.{GateLent, publicsOf, publicsStore, PutsPublics, instanceOf, refusedBy, compiledParts, lentParts, lentStoresAsks, lentSoundAsks, preparedAsks, preparedNo, madeAsks, compileNo, compile, compilePublics}
 use Rattle.compile.proofs.Publics.{put-zeros}
+use Rattle.compile.proofs.Rising.{publicsOf-below}
 
 -- ---- the parts that the gate judges are those of the instance that it makes
 module _ (rel : PermutationRelation) (slots queries equations : List ℕ) where
@@ -39,16 +43,13 @@ module _ (rel : PermutationRelation) (slots queries equations : List ℕ) where
       }
 
 -- ---- the questions in parts
-pub prepared-by : (l : GateLent) (a b r : ℕ) → a ≡ firstNo (relationAsks (l .relation) (length (l .slots)))
-    → b ≡ a ▸ firstNo (lentStoresAsks l) → r ≡ b ▸ firstNo (lentSoundAsks l) → r ≡ preparedNo l
+pub prepared-by : (l : GateLent) (a b c r : ℕ) → a ≡ firstNo (relationAsks (l .relation) (length (l .slots)))
+    → b ≡ a ▸ firstNo (lentStoresAsks l) → c ≡ b ▸ firstNo (storeAsks (length (l .uses))) → r ≡ c ▸ firstNo (lentSoundAsks l)
+    → r ≡ preparedNo l
 unfolding preparedNo
-prepared-by l a b r ea eb er =
-    let relation = relationAsks (l .relation) (length (l .slots)) in
-    let stores = lentStoresAsks l in
-    let sound = lentSoundAsks l in
-    rw (er, eb, ea)
-    (▸-assoc (firstNo relation) (firstNo stores) (firstNo sound)
-    ∙ sym (firstNo-append relation (stores ++ sound) ∙ ap (λ (n : ℕ). firstNo relation ▸ n) (firstNo-append stores sound)))
+prepared-by l a b c r ea eb ec er =
+    rw (er, ec, eb, ea)
+    (chain-from (relationAsks (l .relation) (length (l .slots))) (lentStoresAsks l ∷ storeAsks (length (l .uses)) ∷ lentSoundAsks l ∷ []))
 
 -- ---- the answer
 module _ (l : GateLent) where
@@ -58,20 +59,46 @@ module _ (l : GateLent) where
   abbrev ps : List Pair
   ps = publicsOf rel (l .slots)
 
-  abbrev parts : Parts
-  parts = compiledParts rel (l .slots) (l .queries) (l .equations)
-
   -- 10, whether the store holds the publics
   abbrev fits : Bool
   fits = leb (2 * length ps) (l .publics)
 
+  -- 10, whether the use store has a word per slot
+  abbrev same : Bool
+  same = eqb (length (l .uses)) (length (l .slots))
+
+  -- 16 and 12 to 15, 13 and 15 by counts
+  abbrev pub gateBy : List Question
+  gateBy =
+      gateAsksBy (usesBelow (rel .vars) (l .uses) (rel .stray)) (boundBy (take (rel .vars) (l .slots)) (l .uses)) (lentParts l) (l .scratch)
+
   -- 10, 16 and 12 to 15
   abbrev pub madeNo : ℕ
-  madeNo = ask 10 fits ▸ gateNo parts (l .scratch)
+  madeNo = ask 10 fits ▸ (ask 10 same ▸ firstNo gateBy)
 
   pub compileNo-is : compileNo l ≡ preparedNo l ▸ madeNo
-  unfolding compileNo preparedNo gateNo
-  compileNo-is = firstNo-append (preparedAsks l) (madeAsks l)
+  unfolding compileNo preparedNo
+  compileNo-is =
+      firstNo-append (preparedAsks l) (madeAsks l)
+      ∙ ap (λ (qs : List Question). preparedNo l ▸ (ask 10 fits ▸ (ask 10 same ▸ firstNo qs))) (append-nil gateBy)
+
+  -- 10, 16 and 13 to 15 as the code puts them, of a count of publics: 12 never says no of a relation
+  abbrev pub codeNo : ℕ → ℕ
+  codeNo count =
+      ((ask 10 (leb (2 * count) (l .publics)) ▸ ask 10 same) ▸ ask 16 (leb (rel .vars) (l .scratch)))
+      ▸ usedNo (rel .vars) (take (rel .vars) (l .slots)) (l .uses) (rel .stray) (equationsAt (rel .equations) (take (rel .words) (l .equations)))
+
+  pub code-by : (count a b c k publics scratch : ℕ) (slots equations : List ℕ)
+      → publics ≡ l .publics → scratch ≡ l .scratch → slots ≡ take (rel .vars) (l .slots) → equations ≡ take (rel .words) (l .equations)
+      → a ≡ 0 ▸ ask 10 (leb (2 * count) publics) → b ≡ a ▸ ask 10 same → c ≡ b ▸ ask 16 (leb (rel .vars) scratch)
+      → k ≡ c ▸ usedNo (rel .vars) slots (l .uses) (rel .stray) (equationsAt (rel .equations) equations) → k ≡ codeNo count
+  code-by count a b c k publics scratch slots equations ep es el eq ea eb ec ek = rw (ek, ec, eb, ea, ep, es, el, eq) (rw zero-▸)
+
+  code-is : codeNo (length ps) ≡ madeNo
+  unfolding compiledParts
+  code-is =
+      rw (← used-no (lentParts l) (take (rel .vars) (l .slots)) (l .uses) (rel .stray) (facts-allBelow (rel .vars) (pairVars ps) (publicsOf-below rel (l .slots))))
+      (simp ▸-assoc)
 
   -- ---- by the number: a refusal answers it and leaves zeros
   pub record Refuses (k : ℕ) : Type 0 where
@@ -87,11 +114,10 @@ module _ (l : GateLent) where
     pub refuses-first : (first ≡ 0 → ⊥) → Refuses first
     refuses-first h = refuses-by first (compileNo-is ∙ ap (λ (n : ℕ). n ▸ madeNo) (sym e) ∙ stays first madeNo h) h
 
-    -- the questions before said yes; then the count and the store that the gate makes, and what 10, 16 and 12 to 15
-    -- answer on them
+    -- the questions before said yes; then the count and the store that the gate makes, and what 10, 16 and 13 to 15
+    -- answer
     module _ (z : first ≡ 0) (zeros : List ℕ) (o : zeros ≡ replicate (l .publics) 0) (count : ℕ) (store : List ℕ)
-        (made : PutsPublics (take (rel .vars) (l .slots)) zeros count store) (k : ℕ)
-        (g : k ≡ ask 10 (leb (2 * count) (l .publics)) ▸ gateNo (partsOf (instanceOf rel count) store (l .queries) (l .equations)) (l .scratch)) where
+        (made : PutsPublics (take (rel .vars) (l .slots)) zeros count store) (k : ℕ) (g : k ≡ codeNo count) where
       count-is : count ≡ length ps
       unfolding publicsOf
       count-is = made .count
@@ -102,24 +128,8 @@ module _ (l : GateLent) where
           let n : length zeros ≡ l .publics = ap length o ∙ length-replicate _ _ in
           made .stored (rw n (leb-true _ _ h)) ∙ ap (putWords 0 (pairWords ps)) o ∙ put-zeros (l .publics) ps
 
-      -- the parts of that store are asked only where it holds the publics
-      gate-of : (b : Bool) → fits ≡ b
-          → ask 10 b ▸ gateNo (partsOf (instanceOf rel (length ps)) store (l .queries) (l .equations)) (l .scratch)
-          ≡ ask 10 b ▸ gateNo parts (l .scratch)
-      gate-of true h =
-          ap (λ (p : Parts). ask 10 true ▸ gateNo p (l .scratch))
-          (ap (λ (s : List ℕ). partsOf (instanceOf rel (length ps)) s (l .queries) (l .equations)) (store-is h)
-          ∙ compiled-parts rel (l .slots) (l .queries) (l .equations) (l .publics))
-      gate-of false h = ten _ ∙ sym (ten _)
-        where
-          ten : (rest : ℕ) → ask 10 false ▸ rest ≡ 10
-          ten rest = ap (λ (n : ℕ). n ▸ rest) (ask-no 10 false refl) ∙ stays 10 rest (λ z. omega arith)
-
       made-is : k ≡ madeNo
-      made-is =
-          g
-          ∙ ap (λ (n : ℕ). ask 10 (leb (2 * n) (l .publics)) ▸ gateNo (partsOf (instanceOf rel n) store (l .queries) (l .equations)) (l .scratch)) count-is
-          ∙ gate-of fits refl
+      made-is = g ∙ ap codeNo count-is ∙ code-is
 
       pub refuses-made : (k ≡ 0 → ⊥) → Refuses k
       refuses-made h = refuses-by k (compileNo-is ∙ goes-on (preparedNo l) madeNo (sym e ∙ z) ∙ sym made-is) h

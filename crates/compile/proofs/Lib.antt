@@ -1,5 +1,6 @@
 pub mod Publics
+pub mod Rising
 pub mod Gate
 pub mod Facts
-pub mod Rising
+pub mod Counts
 pub mod Examples

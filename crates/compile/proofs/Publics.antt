@@ -1,18 +1,21 @@
--- The publics of a relation: the assigned wires in index order. Assumes nothing.
+-- The publics of a relation: the assigned wires in index order, and no others. Assumes nothing.
 use Prim.Native.Nat.{ℕ, zero, suc, _+_, _*_, _-_, _≤_, _<_}
 use mathlib.Core.Path.{_≡_, refl, ap, _∙_}
+use mathlib.Core.Bool.{Bool, true, false, not}
 use mathlib.Core.List.{List, [], _∷_, _++_}
 use native.Mathlib.Omega.{arith}
 use native.Mathlib.Numerals.{add-one}
 use native.Mathlib.Nat.{min-le-left}
 use borrow.Author.Tests.{eq-eqb, ne-eqb}
+use lib.Dec.{eqb}
 use lib.ListN.{length, take, drop, getD, set, replicate, length-take, drop-of-length-le}
 use lib.Seq.{drop-cons, sets}
 use Rattle.limits.specs.Numbers.{unassigned}
+use Rattle.limits.specs.Questions.{pick}
 use Rattle.words.specs.Store.{putWords}
 use Rattle.words.proofs.Written.{sets-put}
 use Rattle.allocator.specs.Slots.{Pair, pair}
-use Rattle.instance.specs.Parts.{pairWords}
+use Rattle.instance.specs.Parts.{pairWords, pairVars, has}
 use Rattle.instance.proofs.Parts.{pairWords-length}
 use Rattle.compile.specs.Gate.{publicsFrom, publicsStore}
 
@@ -38,6 +41,41 @@ module _ (slots : List ℕ) where
       pub publics-take : (getD slots i 0 ≡ unassigned → ⊥) → publicsAt slots i ≡ pair i (getD slots i 0) ∷ publicsAt slots (i + 1)
       unfolding publicsAt
       publics-take u = rw (drop-cons slots i 0 h, add-one) (simp (ne-eqb (getD slots i 0) unassigned u))
+
+-- ---- a wire is public exactly where its slot is assigned
+before : (i : ℕ) (slots : List ℕ) (x : ℕ) → x < i → has (pairVars (publicsFrom i slots)) x ≡ false
+before i [] x h = refl
+before i (s ∷ slots) x h = go (eqb s unassigned) (before (suc i) slots x (omega arith))
+  where
+    go : (b : Bool) → has (pairVars (publicsFrom (suc i) slots)) x ≡ false
+        → has (pairVars (pick b (publicsFrom (suc i) slots) (pair i s ∷ publicsFrom (suc i) slots))) x ≡ false
+    go true e = e
+    go false e = rw (ne-eqb x i (λ z. omega arith)) e
+
+publics-from : (i : ℕ) (slots : List ℕ) (k : ℕ)
+    → has (pairVars (publicsFrom i slots)) (i + k) ≡ not (eqb (getD slots k unassigned) unassigned)
+publics-from i [] k = refl
+publics-from i (s ∷ slots) zero = go (eqb s unassigned)
+  where
+    z : i + 0 ≡ i
+    z = omega arith
+
+    go : (b : Bool) → has (pairVars (pick b (publicsFrom (suc i) slots) (pair i s ∷ publicsFrom (suc i) slots))) (i + 0) ≡ not b
+    go true = before (suc i) slots (i + 0) (omega arith)
+    go false = rw (eq-eqb (i + 0) i z)
+publics-from i (s ∷ slots) (suc k) = go (eqb s unassigned) (publics-from (suc i) slots k)
+  where
+    z : i + suc k ≡ suc i + k
+    z = omega arith
+
+    go : (b : Bool) → has (pairVars (publicsFrom (suc i) slots)) (suc i + k) ≡ not (eqb (getD slots k unassigned) unassigned)
+        → has (pairVars (pick b (publicsFrom (suc i) slots) (pair i s ∷ publicsFrom (suc i) slots))) (i + suc k)
+        ≡ not (eqb (getD slots k unassigned) unassigned)
+    go true e = rw z e
+    go false e = rw (z, ne-eqb (suc i + k) i (λ w. omega arith)) e
+
+pub publics-has : (slots : List ℕ) (x : ℕ) → has (pairVars (publicsFrom 0 slots)) x ≡ not (eqb (getD slots x unassigned) unassigned)
+publics-has slots x = let z : x ≡ 0 + x = omega arith in ap (has (pairVars (publicsFrom 0 slots))) z ∙ publics-from 0 slots x
 
 -- ---- no more slots than wires
 pub take-few : (n : ℕ) (slots : List ℕ) → length (take n slots) ≤ n

@@ -1,28 +1,24 @@
 -- The publics that the gate makes: their wires strictly increase and are below the wire count, and their units
--- are below p where the slots are sound. So what the gate let through passes 2 and 11 as an instance.
--- Assumes nothing.
-use Prim.Native.Nat.{ℕ, suc, _+_, _*_, _-_, _≤_, _<_}
-use mathlib.Core.Path.{_≡_, refl, _∙_}
+-- are below p where the slots are sound. Assumes nothing.
+use Prim.Native.Nat.{ℕ, suc, _+_, _≤_, _<_}
+use mathlib.Core.Path.{_≡_, refl}
 use mathlib.Core.Bool.{Bool, true, false}
 use mathlib.Core.List.{List, [], _∷_}
 use mathlib.Core.Logic.{inl, inr}
 use native.Mathlib.Omega.{arith}
 use borrow.Author.Tests.{eqb-false}
 use lib.Dec.{eqb}
-use lib.ListN.{length, take, replicate}
-use Rattle.limits.specs.Numbers.{prime, maxCount, unassigned}
+use lib.ListN.{length, take}
+use Rattle.limits.specs.Numbers.{prime, unassigned}
 use Rattle.limits.specs.Questions.{pick}
 use Rattle.words.specs.Store.{All}
 use Rattle.words.proofs.Lists.{all-map}
 use Rattle.allocator.specs.Slots.{Pair, pair}
 use Rattle.permutation.specs.declared.PermutationRelation.{PermutationRelation}
 use Rattle.instance.specs.Parts.{pairVars, pairValues}
-use Rattle.held.specs.Held.{publicsSound}
-use Rattle.instance.proofs.Parts.{pairsAt-pairWords, pairsAt-take}
-use Rattle.held.proofs.Facts.{Below, SoundSlot, facts-allBelow}
-use Rattle.compile.specs.Gate.{GateLent, publicsFrom, publicsOf, publicsStore}
+use Rattle.held.proofs.Facts.{Below, SoundSlot}
+use Rattle.compile.specs.Gate.{publicsFrom, publicsOf}
 use Rattle.compile.proofs.Publics.{take-few}
-use Rattle.compile.proofs.Facts.{Prepared}
 
 -- ---- the wires strictly increase, from a lowest one on
 abbrev pub Rising : ℕ → List Pair → Type 0
@@ -54,7 +50,7 @@ publicsFrom-below i (x ∷ s) =
     go true r = r
     go false r = (omega arith, r)
 
-within : (a b : ℕ) (l : List ℕ) → a ≤ b → Below a l → Below b l
+pub within : (a b : ℕ) (l : List ℕ) → a ≤ b → Below a l → Below b l
 within a b l h r = all-map (λ (x : ℕ). x < a) (λ (x : ℕ). x < b) l (λ x k. omega arith) r
 
 pub publicsOf-below : (rel : PermutationRelation) (slots : List ℕ) → Below (rel .vars) (pairVars (publicsOf rel slots))
@@ -81,19 +77,3 @@ pub publicsOf-values : (rel : PermutationRelation) (slots : List ℕ) → All So
     → Below prime (pairValues (publicsOf rel slots))
 unfolding publicsOf
 publicsOf-values rel slots a = publicsFrom-values 0 (take (rel .vars) slots) a
-
--- ---- what the gate let through passes 2 and 11 as an instance, in a store of any sound length
-module _ (l : GateLent) (p : Prepared l) where
-  abbrev rel : PermutationRelation
-  rel = l .relation
-
-  abbrev ps : List Pair
-  ps = publicsOf rel (l .slots)
-
-  pub publics-sound : publicsSound (length ps) (take (2 * length ps) (publicsStore (l .publics) ps)) ≡ true
-  unfolding publicsSound
-  publics-sound =
-      let e = pairsAt-take (length ps) (publicsStore (l .publics) ps) ∙ pairsAt-pairWords ps (replicate (l .publics - 2 * length ps) 0) in
-      let a = facts-allBelow maxCount (pairVars ps) (within (rel .vars) maxCount (pairVars ps) (p .relation .vars-high) (publicsOf-below rel (l .slots))) in
-      let b = facts-allBelow prime (pairValues ps) (publicsOf-values rel (l .slots) (p .sound .slots-sound)) in
-      rw (e, a, b)

@@ -10,17 +10,19 @@ use Rattle.limits.specs.Questions.{Question, question, firstNo, inTurn, pick, o
 use Rattle.limits.specs.Asks.{storeAsks}
 use Rattle.words.specs.Store.{allBelow, putWords}
 use Rattle.words.specs.Pieces.{wordsOf, stepsOf}
+use Rattle.uses.specs.Uses.{lengthAsks}
 use Rattle.utf8.specs.Utf8.{isUtf8}
 use Rattle.allocator.specs.Slots.{Pair, pair}
 use Rattle.expr.specs.Equation.{equationsAt}
 use Rattle.permutation.specs.Sharing.{Sharing, alone}
-use Rattle.permutation.specs.Relation.{relationAsksWith, queriesAsks, equationsAsks}
+use Rattle.permutation.specs.Relation.{relationAsksWith, relationAsks, queriesAsks, equationsAsks}
 use Rattle.limits.specs.Outcome.{outcomeOf}
 use Rattle.limits.specs.declared.Outcome.the-variants as outcome
 use Rattle.permutation.specs.declared.PermutationRelation.{PermutationRelation}
 use Rattle.instance.specs.Parts.{Parts, pairWords}
 use Rattle.held.specs.Held.{labelAsks, equationsSound, slotsSound}
-use Rattle.validated.specs.Validated.{gateAsks}
+use Rattle.validated.specs.Validated.{boundBy, gateAsks, gateAsksBy}
+use Rattle.use_gate.specs.UseGate.{usesBelow}
 use Rattle.instance.specs.Looks.{noInstance}
 use Rattle.instance.specs.declared.PermutationInstance.{PermutationInstance}
 use Rattle.compile.specs.declared.Compiled.{Compiled}
@@ -33,18 +35,20 @@ pub record GateLent : Type 0 where
   pub slots : List ℕ
   pub queries : List ℕ
   pub equations : List ℕ
+  pub uses : List ℕ
   pub publics : ℕ
   pub scratch : ℕ
 
 -- these, put together
-abbrev pub gateLent : PermutationRelation → (label slots queries equations : List ℕ) → (publics scratch : ℕ) → GateLent
-gateLent rel label slots queries equations publics scratch =
+abbrev pub gateLent : PermutationRelation → (label slots queries equations uses : List ℕ) → (publics scratch : ℕ) → GateLent
+gateLent rel label slots queries equations uses publics scratch =
     record {
       relation = rel;
       label = label;
       slots = slots;
       queries = queries;
       equations = equations;
+      uses = uses;
       publics = publics;
       scratch = scratch;
     }
@@ -87,7 +91,7 @@ compiledParts rel slots queries equations =
       equations = equationsAt (rel .equations) (take (rel .words) equations);
     }
 
--- 2 of the stores beside the slots, by their lengths
+-- 2 of the stores beside slots and use store, by their lengths
 abbrev pub storesAsks : PermutationRelation → (label queries equations publics scratch : ℕ) → List Question
 storesAsks rel label queries equations publics scratch =
     queriesAsks rel queries
@@ -116,6 +120,7 @@ abbrev pub compileFront : Sharing → GateLent → List Question
 compileFront h l = inTurn (
     relationAsksWith h (l .relation) (length (l .slots))
     ∷ lentStoresAsks l
+    ∷ storeAsks (length (l .uses))
     ∷ h .opened
     ∷ [])
 
@@ -127,11 +132,23 @@ preparedAsks l = compileFront alone l ++ lentSoundAsks l
 unfoldable pub preparedNo : GateLent → ℕ
 preparedNo l = firstNo (preparedAsks l)
 
--- then 10, whether the store holds the publics, and 16 and 12 to 15 of the parts
+-- 10: does the store hold the publics?
+abbrev pub publicsRoom : GateLent → List Question
+publicsRoom l = question 10 (leb (2 * length (publicsOf (l .relation) (l .slots))) (l .publics)) ∷ []
+
+-- the parts of what is lent
+abbrev pub lentParts : GateLent → Parts
+lentParts l = compiledParts (l .relation) (l .slots) (l .queries) (l .equations)
+
+-- then 10, of the publics and whether the use store has a word per slot, and 16 and 12 to 15 of the parts, 13 and 15 by
+-- the use counts and the stray count, whatever these are
 abbrev pub madeAsks : GateLent → List Question
-madeAsks l =
-    question 10 (leb (2 * length (publicsOf (l .relation) (l .slots))) (l .publics))
-    ∷ gateAsks (compiledParts (l .relation) (l .slots) (l .queries) (l .equations)) (l .scratch)
+madeAsks l = inTurn (
+    publicsRoom l
+    ∷ lengthAsks (length (l .slots)) (length (l .uses))
+    ∷ gateAsksBy (usesBelow (l .relation .vars) (l .uses) (l .relation .stray))
+    (boundBy (take (l .relation .vars) (l .slots)) (l .uses)) (lentParts l) (l .scratch)
+    ∷ [])
 
 -- all of the gate's questions: 1, 2, 11, 10, 16, 12 to 15
 abbrev pub compileAsksWith : Sharing → GateLent → List Question
@@ -144,6 +161,17 @@ compileAsks = compileAsksWith alone
 -- the number of the gate: its first no, or 0
 unfoldable pub compileNo : GateLent → ℕ
 compileNo l = firstNo (compileAsks l)
+
+-- the gate as document 01 has it: no use store is asked for, and 13 and 15 are by a walk over the queries. Where the
+-- counts are right for the held cells the two are one (`compile/proofs/Counts`)
+abbrev pub walkedAsks : GateLent → List Question
+walkedAsks l = inTurn (
+    relationAsks (l .relation) (length (l .slots))
+    ∷ lentStoresAsks l
+    ∷ lentSoundAsks l
+    ∷ publicsRoom l
+    ∷ gateAsks (lentParts l) (l .scratch)
+    ∷ [])
 
 -- ---- its answer, and what it leaves
 -- a refused gate's answer

@@ -1,7 +1,8 @@
 // The gate (the source's `compile`, of permutation.rs): from a relation and its stores to an instance.
 //
-// What is asked before the publics are made is 1, 2 and 11; then 10, whether their store holds them, and of the
-// instance 16 and 12 to 15, as a read asks them. Every open function answers on every input.
+// What is asked before the publics are made is 1, 2 and 11; then 10, whether their store holds them and whether the use
+// store has a word per slot, and of the instance 16 and 12 to 15, where 13 and 15 are by the use counts (a read walks its
+// queries for them). Every open function answers on every input.
 
 ghost use mathlib.Core.Path.{_≡_};
 ghost use Prim.Native.Nat.{_≤_};
@@ -104,11 +105,12 @@ fn prepared(
     slots: &[u32],
     queries: &[u32],
     equations: &[u32],
+    uses: &[u32],
     publics: usize,
     scratch: usize,
 ) -> u32
     ensures { λ r. ⌜ r ≡ preparedNo (gateLent rel (now (label .entry)) (now (slots .entry)) (now (queries .entry)) (now (equations .entry))
-        publics scratch) ⌝ }
+        (now (uses .entry)) publics scratch) ⌝ }
 {
     let a = permutation::asked_relation(rel.width, rel.vars, slots.len());
     let b = asked_stores(
@@ -120,7 +122,8 @@ fn prepared(
         publics,
         scratch,
     );
-    asked_sound(b, rel, label, slots, queries, equations)
+    let c = limits::asked_store(b, uses.len());
+    asked_sound(c, rel, label, slots, queries, equations)
 }
 
 // A refused gate's answer.
@@ -148,28 +151,32 @@ pub fn compile(
     slots: &[u32],
     queries: &[u32],
     equations: &[u32],
+    uses: &[u32],
     publics: &mut [u32],
     scratch: &mut [u32],
 ) -> Compiled
     ensures { λ r. ⌜ Compiles (λ c. c) (gateLent rel (now (label .entry)) (now (slots .entry)) (now (queries .entry)) (now (equations .entry))
-        (length (now (publics .entry))) (length (now (scratch .entry)))) r (now (publics .exit)) (now (scratch .exit)) ⌝ }
+        (now (uses .entry)) (length (now (publics .entry))) (length (now (scratch .entry)))) r (now (publics .exit)) (now (scratch .exit)) ⌝ }
 {
     words::fill(publics, 0);
+    words::fill(scratch, 0);
     let first = prepared(
         rel,
         label,
         slots,
         queries,
         equations,
+        uses,
         publics.len(),
         scratch.len(),
     );
     if first != 0 {
-        words::fill(scratch, 0);
         return refused(first);
     }
     let vars = rel.vars;
-    let count = put_publics(publics, held::held_words(slots, vars as usize));
+    let words = rel.words;
+    let allocated = held::held_words(slots, vars as usize);
+    let count = put_publics(publics, allocated);
     let instance = PermutationInstance {
         width: rel.width,
         vars,
@@ -179,7 +186,17 @@ pub fn compile(
         publics: count,
     };
     let room = limits::asked(0, 2 * count as usize <= publics.len(), 10);
-    let no = validated::asked_validated(room, instance, publics, queries, equations, scratch);
+    let same = limits::asked(room, uses.len() == slots.len(), 10);
+    let wide = limits::asked(same, vars as usize <= scratch.len(), 16);
+    let no = use_gate::asked_used(
+        wide,
+        vars,
+        allocated,
+        uses,
+        rel.stray,
+        held::held_words(equations, words as usize),
+        rel.equations,
+    );
     if no != 0 {
         words::fill(publics, 0);
         return refused(no);

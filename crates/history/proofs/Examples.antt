@@ -12,6 +12,7 @@ use Rattle.limits.specs.Questions.{ask, _▸_}
 use Rattle.limits.specs.declared.Outcome.{Outcome}
 use Rattle.limits.specs.declared.Outcome.the-variants.{Accepted, Refused}
 use Rattle.words.specs.Store.{allBelow}
+use Rattle.uses.specs.Uses.{times, strays, usesAfter, allFit}
 use Rattle.utf8.specs.Utf8.{follow, isUtf8}
 use Rattle.baby_bear.specs.Field.{addUnit, mulUnit, powerUnit, seventh, dotUnits}
 use Rattle.allocator.specs.Slots.{pair, pairNo, setItems}
@@ -45,7 +46,7 @@ use Rattle.decoding.specs.Answers.{instanceFromBytes, witnessFromBytes}
 use Rattle.roundtrip.proofs.Examples.{outcomes as reads, examples as on-bytes}
 use Rattle.permutation.proofs.Examples.{Examples, examples}
 use Rattle.history.specs.Sat.{Sat, Evaluates}
-use Rattle.history.specs.Calls.{Call, Allocate, Set, SetList, Record, Mint, Equate, Tickets, Entry, answer, after, noted, ledger, log}
+use Rattle.history.specs.Calls.{Call, Allocate, Set, SetList, Record, Mint, Equate, Tickets, WithdrawQuery, WithdrawEquation, Entry, answer, after, noted, ledger, log}
 use Rattle.history.specs.Left.{setBy}
 use Rattle.history.specs.Whole.{FileLent, TraceLent, compiled, begin, last, lastLedger}
 use Rattle.history.proofs.Outcomes.{accepted-no}
@@ -70,6 +71,9 @@ queries = 9 ∷ 9 ∷ 9 ∷ []
 
 abbrev equations : List ℕ
 equations = 9 ∷ 9 ∷ 9 ∷ 9 ∷ 9 ∷ []
+
+abbrev uses : List ℕ
+uses = 3 ∷ 3 ∷ 3 ∷ 3 ∷ 3 ∷ 3 ∷ 3 ∷ 3 ∷ []
 
 abbrev publics : List ℕ
 publics = 6 ∷ 6 ∷ 6 ∷ 6 ∷ []
@@ -100,32 +104,32 @@ calls =
     ∷ Allocate 1073741821
     ∷ []
 
-fresh-accepted : newRelation 1 slots .outcome ≡ Accepted
+fresh-accepted : newRelation 1 slots uses .outcome ≡ Accepted
 unfolding ask _▸_ newRelationNo
 fresh-accepted = refl
 
 -- 0 to 5 is refused with 8, the first tickets and the list stop at wire 7 with 7, unequal lengths give 9, the mint lacks room (10)
-outcomes : map (λ (e : Entry). e .answered .outcome) (log (begin 1 slots queries equations calls) calls)
+outcomes : map (λ (e : Entry). e .answered .outcome) (log (begin 1 slots queries equations uses calls) calls)
     ≡ Accepted ∷ Refused 8 ∷ Refused 7 ∷ Accepted ∷ Refused 7 ∷ Refused 9 ∷ Accepted ∷ Accepted ∷ Refused 10 ∷ Refused 5 ∷ Refused 6 ∷ []
-unfolding ask _▸_ newRelationNo allocateVarsNo setVarNo setVarsNo addPermutationNo allocatePermutationNo addEquationNo pairNo setItems setVarsRun ticketLine gramsToSteps readLine linesOf lineNo setTicketsRun allBelow answer after
+unfolding ask _▸_ newRelationNo allocateVarsNo setVarNo setVarsNo addPermutationNo allocatePermutationNo addEquationNo times strays allFit usesAfter pairNo setItems setVarsRun ticketLine gramsToSteps readLine linesOf lineNo setTicketsRun allBelow answer after
 outcomes = refl
 
 -- the ledger: three wires, wire 2 set to 5 by the first line of the refused tickets, wire 0 to 0 again by the accepted ones and by the
 -- list, the query 1 to 2, the equation 3 · wire 1 = 6
-ledger-is : lastLedger 1 slots queries equations calls
+ledger-is : lastLedger 1 slots queries equations uses calls
     ≡ ledger 3 (pair 0 0 ∷ pair 0 0 ∷ pair 2 5 ∷ pair 0 0 ∷ []) ((1 ∷ 2 ∷ []) ∷ []) (equation (term 1 3 ∷ []) 6 ∷ [])
-unfolding ask _▸_ newRelationNo allocateVarsNo setVarNo setVarsNo addPermutationNo allocatePermutationNo addEquationNo pairNo setItems setVarsRun ticketLine gramsToSteps readLine linesOf lineNo setTicketsRun allBelow answer after noted
+unfolding ask _▸_ newRelationNo allocateVarsNo setVarNo setVarsNo addPermutationNo allocatePermutationNo addEquationNo times strays allFit usesAfter pairNo setItems setVarsRun ticketLine gramsToSteps readLine linesOf lineNo setTicketsRun allBelow answer after noted
 ledger-is = refl
 
 -- two publics, one query, one equation of four words
 abbrev instanceA : PermutationInstance
-instanceA = instanceOf (relation 1 3 1 1 4) 2
+instanceA = instanceOf (relation 1 3 1 1 4 0) 2
 
-gate-A : compiled (last 1 slots queries equations calls) [] publics scratch ≡ record { outcome = Accepted; instance = instanceA }
-unfolding ask _▸_ newRelationNo allocateVarsNo setVarNo setVarsNo addPermutationNo allocatePermutationNo addEquationNo pairNo setItems setVarsRun ticketLine gramsToSteps readLine linesOf lineNo setTicketsRun allBelow answer after compiledParts publicsOf equationAt sizeAt equationsSound slotsSound follow isUtf8 compileNo compile validatedNo gateNo
+gate-A : compiled (last 1 slots queries equations uses calls) [] publics scratch ≡ record { outcome = Accepted; instance = instanceA }
+unfolding ask _▸_ newRelationNo allocateVarsNo setVarNo setVarsNo addPermutationNo allocatePermutationNo addEquationNo times strays allFit usesAfter pairNo setItems setVarsRun ticketLine gramsToSteps readLine linesOf lineNo setTicketsRun allBelow answer after compiledParts publicsOf equationAt sizeAt equationsSound slotsSound follow isUtf8 compileNo compile validatedNo gateNo
 gate-A = refl
 
-gate-accepted : compiled (last 1 slots queries equations calls) [] publics scratch .outcome ≡ Accepted
+gate-accepted : compiled (last 1 slots queries equations uses calls) [] publics scratch .outcome ≡ Accepted
 gate-accepted = ap (λ (c : Compiled). c .outcome) gate-A
 
 -- ---- the theorem at A, through both byte forms into outputs of exactly 73 and 25 bytes
@@ -136,30 +140,30 @@ abbrev lentTrace : List ℕ → TraceLent
 lentTrace trace = record { steps = 1; trace = trace; out = replicate 25 7; room = 2 }
 
 abbrev SatA : List (List ℕ) → Type 0
-SatA trace = Sat (Evaluates 1 (parametersOf 1 1 params)) (lastLedger 1 slots queries equations calls) trace
+SatA trace = Sat (Evaluates 1 (parametersOf 1 1 params)) (lastLedger 1 slots queries equations uses calls) trace
 
 -- the ledger of those calls is satisfied by the trace (2, 5)
 pub satisfied : SatA ((2 ∷ 5 ∷ []) ∷ [])
-unfolding ask _▸_ newRelationNo allocateVarsNo setVarNo setVarsNo addPermutationNo allocatePermutationNo addEquationNo pairNo setItems setVarsRun ticketLine gramsToSteps readLine linesOf lineNo setTicketsRun allBelow answer after compiledParts publicsOf equationAt sizeAt equationsSound slotsSound follow isUtf8 compileNo compile validatedNo gateNo compilePublics publicsSound partsOf checkNo isWitnessValidNo isEvaluation permuteNo soundParameters roundsOf rowsOf soundKinds unitConstants unitRows sameWords runRounds runRound pairwise onKind timesMatrix addUnit mulUnit powerUnit seventh dotUnits instanceToBytesNo instanceBytes headerBytes u32Bytes instanceFromBytes readInstance readFile readHeader readMagic readLabel readParts readPublics readQueries readEquations word part below witnessToBytesNo witnessBytes witnessFromBytes readWitness readSteps
+unfolding ask _▸_ newRelationNo allocateVarsNo setVarNo setVarsNo addPermutationNo allocatePermutationNo addEquationNo times strays allFit usesAfter pairNo setItems setVarsRun ticketLine gramsToSteps readLine linesOf lineNo setTicketsRun allBelow answer after compiledParts publicsOf equationAt sizeAt equationsSound slotsSound follow isUtf8 compileNo compile validatedNo gateNo compilePublics publicsSound partsOf checkNo isWitnessValidNo isEvaluation permuteNo soundParameters roundsOf rowsOf soundKinds unitConstants unitRows sameWords runRounds runRound pairwise onKind timesMatrix addUnit mulUnit powerUnit seventh dotUnits instanceToBytesNo instanceBytes headerBytes u32Bytes instanceFromBytes readInstance readFile readHeader readMagic readLabel readParts readPublics readQueries readEquations word part below witnessToBytesNo witnessBytes witnessFromBytes readWitness readSteps
 satisfied =
-    whole 1 slots queries equations fresh-accepted calls .judged .gated [] publics scratch gate-accepted .files lentFile
+    whole 1 slots queries equations uses fresh-accepted calls .judged .gated [] publics scratch gate-accepted .files lentFile
     .checks refl refl (lentTrace (2 ∷ 5 ∷ 9 ∷ [])) refl refl 1 params refl 3 (omega arith) (omega arith)
     .yes .0 refl
 
 -- with no bytes between too
 pub satisfied-held : SatA ((2 ∷ 5 ∷ []) ∷ [])
-unfolding ask _▸_ newRelationNo allocateVarsNo setVarNo setVarsNo addPermutationNo allocatePermutationNo addEquationNo pairNo setItems setVarsRun ticketLine gramsToSteps readLine linesOf lineNo setTicketsRun allBelow answer after compiledParts publicsOf equationAt sizeAt equationsSound slotsSound follow isUtf8 compileNo compile validatedNo gateNo compilePublics publicsSound partsOf checkNo isWitnessValidNo isEvaluation permuteNo soundParameters roundsOf rowsOf soundKinds unitConstants unitRows sameWords runRounds runRound pairwise onKind timesMatrix addUnit mulUnit powerUnit seventh dotUnits
+unfolding ask _▸_ newRelationNo allocateVarsNo setVarNo setVarsNo addPermutationNo allocatePermutationNo addEquationNo times strays allFit usesAfter pairNo setItems setVarsRun ticketLine gramsToSteps readLine linesOf lineNo setTicketsRun allBelow answer after compiledParts publicsOf equationAt sizeAt equationsSound slotsSound follow isUtf8 compileNo compile validatedNo gateNo compilePublics publicsSound partsOf checkNo isWitnessValidNo isEvaluation permuteNo soundParameters roundsOf rowsOf soundKinds unitConstants unitRows sameWords runRounds runRound pairwise onKind timesMatrix addUnit mulUnit powerUnit seventh dotUnits
 satisfied-held =
-    whole 1 slots queries equations fresh-accepted calls .judged .gated [] publics scratch gate-accepted
+    whole 1 slots queries equations uses fresh-accepted calls .judged .gated [] publics scratch gate-accepted
     .checks 1 (2 ∷ 5 ∷ 9 ∷ []) (record { size = omega arith; room = omega arith; units = refl }) 1 params refl 3 (omega arith) (omega arith)
     .yes .0 refl
 
 -- and not by (3, 640), whose check is 33: no assignment gives wire 2 both 5 and 640
 pub unsatisfied : SatA ((3 ∷ 640 ∷ []) ∷ []) → ⊥
-unfolding ask _▸_ newRelationNo allocateVarsNo setVarNo setVarsNo addPermutationNo allocatePermutationNo addEquationNo pairNo setItems setVarsRun ticketLine gramsToSteps readLine linesOf lineNo setTicketsRun allBelow answer after compiledParts publicsOf equationAt sizeAt equationsSound slotsSound follow isUtf8 compileNo compile validatedNo gateNo compilePublics publicsSound partsOf checkNo isWitnessValidNo isEvaluation permuteNo soundParameters roundsOf rowsOf soundKinds unitConstants unitRows sameWords runRounds runRound pairwise onKind timesMatrix addUnit mulUnit powerUnit seventh dotUnits instanceToBytesNo instanceBytes headerBytes u32Bytes instanceFromBytes readInstance readFile readHeader readMagic readLabel readParts readPublics readQueries readEquations word part below witnessToBytesNo witnessBytes witnessFromBytes readWitness readSteps
+unfolding ask _▸_ newRelationNo allocateVarsNo setVarNo setVarsNo addPermutationNo allocatePermutationNo addEquationNo times strays allFit usesAfter pairNo setItems setVarsRun ticketLine gramsToSteps readLine linesOf lineNo setTicketsRun allBelow answer after compiledParts publicsOf equationAt sizeAt equationsSound slotsSound follow isUtf8 compileNo compile validatedNo gateNo compilePublics publicsSound partsOf checkNo isWitnessValidNo isEvaluation permuteNo soundParameters roundsOf rowsOf soundKinds unitConstants unitRows sameWords runRounds runRound pairwise onKind timesMatrix addUnit mulUnit powerUnit seventh dotUnits instanceToBytesNo instanceBytes headerBytes u32Bytes instanceFromBytes readInstance readFile readHeader readMagic readLabel readParts readPublics readQueries readEquations word part below witnessToBytesNo witnessBytes witnessFromBytes readWitness readSteps
 unsatisfied s =
     let z : _≡_ {A = ℕ} 33 0 = accepted-no 33
-    (whole 1 slots queries equations fresh-accepted calls .judged .gated [] publics scratch gate-accepted .files lentFile
+    (whole 1 slots queries equations uses fresh-accepted calls .judged .gated [] publics scratch gate-accepted .files lentFile
     .checks refl refl (lentTrace (3 ∷ 640 ∷ [])) refl refl 1 params refl 3 (omega arith) (omega arith)
     .yes .1 s) in
     omega arith
@@ -168,13 +172,13 @@ unsatisfied s =
 abbrev taking : List Call
 taking = Allocate 2 ∷ Mint (0 ∷ []) ∷ []
 
-pub allocated : answer (begin 1 slots queries equations taking) (Allocate 2) .first ≡ 1
-unfolding ask _▸_ newRelationNo allocateVarsNo setVarNo setVarsNo addPermutationNo allocatePermutationNo addEquationNo pairNo setItems setVarsRun ticketLine gramsToSteps readLine linesOf lineNo setTicketsRun allBelow answer after
-allocated = whole 1 slots queries equations fresh-accepted taking .told .0 .first refl refl
+pub allocated : answer (begin 1 slots queries equations uses taking) (Allocate 2) .first ≡ 1
+unfolding ask _▸_ newRelationNo allocateVarsNo setVarNo setVarsNo addPermutationNo allocatePermutationNo addEquationNo times strays allFit usesAfter pairNo setItems setVarsRun ticketLine gramsToSteps readLine linesOf lineNo setTicketsRun allBelow answer after
+allocated = whole 1 slots queries equations uses fresh-accepted taking .told .0 .first refl refl
 
-pub minted : answer (after (begin 1 slots queries equations taking) (Allocate 2)) (Mint (0 ∷ [])) .first ≡ 3
-unfolding ask _▸_ newRelationNo allocateVarsNo setVarNo setVarsNo addPermutationNo allocatePermutationNo addEquationNo pairNo setItems setVarsRun ticketLine gramsToSteps readLine linesOf lineNo setTicketsRun allBelow answer after noted
-minted = whole 1 slots queries equations fresh-accepted taking .told .1 .0 .first refl refl
+pub minted : answer (after (begin 1 slots queries equations uses taking) (Allocate 2)) (Mint (0 ∷ [])) .first ≡ 3
+unfolding ask _▸_ newRelationNo allocateVarsNo setVarNo setVarsNo addPermutationNo allocatePermutationNo addEquationNo times strays allFit usesAfter pairNo setItems setVarsRun ticketLine gramsToSteps readLine linesOf lineNo setTicketsRun allBelow answer after noted
+minted = whole 1 slots queries equations uses fresh-accepted taking .told .1 .0 .first refl refl
 
 -- ---- how many sets are accepted, and how many of those fresh, by every kind of call: a wire named twice is fresh once, wire 0
 -- never; the second list stops at its third pair with 8, the second set gets 8, the third list 9, the first tickets 40 at what is cut off
@@ -193,10 +197,10 @@ setting =
     ∷ Mint (1 ∷ [])
     ∷ []
 
-pub tallied : map (λ (e : Entry). tally (e .answered)) (log (begin 1 slots queries equations setting) setting)
+pub tallied : map (λ (e : Entry). tally (e .answered)) (log (begin 1 slots queries equations uses setting) setting)
     ≡ (0, 0) ∷ (4, 2) ∷ (2, 1) ∷ (1, 0) ∷ (0, 0) ∷ (1, 1) ∷ (3, 1) ∷ (1, 0) ∷ (0, 0) ∷ (0, 0) ∷ (0, 0) ∷ []
-unfolding ask _▸_ newRelationNo allocateVarsNo setVarNo setVarsNo addPermutationNo allocatePermutationNo addEquationNo pairNo setItems setVarsRun ticketLine gramsToSteps readLine linesOf lineNo setTicketsRun allBelow answer after noted setBy
-tallied = all-tallied 1 _ _ setting (whole 1 slots queries equations fresh-accepted setting .told)
+unfolding ask _▸_ newRelationNo allocateVarsNo setVarNo setVarsNo addPermutationNo allocatePermutationNo addEquationNo times strays allFit usesAfter pairNo setItems setVarsRun ticketLine gramsToSteps readLine linesOf lineNo setTicketsRun allBelow answer after noted setBy
+tallied = all-tallied 1 _ _ setting (whole 1 slots queries equations uses fresh-accepted setting .told)
 
 -- ---- document 01's starred examples, all of them, as one fact of the definitions
 -- the gate on wire 0 with 0, another wire of no value, and the equation of that wire with weight k and image 0
@@ -207,7 +211,7 @@ abbrev looseEquations : ℕ → List ℕ
 looseEquations k = 1 ∷ 1 ∷ k ∷ 0 ∷ []
 
 abbrev looseLent : ℕ → GateLent
-looseLent k = gateLent (relation 1 2 0 1 4) [] looseSlots [] (looseEquations k) (length publics) (length scratch)
+looseLent k = gateLent (relation 1 2 0 1 4 0) [] looseSlots [] (looseEquations k) (0 ∷ 0 ∷ []) (length publics) (length scratch)
 
 abbrev loose : ℕ → Compiled
 loose k = compile (looseLent k)
@@ -225,7 +229,7 @@ checkA steps trace = check instanceA (0 ∷ 0 ∷ 2 ∷ 5 ∷ []) (1 ∷ 2 ∷ [
 
 -- of an equation without terms
 abbrev termless : ℕ → Outcome
-termless image = check (instanceOf (relation 1 1 0 1 2) 1) (0 ∷ 0 ∷ []) [] (0 ∷ image ∷ []) 0 []
+termless image = check (instanceOf (relation 1 1 0 1 2 0) 1) (0 ∷ 0 ∷ []) [] (0 ∷ image ∷ []) 0 []
 
 pub record Starred : Type 0 where
   -- 2013265920 + 1 and × itself; wire 0 set to 0 and to 5; one wire, 8 slots: allocate 2^30 and 2^30 − 1
@@ -257,6 +261,6 @@ starred =
     }
 
 -- 36 comes of parts that no gate has seen
-no-36 : check (instanceOf (relation 1 1 0 0 0) 1) (1 ∷ 0 ∷ []) [] [] 0 [] ≡ Refused 36
+no-36 : check (instanceOf (relation 1 1 0 0 0 0) 1) (1 ∷ 0 ∷ []) [] [] 0 [] ≡ Refused 36
 unfolding ask _▸_ allBelow compiledParts publicsOf equationAt sizeAt equationsSound slotsSound follow isUtf8 compileNo compile validatedNo gateNo compilePublics publicsSound partsOf checkNo isWitnessValidNo isEvaluation permuteNo soundParameters roundsOf rowsOf soundKinds unitConstants unitRows sameWords runRounds runRound pairwise onKind timesMatrix addUnit mulUnit powerUnit seventh dotUnits
 no-36 = refl

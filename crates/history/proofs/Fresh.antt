@@ -20,7 +20,7 @@ use Rattle.permutation.proofs.Left.{newly, RunLeft}
 use Rattle.instance.specs.Parts.{pairVars, has}
 use Rattle.history.specs.Along.{toldBy}
 use Rattle.history.specs.Ledger.{Ledger}
-use Rattle.history.specs.Calls.{Call, Allocate, Set, SetList, Record, Mint, Equate, Tickets, State, Answer, answer, after, noted, Entry, log}
+use Rattle.history.specs.Calls.{Call, Allocate, Set, SetList, Record, Mint, Equate, Tickets, WithdrawQuery, WithdrawEquation, State, Answer, answer, after, noted, Entry, log}
 use Rattle.history.specs.Left.{leftWith, setBy, numberOf, freshCount}
 use Rattle.history.specs.Demand.{Accepted, Told, AllTold}
 use Rattle.history.proofs.Along.{along-shown}
@@ -148,3 +148,5 @@ fresh-unnoted w l (Record input output) a f = refl
 fresh-unnoted w l (Mint input) a f = refl
 fresh-unnoted w l (Equate terms image) a f = refl
 fresh-unnoted w l (Tickets text) a f = refl
+fresh-unnoted w l (WithdrawQuery i) a f = refl
+fresh-unnoted w l (WithdrawEquation i) a f = refl

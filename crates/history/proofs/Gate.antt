@@ -1,7 +1,7 @@
 -- The gate on a state that agrees with a ledger: the parts that it judges are the ledger's, and its number is
 -- the first no of what ledger and sizes leave. Assumes nothing.
 use Prim.Native.Nat.{ℕ, suc, _+_, _*_, _≤_, _<_}
-use mathlib.Core.Path.{_≡_, refl, sym, ap, ap₂, _∙_, fun-ext}
+use mathlib.Core.Path.{_≡_, refl, sym, ap, ap₂, _∙_, fun-ext, subst}
 use mathlib.Core.Logic.{inl, inr}
 use mathlib.Core.Bool.{Bool, true, false, and-eq-true-iff}
 use mathlib.Core.List.{List, [], _∷_, append-nil}
@@ -24,9 +24,11 @@ use Rattle.permutation.specs.declared.PermutationRelation.{PermutationRelation}
 use Rattle.instance.specs.Parts.{pairVars, has}
 use Rattle.held.specs.Held.{equationsSound}
 use Rattle.validated.specs.Validated.{termwiseAsks, validatedNo}
-use Rattle.compile.specs.Gate.{gateLent, publicsFrom, publicsOf, compiledParts, compileNo}
+use Rattle.compile.specs.Gate.{gateLent, publicsFrom, publicsOf, compiledParts, compileNo, walkedAsks}
 use Rattle.held.proofs.Facts.{facts-allBelow, SoundSlot, facts-slotsSound}
 use Rattle.compile.proofs.Rising.{publicsOf-below}
+use Rattle.compile.proofs.Counts.{walked-is, counted-gate}
+use Rattle.uses.specs.Uses.{Counted}
 use Rattle.history.specs.Ledger.{Ledger}
 use Rattle.history.specs.Calls.{State, lengthsOf}
 use Rattle.history.specs.Left.{numberOf, publicCount, validatedLeft, compileLeft}
@@ -178,11 +180,12 @@ module _ (w : ℕ) (s : State) (l : Ledger) (i : Agrees w s l) where
       then _ _ _ (past-fits 2 _ _ _ h ∙ past-fits 2 _ _ _ m)
 
   module _ (label : List ℕ) (publicRoom scratch : ℕ) where
-    pub compile-left : compileNo (gateLent rel label (s .slots) (s .queries) (s .equations) publicRoom scratch)
+    walked-left : firstNo (walkedAsks (gateLent rel label (s .slots) (s .queries) (s .equations) (s .uses) publicRoom scratch))
         ≡ firstNo (compileLeft (lengthsOf s) l label publicRoom scratch)
-    unfolding compileNo compileLeft validatedNo compiledParts publicsOf
-    compile-left =
-        relation-yes _ ∙ queries-left _
+    unfolding compileLeft validatedNo compiledParts publicsOf
+    walked-left =
+        walked-is (gateLent rel label (s .slots) (s .queries) (s .equations) (s .uses) publicRoom scratch)
+        ∙ relation-yes _ ∙ queries-left _
         ∙ then _ _ _ (equations-left _ ∙ then _ _ _ (then _ _ _ (then _ _ _ (then _ _ _
         (past-yes 11 _ _ equations-sound
         ∙ past-yes 11 _ _ (ap (allBelow maxCount) queries-held ∙ i .inQueries .below)
@@ -190,3 +193,11 @@ module _ (w : ℕ) (s : State) (l : Ledger) (i : Agrees w s l) where
         ∙ then _ _ _
         (ap₂ _▸_ (ap (λ (n : ℕ). ask 10 (leb (2 * n) publicRoom)) public-count)
         (ap₂ _▸_ (ap (λ (n : ℕ). ask 16 (leb n scratch)) (i .count)) validated-left)))))))
+
+    -- the use counts are those of the held cells, so it is the gate that walks them
+    pub compile-left : compileNo (gateLent rel label (s .slots) (s .queries) (s .equations) (s .uses) publicRoom scratch)
+        ≡ firstNo (compileLeft (lengthsOf s) l label publicRoom scratch)
+    compile-left =
+        counted-gate (gateLent rel label (s .slots) (s .queries) (s .equations) (s .uses) publicRoom scratch)
+        (subst (λ (cells : List ℕ). Counted (length (s .slots)) cells (s .uses) (rel .stray)) (sym queries-held) (i .counts))
+        ∙ walked-left

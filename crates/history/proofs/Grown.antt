@@ -22,7 +22,7 @@ use Rattle.tickets.specs.Lines.{linesOf, linePair}
 use Rattle.tickets.specs.Left.{lineLeft}
 use Rattle.instance.specs.Parts.{pairVars, has}
 use Rattle.history.specs.Ledger.{Ledger}
-use Rattle.history.specs.Calls.{Call, Allocate, Set, SetList, Record, Mint, Equate, Tickets, State, Lengths, lengthsOf, Answer, answer, after, ledger, noted, Entry, log, ledgerOf}
+use Rattle.history.specs.Calls.{Call, Allocate, Set, SetList, Record, Mint, Equate, Tickets, WithdrawQuery, WithdrawEquation, State, Lengths, lengthsOf, Answer, answer, after, ledger, noted, Entry, log, ledgerOf}
 use Rattle.history.specs.Left.{leftWith, setBy, numberOf, freshCount, publicCount}
 use Rattle.history.specs.Demand.{Accepted, Told}
 use Rattle.history.specs.Whole.{begin, lastLedger}
@@ -78,6 +78,8 @@ module _ (w : ℕ) (l : Ledger) where
   joined-by within lengths (Tickets text) a o e =
       ap (joins (l .sets))
       (ap (λ (k : ℕ). map linePair (take k (linesOf text))) e ∙ items-taken (lineLeft (l .count)) linePair (linesOf text) (l .sets))
+  joined-by within lengths (WithdrawQuery i) a o e = same-sets (isAccepted (a .outcome)) _ refl
+  joined-by within lengths (WithdrawEquation i) a o e = same-sets (isAccepted (a .outcome)) _ refl
 
   -- a refused one that sets nothing
   pub none-joined : (c : Call) (a : Answer) → isAccepted (a .outcome) ≡ false → a .accepted ≡ 0 → noted w l c a .sets ≡ l .sets
@@ -89,6 +91,8 @@ module _ (w : ℕ) (l : Ledger) where
   none-joined (Mint input) a o e = same-sets (isAccepted (a .outcome)) _ refl
   none-joined (Equate terms image) a o e = same-sets (isAccepted (a .outcome)) _ refl
   none-joined (Tickets text) a o e = rw e
+  none-joined (WithdrawQuery i) a o e = same-sets (isAccepted (a .outcome)) _ refl
+  none-joined (WithdrawEquation i) a o e = same-sets (isAccepted (a .outcome)) _ refl
 
 -- along the list
 pub joined : (w : ℕ) (s : State) (l : Ledger) (c : Call) → Told w s l c → noted w l c (answer s c) .sets ≡ joins (l .sets) (setBy l c)
@@ -179,6 +183,8 @@ module _ (w : ℕ) (s : State) (l : Ledger) (i : Agrees w s l) where
   grows (Mint input) = count-grows (isAccepted (answer s (Mint input) .outcome)) _ w refl refl
   grows (Equate terms image) = by-joined (Equate terms image) (same-count (isAccepted (answer s (Equate terms image) .outcome)) _ refl)
   grows (Tickets text) = by-joined (Tickets text) refl
+  grows (WithdrawQuery k) = by-joined (WithdrawQuery k) (same-count (isAccepted (answer s (WithdrawQuery k) .outcome)) _ refl)
+  grows (WithdrawEquation k) = by-joined (WithdrawEquation k) (same-count (isAccepted (answer s (WithdrawEquation k) .outcome)) _ refl)
 
 -- ---- along a list
 -- the fresh sets that it answers
@@ -193,6 +199,6 @@ grows-all w (c ∷ cs) s l i =
     grows-all w cs (after s c) (noted w l c (answer s c)) (keeps w s l i c) ∙ omega (arith, grows w s l i c)
 
 -- after any list: wire 0, and a public for each fresh set
-pub publics-are : (w : ℕ) (slots queries equations : List ℕ) → Accepted (newRelation w slots .outcome) → (cs : List Call)
-    → publicCount (lastLedger w slots queries equations cs) ≡ 1 + freshIn (log (begin w slots queries equations cs) cs)
-publics-are w slots queries equations a cs = grows-all w cs _ _ (fresh-agrees w slots queries equations (ap outcomeNumber a))
+pub publics-are : (w : ℕ) (slots queries equations uses : List ℕ) → Accepted (newRelation w slots uses .outcome) → (cs : List Call)
+    → publicCount (lastLedger w slots queries equations uses cs) ≡ 1 + freshIn (log (begin w slots queries equations uses cs) cs)
+publics-are w slots queries equations uses a cs = grows-all w cs _ _ (fresh-agrees w slots queries equations uses (ap outcomeNumber a))

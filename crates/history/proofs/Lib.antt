@@ -24,3 +24,4 @@ pub mod Sound
 pub mod Files
 pub mod Theorem
 pub mod Examples
+pub mod Struck

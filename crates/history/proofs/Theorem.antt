@@ -5,12 +5,13 @@ use mathlib.Core.Path.{_≡_, refl, sym, ap, subst}
 use mathlib.Core.List.{List}
 use lib.ListN.{length}
 use Rattle.limits.specs.Outcome.{outcomeOf, outcomeNumber}
+use Rattle.uses.proofs.Right.{counted-sum}
 use Rattle.permutation.specs.Answers.{newRelation}
 use Rattle.instance.specs.declared.PermutationInstance.{PermutationInstance}
 use Rattle.compile.specs.Gate.{compileNo, compile}
 use Rattle.history.specs.Ledger.{Ledger}
 use Rattle.history.specs.Calls.{Call, State, Lengths, lengthsOf, firstLedger}
-use Rattle.history.specs.Demand.{Accepted}
+use Rattle.history.specs.Demand.{Accepted, Used}
 use Rattle.history.specs.Whole.{lentToGate, compiled, publicsMade, Gated, gateOf, Judged, begin, last, lastLedger, Whole}
 use Rattle.history.proofs.Keeps.{Agrees, fresh-agrees, keeps-all}
 use Rattle.history.proofs.Outcomes.{accepted-no}
@@ -55,19 +56,28 @@ judged w s l i = record {
   traced = λ t. traced w (i .least) (i .most) t;
 }
 
-module _ (w : ℕ) (slots queries equations : List ℕ) (accepted : Accepted (newRelation w slots .outcome)) (cs : List Call) where
-  begins : Agrees w (begin w slots queries equations cs) firstLedger
-  begins = fresh-agrees w slots queries equations (ap outcomeNumber accepted)
+-- the use counts of a relation in step with its ledger
+pub used-is : (w : ℕ) (s : State) (l : Ledger) → Agrees w s l → Used w (length (s .slots)) l (s .uses) (s .relation .stray)
+used-is w s l i =
+    record {
+      counts = i .counts;
+      total = counted-sum (length (s .slots)) w (l .queries) (s .uses) (s .relation .stray) (i .inQueries .widths) (i .counts);
+    }
 
-  agrees : Agrees w (last w slots queries equations cs) (lastLedger w slots queries equations cs)
-  agrees = keeps-all w cs (begin w slots queries equations cs) firstLedger begins
+module _ (w : ℕ) (slots queries equations uses : List ℕ) (accepted : Accepted (newRelation w slots uses .outcome)) (cs : List Call) where
+  begins : Agrees w (begin w slots queries equations uses cs) firstLedger
+  begins = fresh-agrees w slots queries equations uses (ap outcomeNumber accepted)
 
-  pub whole : Whole w slots queries equations cs
+  agrees : Agrees w (last w slots queries equations uses cs) (lastLedger w slots queries equations uses cs)
+  agrees = keeps-all w cs (begin w slots queries equations uses cs) firstLedger begins
+
+  pub whole : Whole w slots queries equations uses cs
   whole = record {
-    told = told-all w cs (begin w slots queries equations cs) firstLedger begins;
+    told = told-all w cs (begin w slots queries equations uses cs) firstLedger begins;
+    used = used-is w (last w slots queries equations uses cs) (lastLedger w slots queries equations uses cs) agrees;
     judged = subst
-        (λ (x : Lengths). Judged w x (last w slots queries equations cs .queries) (last w slots queries equations cs .equations)
-        (gateOf (last w slots queries equations cs)) (lastLedger w slots queries equations cs))
-        (lengths-all cs (begin w slots queries equations cs))
-        (judged w (last w slots queries equations cs) (lastLedger w slots queries equations cs) agrees);
+        (λ (x : Lengths). Judged w x (last w slots queries equations uses cs .queries) (last w slots queries equations uses cs .equations)
+        (gateOf (last w slots queries equations uses cs)) (lastLedger w slots queries equations uses cs))
+        (lengths-all cs (begin w slots queries equations uses cs))
+        (judged w (last w slots queries equations uses cs) (lastLedger w slots queries equations uses cs) agrees);
   }

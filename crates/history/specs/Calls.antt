@@ -16,9 +16,12 @@ use Rattle.expr.specs.Weighted.{termsOf}
 use Rattle.expr.specs.declared.Weighted.{Weighted}
 use Rattle.permutation.specs.Sharing.{Sharing, alone}
 use Rattle.permutation.specs.Relation.{relationFront, allocateVarsFront, allocateVarsAsksWith, setVarAsksWith, setVarsFront, setVarsAsksWith}
-use Rattle.recording.specs.Relation.{addPermutationFront, addPermutationAsksWith, allocatePermutationFront, allocatePermutationAsksWith, addEquationFront, addEquationAsksWith}
-use Rattle.permutation.specs.Answers.{firstVar, newRelation, newSlots, allocateVars, allocateVarsSlots, setVar, setVarSlots, setVars, setVarsSlots}
-use Rattle.recording.specs.Answers.{addPermutation, addPermutationQueries, allocatePermutation, allocatePermutationSlots, allocatePermutationQueries, addEquation, addEquationEquations, upFrom}
+use Rattle.recording.specs.Relation.{addPermutationFront, addPermutationAsksWith, allocatePermutationFront, upFrom, allocatePermutationAsksWith, addEquationFront, addEquationAsksWith}
+use Rattle.permutation.specs.Answers.{firstVar, newRelation, newSlots, newUses, allocateVars, allocateVarsSlots, setVar, setVarSlots, setVars, setVarsSlots}
+use Rattle.recording.specs.Answers.{addPermutation, addPermutationQueries, addPermutationUses, allocatePermutation, allocatePermutationSlots, allocatePermutationQueries, allocatePermutationUses, addEquation, addEquationEquations}
+use Rattle.strike.specs.Strike.{without}
+use Rattle.withdraw.specs.Relation.{withdrawEquationAsksWith, withdrawQueryFront, withdrawQueryAsksWith}
+use Rattle.withdraw.specs.Answers.{withdrawEquation, withdrawEquationEquations, withdrawQuery, withdrawQueryQueries, withdrawQueryUses}
 use Rattle.permutation.specs.declared.PermutationRelation.{PermutationRelation}
 use Rattle.permutation.specs.declared.First.{First}
 use Rattle.permutation.specs.declared.First.the-variants as first
@@ -29,7 +32,8 @@ use Rattle.tickets.specs.declared.SetTickets.{SetTickets}
 use Rattle.history.specs.Along.{Logged, logBy, leftBy, ledgerBy}
 use Rattle.history.specs.Ledger.{Ledger}
 
--- the calls of document 01's list: allocate, set, set list, record, mint, equation; and 02's tickets (R-1)
+-- the calls of document 01's list: allocate, set, set list, record, mint, equation; and 02's tickets (R-1), and a query
+-- or an equation withdrawn by its number (R-6)
 pub data Call : Type 0 where
   Allocate : ℕ → Call
   Set : Pair → Call
@@ -38,6 +42,8 @@ pub data Call : Type 0 where
   Mint : (input : List ℕ) → Call
   Equate : (terms : List Weighted) (image : ℕ) → Call
   Tickets : (text : List ℕ) → Call
+  WithdrawQuery : (i : ℕ) → Call
+  WithdrawEquation : (i : ℕ) → Call
 
 -- the relation's record, and the words of its stores
 pub record State : Type 0 where
@@ -45,21 +51,29 @@ pub record State : Type 0 where
   pub slots : List ℕ
   pub queries : List ℕ
   pub equations : List ℕ
+  pub uses : List ℕ
 
 -- this record and these stores
-abbrev pub state : PermutationRelation → (slots queries equations : List ℕ) → State
-state relation slots queries equations =
-    record { relation = relation; slots = slots; queries = queries; equations = equations }
+abbrev pub state : PermutationRelation → (slots queries equations uses : List ℕ) → State
+state relation slots queries equations uses =
+    record { relation = relation; slots = slots; queries = queries; equations = equations; uses = uses }
 
--- the lengths of the three stores; no call changes them
+-- the lengths of the four stores; no call changes them
 pub record Lengths : Type 0 where
   pub slots : ℕ
   pub queries : ℕ
   pub equations : ℕ
+  pub uses : ℕ
 
 -- those of a state
 abbrev pub lengthsOf : State → Lengths
-lengthsOf s = record { slots = length (s .slots); queries = length (s .queries); equations = length (s .equations) }
+lengthsOf s =
+    record {
+      slots = length (s .slots);
+      queries = length (s .queries);
+      equations = length (s .equations);
+      uses = length (s .uses);
+    }
 
 -- ---- questions in order; a call answers the first that says no
 -- of each call, on the state that it gets, with what sharing puts in
@@ -67,10 +81,14 @@ unfoldable pub asksWith : Sharing → State → Call → List Question
 asksWith h s (Allocate n) = allocateVarsAsksWith h (s .relation) (length (s .slots)) n
 asksWith h s (Set p) = setVarAsksWith h (s .relation) (s .slots) p
 asksWith h s (SetList vars values) = setVarsAsksWith h (s .relation) (s .slots) vars values
-asksWith h s (Record input output) = addPermutationAsksWith h (s .relation) (length (s .queries)) input output
-asksWith h s (Mint input) = allocatePermutationAsksWith h (s .relation) (length (s .slots)) (length (s .queries)) input
+asksWith h s (Record input output) =
+    addPermutationAsksWith h (s .relation) (length (s .slots)) (length (s .queries)) (s .uses) input output
+asksWith h s (Mint input) =
+    allocatePermutationAsksWith h (s .relation) (length (s .slots)) (length (s .queries)) (s .uses) input
 asksWith h s (Equate terms image) = addEquationAsksWith h (s .relation) (length (s .equations)) (termsOf terms) image
 asksWith h s (Tickets text) = setTicketsAsksWith h (s .relation) (s .slots) text
+asksWith h s (WithdrawQuery i) = withdrawQueryAsksWith h (s .relation) (length (s .slots)) (s .queries) (s .uses) i
+asksWith h s (WithdrawEquation i) = withdrawEquationAsksWith h (s .relation) (s .equations) i
 
 -- of a relation alone
 abbrev pub asks : State → Call → List Question
@@ -81,10 +99,14 @@ unfoldable pub frontAsks : Sharing → PermutationRelation → Lengths → Call 
 frontAsks h rel lengths (Allocate n) = allocateVarsFront h rel (lengths .slots) n
 frontAsks h rel lengths (Set p) = relationFront h rel (lengths .slots)
 frontAsks h rel lengths (SetList vars values) = setVarsFront h rel (lengths .slots) vars values
-frontAsks h rel lengths (Record input output) = addPermutationFront h rel (lengths .queries) input output
-frontAsks h rel lengths (Mint input) = allocatePermutationFront h rel (lengths .slots) (lengths .queries) input
+frontAsks h rel lengths (Record input output) =
+    addPermutationFront h rel (lengths .slots) (lengths .queries) (lengths .uses) input output
+frontAsks h rel lengths (Mint input) =
+    allocatePermutationFront h rel (lengths .slots) (lengths .queries) (lengths .uses) input
 frontAsks h rel lengths (Equate terms image) = addEquationFront h rel (lengths .equations)
 frontAsks h rel lengths (Tickets text) = relationFront h rel (lengths .slots)
+frontAsks h rel lengths (WithdrawQuery i) = withdrawQueryFront h rel (lengths .slots) (lengths .queries) (lengths .uses)
+frontAsks h rel lengths (WithdrawEquation i) = addEquationFront h rel (lengths .equations)
 
 -- ---- answers: accepted or refused with the documents' number, the first new wire, how many sets, pairs or lines were
 -- accepted, and how many of those were fresh; where a call has no such value it is 0
@@ -130,35 +152,50 @@ unfoldable pub answer : State → Call → Answer
 answer s (Allocate n) = ofFirst (allocateVars (s .relation) (s .slots) n .first)
 answer s (Set p) = ofSet (setVar (s .relation) (s .slots) p)
 answer s (SetList vars values) = ofSetVars (setVars (s .relation) (s .slots) vars values)
-answer s (Record input output) = ofOutcome (addPermutation (s .relation) (s .queries) input output .outcome)
-answer s (Mint input) = ofFirst (allocatePermutation (s .relation) (s .slots) (s .queries) input .first)
+answer s (Record input output) =
+    ofOutcome (addPermutation (s .relation) (length (s .slots)) (s .queries) (s .uses) input output .outcome)
+answer s (Mint input) = ofFirst (allocatePermutation (s .relation) (s .slots) (s .queries) (s .uses) input .first)
 answer s (Equate terms image) = ofOutcome (addEquation (s .relation) (s .equations) (termsOf terms) image .outcome)
 answer s (Tickets text) = ofSetTickets (setTickets (s .relation) (s .slots) text)
+answer s (WithdrawQuery i) =
+    ofOutcome (withdrawQuery (s .relation) (length (s .slots)) (s .queries) (s .uses) i .outcome)
+answer s (WithdrawEquation i) = ofOutcome (withdrawEquation (s .relation) (s .equations) i .outcome)
 
 -- ---- what a call leaves
 -- the record and the stores after each call
 unfoldable pub after : State → Call → State
 after s (Allocate n) =
     state (allocateVars (s .relation) (s .slots) n .relation) (allocateVarsSlots (s .relation) (s .slots) n)
-    (s .queries) (s .equations)
-after s (Set p) = state (s .relation) (setVarSlots (s .relation) (s .slots) p) (s .queries) (s .equations)
+    (s .queries) (s .equations) (s .uses)
+after s (Set p) = state (s .relation) (setVarSlots (s .relation) (s .slots) p) (s .queries) (s .equations) (s .uses)
 after s (SetList vars values) =
-    state (s .relation) (setVarsSlots (s .relation) (s .slots) vars values) (s .queries) (s .equations)
+    state (s .relation) (setVarsSlots (s .relation) (s .slots) vars values) (s .queries) (s .equations) (s .uses)
 after s (Record input output) =
-    state (addPermutation (s .relation) (s .queries) input output .relation) (s .slots)
-    (addPermutationQueries (s .relation) (s .queries) input output) (s .equations)
+    state (addPermutation (s .relation) (length (s .slots)) (s .queries) (s .uses) input output .relation) (s .slots)
+    (addPermutationQueries (s .relation) (length (s .slots)) (s .queries) (s .uses) input output) (s .equations)
+    (addPermutationUses (s .relation) (length (s .slots)) (s .queries) (s .uses) input output)
 after s (Mint input) =
-    state (allocatePermutation (s .relation) (s .slots) (s .queries) input .relation)
-    (allocatePermutationSlots (s .relation) (s .slots) (s .queries) input)
-    (allocatePermutationQueries (s .relation) (s .slots) (s .queries) input) (s .equations)
+    state (allocatePermutation (s .relation) (s .slots) (s .queries) (s .uses) input .relation)
+    (allocatePermutationSlots (s .relation) (s .slots) (s .queries) (s .uses) input)
+    (allocatePermutationQueries (s .relation) (s .slots) (s .queries) (s .uses) input) (s .equations)
+    (allocatePermutationUses (s .relation) (s .slots) (s .queries) (s .uses) input)
 after s (Equate terms image) =
     state (addEquation (s .relation) (s .equations) (termsOf terms) image .relation) (s .slots) (s .queries)
-    (addEquationEquations (s .relation) (s .equations) (termsOf terms) image)
-after s (Tickets text) = state (s .relation) (setTicketsSlots (s .relation) (s .slots) text) (s .queries) (s .equations)
+    (addEquationEquations (s .relation) (s .equations) (termsOf terms) image) (s .uses)
+after s (Tickets text) =
+    state (s .relation) (setTicketsSlots (s .relation) (s .slots) text) (s .queries) (s .equations) (s .uses)
+after s (WithdrawQuery i) =
+    state (withdrawQuery (s .relation) (length (s .slots)) (s .queries) (s .uses) i .relation) (s .slots)
+    (withdrawQueryQueries (s .relation) (length (s .slots)) (s .queries) (s .uses) i) (s .equations)
+    (withdrawQueryUses (s .relation) (length (s .slots)) (s .queries) (s .uses) i)
+after s (WithdrawEquation i) =
+    state (withdrawEquation (s .relation) (s .equations) i .relation) (s .slots) (s .queries)
+    (withdrawEquationEquations (s .relation) (s .equations) i) (s .uses)
 
 -- what fresh of width w leaves, whatever else lies in the stores
-abbrev pub fresh : ℕ → (slots queries equations : List ℕ) → State
-fresh w slots queries equations = state (newRelation w slots .relation) (newSlots w slots) queries equations
+abbrev pub fresh : ℕ → (slots queries equations uses : List ℕ) → State
+fresh w slots queries equations uses =
+    state (newRelation w slots uses .relation) (newSlots w slots uses) queries equations (newUses w slots uses)
 
 -- ---- the ledger
 -- the ledger of this count, these sets, queries and equations
@@ -172,7 +209,7 @@ firstLedger = ledger 1 (pair 0 0 ∷ []) [] []
 
 -- what a call and its answer make of the ledger, at the width given to fresh: a refused call alters nothing, but of
 -- a set list as many of the first pairs join as were accepted, and of a ticket text as many of the first lines, each
--- with the pair that it spells
+-- with the pair that it spells; an accepted withdrawal strikes its item
 unfoldable pub noted : ℕ → Ledger → Call → Answer → Ledger
 noted w l (Allocate n) a = onAccepted a (ledger (l .count + n) (l .sets) (l .queries) (l .equations)) l
 noted w l (Set p) a = onAccepted a (ledger (l .count) (p ∷ l .sets) (l .queries) (l .equations)) l
@@ -186,6 +223,8 @@ noted w l (Equate terms image) a =
     onAccepted a (ledger (l .count) (l .sets) (l .queries) (l .equations ++ (equation (termsOf terms) image ∷ []))) l
 noted w l (Tickets text) a =
     ledger (l .count) (joins (l .sets) (map linePair (take (a .accepted) (linesOf text)))) (l .queries) (l .equations)
+noted w l (WithdrawQuery i) a = onAccepted a (ledger (l .count) (l .sets) (without i (l .queries)) (l .equations)) l
+noted w l (WithdrawEquation i) a = onAccepted a (ledger (l .count) (l .sets) (l .queries) (without i (l .equations))) l
 
 -- ---- a list of calls: what was called and answered, what is left at the end, and the ledger of it
 -- one call, and what it was answered

@@ -12,7 +12,8 @@ use Rattle.limits.specs.Outcome.{outcomeOf}
 use Rattle.limits.specs.declared.Outcome.{Outcome}
 use Rattle.limits.specs.declared.Outcome.the-variants as outcome
 use Rattle.words.specs.Store.{All}
-use Rattle.words.specs.Pieces.{flat}
+use Rattle.words.specs.Pieces.{flat, wordsOf}
+use Rattle.uses.specs.Uses.{Counted, sum}
 use Rattle.allocator.specs.Values.{Values}
 use Rattle.expr.specs.Equation.{Term, Equation}
 use Rattle.instance.specs.Parts.{Parts, pairVars}
@@ -20,7 +21,7 @@ use Rattle.validity.specs.Check.{termsNo, equationNo, carried}
 use Rattle.history.specs.Along.{Along}
 use Rattle.history.specs.Ledger.{Ledger, known}
 use Rattle.history.specs.Sat.{Sat}
-use Rattle.history.specs.Calls.{Call, Allocate, Set, SetList, Record, Mint, Equate, Tickets, State, lengthsOf, asks, answer, after, noted}
+use Rattle.history.specs.Calls.{Call, Allocate, Set, SetList, Record, Mint, Equate, Tickets, WithdrawQuery, WithdrawEquation, State, lengthsOf, asks, answer, after, noted}
 use Rattle.history.specs.Left.{left, setBy, freshCount}
 
 -- ---- outcomes
@@ -44,6 +45,20 @@ takesVars (Record input output) = false
 takesVars (Mint input) = true
 takesVars (Equate terms image) = false
 takesVars (Tickets text) = false
+takesVars (WithdrawQuery i) = false
+takesVars (WithdrawEquation i) = false
+
+-- the calls that add a query
+abbrev pub addsQuery : Call → Bool
+addsQuery (Allocate n) = false
+addsQuery (Set p) = false
+addsQuery (SetList vars values) = false
+addsQuery (Record input output) = true
+addsQuery (Mint input) = true
+addsQuery (Equate terms image) = false
+addsQuery (Tickets text) = false
+addsQuery (WithdrawQuery i) = false
+addsQuery (WithdrawEquation i) = false
 
 -- one call on a state, beside the ledger as it was before
 pub record Told (w : ℕ) (s : State) (l : Ledger) (c : Call) : Type 0 where
@@ -53,6 +68,9 @@ pub record Told (w : ℕ) (s : State) (l : Ledger) (c : Call) : Type 0 where
   pub lengths : lengthsOf (after s c) ≡ lengthsOf s
   -- an accepted allocate or mint answers n as it was before
   pub first : takesVars c ≡ true → Accepted (answer s c .outcome) → answer s c .first ≡ l .count
+  -- 11, a count above 2^30, is answered only where the query store has no room either: 11 comes before 10
+  pub full : addsQuery c ≡ true → answer s c .outcome ≡ outcome.Refused 11
+      → lengthsOf s .queries < wordsOf w (length (l .queries) + 1)
   -- as many sets, pairs or lines are accepted as the ledger lets through, after a refusal too
   pub accepted : answer s c .accepted ≡ length (setBy l c)
   -- and of those as many are fresh as wires are named that no set of the ledger names
@@ -61,6 +79,13 @@ pub record Told (w : ℕ) (s : State) (l : Ledger) (c : Call) : Type 0 where
 -- call by call
 abbrev pub AllTold : ℕ → State → Ledger → List Call → Type 0
 AllTold w = Along answer after (noted w) (Told w)
+
+-- ---- use counts
+-- each use count and the stray count are those of the cells of the ledger's queries, worked out afresh over so many slots,
+-- and they add up to 2w times the queries
+pub record Used (w slots : ℕ) (l : Ledger) (uses : List ℕ) (stray : ℕ) : Type 0 where
+  pub counts : Counted slots (flat (l .queries)) uses stray
+  pub total : sum uses + stray ≡ wordsOf w (length (l .queries))
 
 -- ---- the check
 -- accepted, or refused with a number from lo to hi

@@ -17,13 +17,14 @@ use Rattle.permutation.specs.Sharing.{nothing}
 use Rattle.allocator.specs.Slots.{Pair}
 use Rattle.permutation.specs.Left.{allocateVarsLeft, setVarLeft, setVarsLeft, pairsSet, setVarsSet}
 use Rattle.recording.specs.Left.{addPermutationLeft, allocatePermutationLeft, addEquationLeft}
+use Rattle.withdraw.specs.Left.{withdrawLeft}
 use Rattle.tickets.specs.Left.{setTicketsLeft, setTicketsSet}
 use Rattle.instance.specs.Parts.{pairVars, has}
 use Rattle.held.specs.Held.{labelAsks}
 use Rattle.validated.specs.Validated.{termwiseAsks}
 use Rattle.decoding.specs.Read.{Rooms}
 use Rattle.history.specs.Ledger.{Ledger, known}
-use Rattle.history.specs.Calls.{Call, Allocate, Set, SetList, Record, Mint, Equate, Tickets, Lengths}
+use Rattle.history.specs.Calls.{Call, Allocate, Set, SetList, Record, Mint, Equate, Tickets, WithdrawQuery, WithdrawEquation, Lengths}
 
 -- ---- calls: 1 is never answered, nor 2 of the slots or a count
 -- the number that a call answers, by ledger and lengths, with what comes after 5; 0 is yes
@@ -32,12 +33,14 @@ leftWith within w lengths l (Allocate n) = firstNo (allocateVarsLeft (within n) 
 leftWith within w lengths l (Set p) = firstNo (setVarLeft (l .count) (l .sets) p)
 leftWith within w lengths l (SetList vars values) = setVarsLeft (l .count) (l .sets) vars values
 leftWith within w lengths l (Record input output) =
-    firstNo (addPermutationLeft w (length (l .queries)) (lengths .queries) input output)
+    firstNo (addPermutationLeft w (lengths .slots) (l .queries) (lengths .queries) input output)
 leftWith within w lengths l (Mint input) =
-    firstNo (allocatePermutationLeft (within w) w (l .count) (lengths .slots) (length (l .queries)) (lengths .queries) input)
+    firstNo (allocatePermutationLeft (within w) w (l .count) (lengths .slots) (l .queries) (lengths .queries) input)
 leftWith within w lengths l (Equate terms image) =
     firstNo (addEquationLeft (l .equations) (lengths .equations) (termsOf terms) image)
 leftWith within w lengths l (Tickets text) = setTicketsLeft (l .count) (l .sets) text
+leftWith within w lengths l (WithdrawQuery i) = firstNo (withdrawLeft (length (l .queries)) (lengths .queries) i)
+leftWith within w lengths l (WithdrawEquation i) = firstNo (withdrawLeft (length (l .equations)) (lengths .equations) i)
 
 -- of a relation alone
 abbrev pub left : ℕ → Lengths → Ledger → Call → ℕ
@@ -53,6 +56,8 @@ setBy l (Record input output) = []
 setBy l (Mint input) = []
 setBy l (Equate terms image) = []
 setBy l (Tickets text) = setTicketsSet (l .count) (l .sets) text
+setBy l (WithdrawQuery i) = []
+setBy l (WithdrawEquation i) = []
 
 -- of the n wires from i on, how many pass the test?
 abbrev pub numberOf : (ℕ → Bool) → (i n : ℕ) → ℕ

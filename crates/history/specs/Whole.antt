@@ -3,7 +3,8 @@
 --
 --   (1) each call accepts where no question says no, else it answers the first that does; an accepted allocate or
 --       mint answers the ledger's count as it was before; how many sets were accepted, and how many of those were
---       fresh, is told by the ledger and the call's arguments alone (`told`)
+--       fresh, is told by the ledger and the call's arguments alone (`told`); the use counts and the stray count are
+--       those of the cells of the queries that the ledger has (`used`)
 --   (2) so do the gate and the writes, by 01's own lists of questions; and which of them, and of the reads', can
 --       still say no is told by the ledger and the sizes of what is lent alone (`gates`, `writes`, `reads`)
 --   (3) what was read is what was written: width and counts, label bytes, held words, steps (`same`)
@@ -43,7 +44,7 @@ use Rattle.history.specs.Ledger.{Ledger}
 use Rattle.history.specs.Sat.{Evaluates}
 use Rattle.history.specs.Calls.{Call, State, Lengths, lengthsOf, fresh, firstLedger, log, final, ledgerOf}
 use Rattle.history.specs.Left.{compileLeft, instanceWriteLeft, instanceReadLeft, witnessWriteLeft, witnessReadLeft}
-use Rattle.history.specs.Demand.{Accepted, Answers, AllTold, Checked}
+use Rattle.history.specs.Demand.{Accepted, Answers, AllTold, Used, Checked}
 
 -- ---- the check
 -- a trace store that 2 and 11 let through: it holds the steps, and they are units
@@ -185,7 +186,7 @@ pub record Gated (w : ℕ) (queries equations : List ℕ) (ins : PermutationInst
 -- what it is lent on a state
 abbrev pub lentToGate : State → (label publics scratch : List ℕ) → GateLent
 lentToGate s label publics scratch =
-    gateLent (s .relation) label (s .slots) (s .queries) (s .equations) (length publics) (length scratch)
+    gateLent (s .relation) label (s .slots) (s .queries) (s .equations) (s .uses) (length publics) (length scratch)
 
 -- its questions
 abbrev pub compiledAsks : State → (label publics scratch : List ℕ) → List Question
@@ -229,10 +230,10 @@ pub record Judged (w : ℕ) (lengths : Lengths) (queries equations : List ℕ) (
   pub traced : (t : TraceLent) → Traced w t
 
 -- ---- the whole
-module _ (w : ℕ) (slots queries equations : List ℕ) (cs : List Call) where
+module _ (w : ℕ) (slots queries equations uses : List ℕ) (cs : List Call) where
   -- what fresh leaves
   abbrev pub begin : State
-  begin = fresh w slots queries equations
+  begin = fresh w slots queries equations uses
 
   -- what the calls leave
   abbrev pub last : State
@@ -246,5 +247,7 @@ module _ (w : ℕ) (slots queries equations : List ℕ) (cs : List Call) where
   pub record Whole : Type 0 where
     -- (1) along the list
     pub told : AllTold w begin firstLedger cs
-    -- (2) to (4), where the sizes of the three stores are what they were at first
+    -- the use counts at its end; a list's beginning is a list, so at every place of it
+    pub used : Used w (length (last .slots)) lastLedger (last .uses) (last .relation .stray)
+    -- (2) to (4), where the sizes of the four stores are what they were at first
     pub judged : Judged w (lengthsOf begin) (last .queries) (last .equations) (gateOf last) lastLedger

@@ -2,7 +2,7 @@
 use Prim.Native.Nat.{ℕ, _+_, _≤_}
 use mathlib.Core.Path.{_≡_, sym, _∙_}
 use mathlib.Core.List.{List}
-use borrow.Author.Tests.{leb-true}
+use borrow.Author.Tests.{leb-true, eqb-true}
 use lib.ListN.{length}
 use Rattle.limits.specs.Numbers.{maxCount, maxWidth}
 use Rattle.limits.proofs.Questions.{both, firstNo-append, puts, puts-yes}
@@ -13,21 +13,23 @@ use Rattle.permutation.specs.Numbers.{newRelationNo, allocateVarsNo, set
 use Rattle.permutation.specs.declared.PermutationRelation.{PermutationRelation}
 
 -- ---- fresh
-pub record New (width len : ℕ) : Type 0 where
+pub record New (width len uses : ℕ) : Type 0 where
   pub least : 1 ≤ width
   pub most : width ≤ maxWidth
   pub store : len ≤ maxCount
   pub room : 1 ≤ len
+  pub same : uses ≡ len
 
-pub new-yes : (width len : ℕ) → newRelationNo width len ≡ 0 → New width len
+pub new-yes : (width len uses : ℕ) → newRelationNo width len uses ≡ 0 → New width len uses
 unfolding newRelationNo
-new-yes width len e =
-    let says = puts-yes (newRelationAsks width len) e in
+new-yes width len uses e =
+    let says = puts-yes (newRelationAsks width len uses) e in
     record {
       least = leb-true _ _ (says 1 _ tt (search puts depth 20));
       most = leb-true _ _ (says 1 _ tt (search puts depth 20));
       store = leb-true _ _ (says 2 _ tt (search puts depth 20));
       room = leb-true _ _ (says 6 _ tt (search puts depth 20));
+      same = eqb-true _ _ (says 10 _ tt (search puts depth 20));
     }
 
 -- ---- allocate

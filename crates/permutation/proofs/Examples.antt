@@ -22,10 +22,10 @@ before = 9 ∷ 8 ∷ 7 ∷ 6 ∷ 5 ∷ 4 ∷ 3 ∷ 2 ∷ []
 
 -- one wire, and an 8-slot store
 abbrev one : PermutationRelation
-one = newRelation 1 before .relation
+one = newRelation 1 before before .relation
 
 abbrev slots : List ℕ
-slots = newSlots 1 before
+slots = newSlots 1 before before
 
 pub record Examples : Type 0 where
   pub sum : addUnit 2013265920 1 ≡ 0
@@ -42,7 +42,7 @@ examples = record { sum = refl; product = refl; set-zero = refl; set-five = refl
 -- ---- set lists
 -- a list on a relation of this width and count
 abbrev listed : (width count : ℕ) → (vars values : List ℕ) → SetVars
-listed width count = setVars (relation width count 0 0 0) (0 ∷ unassigned ∷ unassigned ∷ [])
+listed width count = setVars (relation width count 0 0 0 0) (0 ∷ unassigned ∷ unassigned ∷ [])
 
 -- an answer
 abbrev told : Outcome → (accepted fresh : ℕ) → SetVars

@@ -3,7 +3,7 @@
 use Prim.Native.Nat.{ℕ, zero, suc, _+_}
 use mathlib.Core.List.{List}
 use lib.Dec.{eqb, ltb}
-use lib.ListN.{length, getD, set}
+use lib.ListN.{length, getD, set, replicate}
 use Rattle.limits.specs.Numbers.{unassigned}
 use Rattle.limits.specs.Questions.{pick, ask, _▸_, onYes}
 use Rattle.limits.specs.Outcome.{outcomeOf}
@@ -54,26 +54,35 @@ allocatedOf k var new given = record { first = firstOf k var; relation = onYes k
 
 -- ---- records
 -- the record of these counts
-abbrev pub relation : ℕ → ℕ → ℕ → ℕ → ℕ → PermutationRelation
-relation width vars queries equations words =
-    record { width = width; vars = vars; queries = queries; equations = equations; words = words }
+abbrev pub relation : (width vars queries equations words stray : ℕ) → PermutationRelation
+relation width vars queries equations words stray =
+    record { width = width; vars = vars; queries = queries; equations = equations; words = words; stray = stray }
 
 -- n wires more
 abbrev pub moreVars : PermutationRelation → ℕ → PermutationRelation
-moreVars rel n = relation (rel .width) (rel .vars + n) (rel .queries) (rel .equations) (rel .words)
+moreVars rel n = relation (rel .width) (rel .vars + n) (rel .queries) (rel .equations) (rel .words) (rel .stray)
 
--- ---- fresh: one wire, slot 0 becomes 0; refused, a record of zeros
+-- ---- fresh: one wire, slot 0 becomes 0, and every use count; refused, a record of zeros
 -- the answer: a record with one wire
-abbrev pub newRelation : ℕ → List ℕ → Recorded
-newRelation width slots = recordedOf (newRelationNo width (length slots)) (relation width 1 0 0 0) (relation 0 0 0 0 0)
+abbrev pub newRelation : ℕ → (slots uses : List ℕ) → Recorded
+newRelation width slots uses =
+    recordedOf (newRelationNo width (length slots) (length uses)) (relation width 1 0 0 0 0) (relation 0 0 0 0 0 0)
 
 -- the slots where it is accepted
 abbrev pub freshSlots : List ℕ → List ℕ
 freshSlots slots = set slots 0 0
 
 -- the slots afterwards
-abbrev pub newSlots : ℕ → List ℕ → List ℕ
-newSlots width slots = onYes (newRelationNo width (length slots)) (freshSlots slots) slots
+abbrev pub newSlots : ℕ → (slots uses : List ℕ) → List ℕ
+newSlots width slots uses = onYes (newRelationNo width (length slots) (length uses)) (freshSlots slots) slots
+
+-- the use store where it is accepted
+abbrev pub freshUses : List ℕ → List ℕ
+freshUses uses = replicate (length uses) 0
+
+-- the use store afterwards
+abbrev pub newUses : ℕ → (slots uses : List ℕ) → List ℕ
+newUses width slots uses = onYes (newRelationNo width (length slots) (length uses)) (freshUses uses) uses
 
 -- ---- allocate: the next n wires, all slots unassigned, answered by the wire count before the call
 -- the answer, with n wires more in the record

@@ -6,7 +6,7 @@ use mathlib.Core.Path.{_≡_}
 use mathlib.Core.List.{List}
 use Rattle.allocator.specs.Slots.{Pair}
 use Rattle.allocator.specs.Assign.{Runs}
-use Rattle.permutation.specs.Answers.{newRelation, newSlots, allocateVars, allocateVarsSlots, setVar, setVarSlots, setVarsRun, setVarsOf}
+use Rattle.permutation.specs.Answers.{newRelation, newSlots, newUses, allocateVars, allocateVarsSlots, setVar, setVarSlots, setVarsRun, setVarsOf}
 use Rattle.permutation.specs.declared.PermutationRelation.{PermutationRelation}
 use Rattle.allocator.specs.declared.Set.{Set}
 use Rattle.permutation.specs.declared.Recorded.{Recorded}
@@ -14,9 +14,10 @@ use Rattle.permutation.specs.declared.Allocated.{Allocated}
 use Rattle.permutation.specs.declared.SetVars.{SetVars}
 
 -- fresh
-pub record MakesRelation {A : Type 0} (told : Recorded → A) (width : ℕ) (slots₀ : List ℕ) (r : A) (slots₁ : List ℕ) : Type 0 where
-  pub answer : r ≡ told (newRelation width slots₀)
-  pub slots : slots₁ ≡ newSlots width slots₀
+pub record MakesRelation {A : Type 0} (told : Recorded → A) (width : ℕ) (slots₀ uses₀ : List ℕ) (r : A) (slots₁ uses₁ : List ℕ) : Type 0 where
+  pub answer : r ≡ told (newRelation width slots₀ uses₀)
+  pub slots : slots₁ ≡ newSlots width slots₀ uses₀
+  pub uses : uses₁ ≡ newUses width slots₀ uses₀
 
 -- allocate
 pub record AllocatesVars {A : Type 0} (told : Allocated → A) (rel : PermutationRelation) (slots₀ : List ℕ) (n : ℕ)

@@ -8,8 +8,8 @@ use Rattle.permutation.specs.Relation.{newRelationAsks, allocateVarsAsks
 use Rattle.permutation.specs.declared.PermutationRelation.{PermutationRelation}
 
 -- of fresh
-unfoldable pub newRelationNo : ℕ → ℕ → ℕ
-newRelationNo width len = firstNo (newRelationAsks width len)
+unfoldable pub newRelationNo : (width len uses : ℕ) → ℕ
+newRelationNo width len uses = firstNo (newRelationAsks width len uses)
 
 -- of allocate
 unfoldable pub allocateVarsNo : PermutationRelation → ℕ → ℕ → ℕ

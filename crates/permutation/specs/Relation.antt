@@ -9,6 +9,7 @@ use Rattle.limits.specs.Numbers.{maxCount}
 use Rattle.limits.specs.Questions.{Question, question, inTurn}
 use Rattle.limits.specs.Asks.{widthAsks, storeAsks, countAsks}
 use Rattle.words.specs.Pieces.{heldAsks}
+use Rattle.uses.specs.Uses.{lengthAsks}
 use Rattle.allocator.specs.Slots.{Pair, pairs, fitAsks, mostAsks, roomAsks, pairAsks, itemsAsks}
 use Rattle.permutation.specs.Sharing.{Sharing, alone, whereCounted}
 use Rattle.permutation.specs.declared.PermutationRelation.{PermutationRelation}
@@ -24,17 +25,19 @@ equationsAsks rel len =
     storeAsks len ++ (question 2 (leb (rel .words) len) ∷ question 2 (leb (2 * rel .equations) len) ∷ [])
 
 -- ---- each call's questions, a group to a line
--- fresh, with what an opening puts in after 2: 1, 2, 6
-abbrev pub newRelationAsksWith : List Question → ℕ → ℕ → List Question
-newRelationAsksWith opening width len = inTurn (
+-- fresh, with what an opening puts in after 2: 1, 2, 6, and 10, whether the use store has a word per slot
+abbrev pub newRelationAsksWith : List Question → (width len uses : ℕ) → List Question
+newRelationAsksWith opening width len uses = inTurn (
     widthAsks width
+    ∷ storeAsks uses
     ∷ storeAsks len
     ∷ opening
     ∷ (question 6 (leb 1 len) ∷ [])
+    ∷ lengthAsks len uses
     ∷ [])
 
--- fresh: 1, 2, 6
-abbrev pub newRelationAsks : ℕ → ℕ → List Question
+-- fresh: 1, 2, 6, 10
+abbrev pub newRelationAsks : (width len uses : ℕ) → List Question
 newRelationAsks = newRelationAsksWith []
 
 -- every call that looks at the slots begins with 1 and 2

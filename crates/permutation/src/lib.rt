@@ -21,7 +21,8 @@ use limits::MAX_COUNT;
 use limits::Outcome;
 use limits::UNASSIGNED;
 
-// The relation's record: its width, and the counts of wires, queries, equations and used equation words.
+// The relation's record: its width, the counts of wires, queries, equations and used equation words, and the stray
+// count, of the query cells that name wires beyond the slots.
 #[repr(C)]
 pub struct PermutationRelation {
     pub width: u32,
@@ -29,6 +30,7 @@ pub struct PermutationRelation {
     pub queries: u32,
     pub equations: u32,
     pub words: u32,
+    pub stray: u32,
 }
 
 // What a call answers that allocates: the number of the first new wire. It is 2^30, which is no wire, where
@@ -65,19 +67,22 @@ pub enum IsAllocated {
 }
 
 // The number of a fresh call.
-fn new_relation_no(width: u32, len: usize) -> u32
-    ensures { λ r. ⌜ r ≡ newRelationNo width len ⌝ }
+fn new_relation_no(width: u32, len: usize, uses: usize) -> u32
+    ensures { λ r. ⌜ r ≡ newRelationNo width len uses ⌝ }
 {
     let no = limits::asked_width(0, width);
+    let no = limits::asked_store(no, uses);
     let no = limits::asked_store(no, len);
-    limits::asked(no, 1 <= len, 6)
+    let no = limits::asked(no, 1 <= len, 6);
+    limits::asked(no, uses == len, 10)
 }
 
-// A relation with wire 0 alone, which has the value 0 (document 01: fresh). Questions 1, 2, 6.
-pub fn new_relation(width: u32, slots: &mut [u32]) -> Recorded
-    ensures { λ r. ⌜ MakesRelation asIs width (now (slots .entry)) r (now (slots .exit)) ⌝ }
+// A relation with wire 0 alone, which has the value 0 (document 01: fresh); no query names a wire yet, so the use
+// counts become 0. Questions 1, 2, 6, 10.
+pub fn new_relation(width: u32, slots: &mut [u32], uses: &mut [u32]) -> Recorded
+    ensures { λ r. ⌜ MakesRelation asIs width (now (slots .entry)) (now (uses .entry)) r (now (slots .exit)) (now (uses .exit)) ⌝ }
 {
-    let no = new_relation_no(width, slots.len());
+    let no = new_relation_no(width, slots.len(), uses.len());
     if no != 0 {
         return Recorded {
             outcome: Outcome::Refused(no),
@@ -87,10 +92,12 @@ pub fn new_relation(width: u32, slots: &mut [u32]) -> Recorded
                 queries: 0,
                 equations: 0,
                 words: 0,
+                stray: 0,
             },
         };
     }
     slots[0] = 0;
+    words::fill(uses, 0);
     Recorded {
         outcome: Outcome::Accepted,
         relation: PermutationRelation {
@@ -99,6 +106,7 @@ pub fn new_relation(width: u32, slots: &mut [u32]) -> Recorded
             queries: 0,
             equations: 0,
             words: 0,
+            stray: 0,
         },
     }
 }
@@ -142,6 +150,7 @@ pub fn allocate_vars(rel: PermutationRelation, slots: &mut [u32], n: u32) -> All
             queries: rel.queries,
             equations: rel.equations,
             words: rel.words,
+            stray: rel.stray,
         },
     }
 }

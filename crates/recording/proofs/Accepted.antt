@@ -2,15 +2,18 @@
 use Prim.Native.Nat.{ℕ, _+_, _*_, _≤_, _<_}
 use mathlib.Core.Path.{_≡_}
 use mathlib.Core.Bool.{true}
-use mathlib.Core.List.{List}
+use mathlib.Core.List.{List, _++_}
 use borrow.Author.Tests.{ltb-true, leb-true, eqb-true}
 use lib.ListN.{length}
-use Rattle.limits.specs.Numbers.{prime, maxCount}
+use Rattle.limits.specs.Numbers.{prime, maxCount, maxWidth}
+use Rattle.limits.specs.Questions.{firstNo}
 use Rattle.limits.proofs.Questions.{puts, puts-yes}
 use Rattle.words.specs.Store.{allBelow}
 use Rattle.words.specs.Pieces.{wordsOf}
 use Rattle.expr.specs.Equation.{Term, termVars, termWeights, equationSize}
-use Rattle.recording.specs.Relation.{addPermutationAsks, allocatePermutationAsks, addEquationAsks}
+use Rattle.allocator.specs.Slots.{roomAsks}
+use Rattle.permutation.specs.Sharing.{alone}
+use Rattle.recording.specs.Relation.{addPermutationAsks, allocatePermutationFront, allocatePermutationAsks, addEquationAsks}
 use Rattle.recording.specs.Numbers.{addPermutationNo, allocatePermutationNo, addEquationNo}
 use Rattle.permutation.specs.declared.PermutationRelation.{PermutationRelation}
 
@@ -25,11 +28,11 @@ pub record AddPermutation (rel : PermutationRelation) (len : ℕ) (input output 
   pub outputVars : allBelow maxCount output ≡ true
   pub room : wordsOf (rel .width) (rel .queries + 1) ≤ len
 
-pub addPermutation-yes : (rel : PermutationRelation) (len : ℕ) (input output : List ℕ) → addPermutationNo rel len input output ≡ 0
-    → AddPermutation rel len input output
+pub addPermutation-yes : (rel : PermutationRelation) (slots len : ℕ) (uses input output : List ℕ)
+    → addPermutationNo rel slots len uses input output ≡ 0 → AddPermutation rel len input output
 unfolding addPermutationNo
-addPermutation-yes rel len input output e =
-    let says = puts-yes (addPermutationAsks rel len input output) e in
+addPermutation-yes rel slots len uses input output e =
+    let says = puts-yes (addPermutationAsks rel slots len uses input output) e in
     record {
       least = leb-true _ _ (says 1 _ tt (search puts depth 20));
       store = leb-true _ _ (says 2 _ tt (search puts depth 20));
@@ -42,6 +45,21 @@ addPermutation-yes rel len input output e =
     }
 
 -- ---- mint
+-- before its counts
+pub record Mints (rel : PermutationRelation) : Type 0 where
+  pub width : rel .width ≤ maxWidth
+  pub vars : rel .vars + rel .width ≤ maxCount
+
+pub mints-yes : (rel : PermutationRelation) (slots len uses : ℕ) (input : List ℕ)
+    → firstNo (allocatePermutationFront alone rel slots len uses input ++ roomAsks (rel .vars) slots (rel .width)) ≡ 0 → Mints rel
+mints-yes rel slots len uses input e =
+    let says = puts-yes (allocatePermutationFront alone rel slots len uses input ++ roomAsks (rel .vars) slots (rel .width)) e in
+    record {
+      width = leb-true _ _ (says 1 _ tt (search puts depth 20));
+      vars = leb-true _ _ (says 5 _ tt (search puts depth 20));
+    }
+
+-- all of it
 pub record AllocatePermutation (rel : PermutationRelation) (slots len : ℕ) (input : List ℕ) : Type 0 where
   pub least : 1 ≤ rel .width
   pub store : len ≤ maxCount
@@ -52,11 +70,11 @@ pub record AllocatePermutation (rel : PermutationRelation) (slots len : ℕ) (in
   pub slotRoom : rel .vars + rel .width ≤ slots
   pub room : wordsOf (rel .width) (rel .queries + 1) ≤ len
 
-pub allocatePermutation-yes : (rel : PermutationRelation) (slots len : ℕ) (input : List ℕ)
-    → allocatePermutationNo rel slots len input ≡ 0 → AllocatePermutation rel slots len input
+pub allocatePermutation-yes : (rel : PermutationRelation) (slots len : ℕ) (uses input : List ℕ)
+    → allocatePermutationNo rel slots len uses input ≡ 0 → AllocatePermutation rel slots len input
 unfolding allocatePermutationNo
-allocatePermutation-yes rel slots len input e =
-    let says = puts-yes (allocatePermutationAsks rel slots len input) e in
+allocatePermutation-yes rel slots len uses input e =
+    let says = puts-yes (allocatePermutationAsks rel slots len uses input) e in
     record {
       least = leb-true _ _ (says 1 _ tt (search puts depth 20));
       store = leb-true _ _ (says 2 _ tt (search puts depth 20));

@@ -1,52 +1,46 @@
--- The wires of a mint as words: their number, and how the loop that writes them comes to the whole.
+-- The wires of a mint: their number, the first of them, and how the loop that lists them comes to the whole.
 -- Assumes nothing.
 use Prim.Native.Nat.{ℕ, zero, suc, _+_, _-_, _≤_, _<_}
-use mathlib.Core.Path.{_≡_, refl, sym, ap, _∙_}
-use mathlib.Core.List.{List}
+use mathlib.Core.Path.{_≡_, refl, ap, _∙_}
+use mathlib.Core.List.{List, _∷_, _++_, append-nil}
 use native.Mathlib.Omega.{arith}
-use borrow.Author.Tests.{le-leb, lt-leb}
-use lib.ListN.{length, set}
+use lib.ListN.{length, set, take, drop-of-length-le}
 use lib.Seq.{sets}
-use Rattle.limits.specs.Numbers.{maxCount}
-use Rattle.words.proofs.Written.{fit-put, sets-put}
-use Rattle.recording.specs.Answers.{upFrom, fitVars}
+use Rattle.words.proofs.Written.{sets-put}
+use Rattle.recording.specs.Relation.{upFrom}
 
 pub upFrom-length : (n k : ℕ) → length (upFrom n k) ≡ k
 upFrom-length n zero = refl
 upFrom-length n (suc k) = ap suc (upFrom-length (suc n) k)
 
--- ---- what is left to write: n - i wires, from first + i on, at place at + i
-unfoldable pub left : List ℕ → ℕ → ℕ → ℕ → ℕ → List ℕ
-left out at first n i = sets out (at + i) (upFrom (first + i) (n - i))
+pub upFrom-take : (first k n : ℕ) → k ≤ n → take k (upFrom first n) ≡ upFrom first k
+upFrom-take first zero n h = refl
+upFrom-take first (suc k) zero h = absurd (omega arith)
+upFrom-take first (suc k) (suc n) h = ap (λ (l : List ℕ). first ∷ l) (upFrom-take (suc first) k n (omega arith))
 
-pub left-none : (out : List ℕ) (at first n i : ℕ) → n ≤ i → left out at first n i ≡ out
-unfolding left
-left-none out at first n i h = let e : n - i ≡ 0 = omega arith in rw e
+-- ---- what is left to write: n - i wires, from first + i on, at place i
+unfoldable pub left : List ℕ → (first n i : ℕ) → List ℕ
+left out first n i = sets out i (upFrom (first + i) (n - i))
 
-pub left-one : (out : List ℕ) (at first n i : ℕ) → i < n → left (set out (at + i) (first + i)) at first n (i + 1) ≡ left out at first n i
+pub left-all : (out : List ℕ) (first n : ℕ) → length out ≡ n → left out first n 0 ≡ upFrom first n
 unfolding left
-left-one out at first n i h =
-    let a : at + (i + 1) ≡ suc (at + i) = omega arith in
+left-all out first n l =
+    let f : first + 0 ≡ first = omega arith in
+    let k : n - 0 ≡ n = omega arith in
+    let u = upFrom-length first n in
+    rw (f, k)
+    (sets-put 0 (upFrom first n) out (omega arith)
+    ∙ ap (λ (r : List ℕ). upFrom first n ++ r) (drop-of-length-le out {i = 0 + length (upFrom first n)} (omega arith))
+    ∙ append-nil (upFrom first n))
+
+pub left-one : (out : List ℕ) (first n i : ℕ) → i < n → left (set out i (first + i)) first n (i + 1) ≡ left out first n i
+unfolding left
+left-one out first n i h =
+    let a : i + 1 ≡ suc i = omega arith in
     let f : first + (i + 1) ≡ suc (first + i) = omega arith in
     let k : n - i ≡ suc (n - (i + 1)) = omega arith in
-    rw (a, f, k)
+    rw (f, k, a)
 
-module _ (out : List ℕ) (at first n : ℕ) where
-  pub fit-left : first + n ≤ maxCount → at + n ≤ length out → left out at first n 0 ≡ fitVars at first n out
-  unfolding left
-  fit-left w h =
-      let a : at + 0 ≡ at = omega arith in
-      let f : first + 0 ≡ first = omega arith in
-      let k : n - 0 ≡ n = omega arith in
-      let l = upFrom-length first n in
-      let r : at + length (upFrom first n) ≤ length out = omega arith in
-      rw (a, f, k, le-leb (first + n) maxCount w) (sets-put at (upFrom first n) out r ∙ sym (fit-put at (upFrom first n) out r))
-
-  pub no-vars : maxCount < first + n → out ≡ fitVars at first n out
-  no-vars h = rw (lt-leb (first + n) maxCount h)
-
-  pub no-room : first + n ≤ maxCount → length out < at + n → out ≡ fitVars at first n out
-  no-room w h =
-      let l = upFrom-length first n in
-      let r : length out < at + length (upFrom first n) = omega arith in
-      rw (le-leb (first + n) maxCount w, lt-leb (at + length (upFrom first n)) (length out) r)
+pub left-none : (out : List ℕ) (first n i : ℕ) → n ≤ i → left out first n i ≡ out
+unfolding left
+left-none out first n i h = let e : n - i ≡ 0 = omega arith in rw e

@@ -16,7 +16,7 @@ use Rattle.words.proofs.Held.{flat-snoc, pieces-put}
 use Rattle.words.proofs.Written.{put-length}
 use Rattle.expr.specs.Equation.{Term, Equation, equation, termVars, termWeights, equationWords, equationSize, equationsWords}
 use Rattle.expr.proofs.Held.{length-equation, equationsWords-snoc, equations-put, equationsHeld-snoc}
-use Rattle.recording.specs.Answers.{upFrom}
+use Rattle.recording.specs.Relation.{upFrom}
 use Rattle.recording.specs.State.{HoldsQueries, HoldsEquations}
 
 length-snoc : {A : Type 0} (l : List A) (x : A) → length (l ++ (x ∷ [])) ≡ length l + 1

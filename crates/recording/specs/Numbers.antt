@@ -7,12 +7,12 @@ use Rattle.recording.specs.Relation.{addPermutationAsks, allocatePermuta
 use Rattle.permutation.specs.declared.PermutationRelation.{PermutationRelation}
 
 -- of record
-unfoldable pub addPermutationNo : PermutationRelation → ℕ → List ℕ → List ℕ → ℕ
-addPermutationNo rel len input output = firstNo (addPermutationAsks rel len input output)
+unfoldable pub addPermutationNo : PermutationRelation → (slots len : ℕ) → (uses input output : List ℕ) → ℕ
+addPermutationNo rel slots len uses input output = firstNo (addPermutationAsks rel slots len uses input output)
 
 -- of mint
-unfoldable pub allocatePermutationNo : PermutationRelation → ℕ → ℕ → List ℕ → ℕ
-allocatePermutationNo rel slots len input = firstNo (allocatePermutationAsks rel slots len input)
+unfoldable pub allocatePermutationNo : PermutationRelation → (slots len : ℕ) → (uses input : List ℕ) → ℕ
+allocatePermutationNo rel slots len uses input = firstNo (allocatePermutationAsks rel slots len uses input)
 
 -- of equation
 unfoldable pub addEquationNo : PermutationRelation → ℕ → List Term → ℕ → ℕ

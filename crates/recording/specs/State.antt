@@ -9,6 +9,7 @@ use lib.ListN.{length}
 use Rattle.limits.specs.Numbers.{maxCount, maxWidth}
 use Rattle.words.specs.Store.{allBelow, All, Begins}
 use Rattle.words.specs.Pieces.{flat}
+use Rattle.uses.specs.Uses.{Counted}
 use Rattle.allocator.specs.Slots.{Pair}
 use Rattle.expr.specs.Equation.{Equation, equationsWords, equationsHeld}
 use Rattle.permutation.specs.declared.PermutationRelation.{PermutationRelation}
@@ -30,8 +31,8 @@ pub record HoldsEquations (count used : ℕ) (store : List ℕ) (equations : Lis
   pub begins : Begins (equationsWords equations) store
   pub sized : 1 ≤ count → length store ≤ maxCount
 
--- the record and the three stores; the width is the one given to fresh
-pub record Holds (width : ℕ) (rel : PermutationRelation) (slots queries equations : List ℕ)
+-- the record and the four stores; the width is the one given to fresh
+pub record Holds (width : ℕ) (rel : PermutationRelation) (slots queries equations uses : List ℕ)
     (n : ℕ) (sets : List Pair) (asked : List (List ℕ)) (stated : List Equation) : Type 0 where
   pub least : 1 ≤ width
   pub most : width ≤ maxWidth
@@ -40,3 +41,5 @@ pub record Holds (width : ℕ) (rel : PermutationRelation) (slots queries equati
   pub inSlots : HoldsSlots (rel .vars) slots sets
   pub inQueries : HoldsQueries width (rel .queries) queries asked
   pub inEquations : HoldsEquations (rel .equations) (rel .words) equations stated
+  -- each use count is that of the queries' cells, and so is the stray count
+  pub counts : Counted (length slots) (flat asked) uses (rel .stray)

@@ -1,18 +1,23 @@
 // The calls that record queries and equations in a relation (the source's permutation.rs, recording, with expr.rs
 // behind it).
 //
-// The record goes in and comes back by value; slots, queries and equations are lent. Each call puts its questions
-// first and acts only where none says no, so a refusal changes nothing.
+// The record goes in and comes back by value; slots, queries, equations and use counts are lent. A call changes nothing
+// where a question says no: the use counts, which 11 is asked of, are the last to be asked and the first to be written.
 
+ghost use Prim.Native.Nat.{_≤_};
 ghost use mathlib.Core.Path.{_≡_};
 ghost use mathlib.Core.List.{_++_};
 ghost use Rattle.limits.specs.Outcome.{asIs};
+ghost use Rattle.limits.specs.Numbers.{maxCount};
 ghost use Rattle.limits.specs.Questions.{_▸_, firstNo};
+ghost use Rattle.limits.specs.Asks.{storeAsks};
+ghost use Rattle.allocator.specs.Slots.{roomAsks};
 ghost use Rattle.expr.specs.Weighted.{termsOf};
+ghost use Rattle.permutation.specs.Sharing.{alone};
+ghost use Rattle.permutation.specs.Relation.{relationAsks, queriesAsks};
 ghost use Rattle.permutation.specs.Answers.{recordedOf};
-ghost use Rattle.recording.specs.Relation.{addEquationSizes, imageAsks, equationRoom};
-ghost use Rattle.recording.specs.Numbers.{addPermutationNo, allocatePermutationNo};
-ghost use Rattle.recording.specs.Answers.{oneEquation, fitVars, EquationFits};
+ghost use Rattle.recording.specs.Relation.{addPermutationFront, recordAsks, allocatePermutationFront, upFrom, addEquationSizes, imageAsks, equationRoom};
+ghost use Rattle.recording.specs.Answers.{oneEquation, EquationFits};
 ghost use Rattle.recording.specs.Contracts.{AddsPermutation, AllocatesPermutation, AddsEquation};
 use baby_bear::BabyBearUnit;
 use expr::Weighted;
@@ -24,36 +29,62 @@ use permutation::First;
 use permutation::PermutationRelation;
 use permutation::Recorded;
 
-// The number of a record call.
-fn add_permutation_no(rel: PermutationRelation, len: usize, input: &[u32], output: &[u32]) -> u32
-    ensures { λ r. ⌜ r ≡ addPermutationNo rel len (now (input .entry)) (now (output .entry)) ⌝ }
+// Questions 1 and 2 of a relation, its slots, its queries and its use store.
+pub fn asked_queries(rel: PermutationRelation, slots: usize, room: usize, uses: usize) -> u32
+    ensures { λ r. ⌜ r ≡ firstNo (relationAsks rel slots ++ (queriesAsks rel room ++ storeAsks uses)) ⌝ }
 {
     let width = rel.width;
     let count = rel.vars;
     let held = rel.queries;
-    let no = limits::asked_width(0, width);
-    let no = words::asked_held(no, width, held, len);
-    let no = limits::asked_count(no, count);
+    let no = permutation::asked_relation(width, count, slots);
+    let no = words::asked_held(no, width, held, room);
+    limits::asked_store(no, uses)
+}
+
+// The number of a record call before its counts: 1, 2, 9, 3.
+fn add_permutation_no(
+    rel: PermutationRelation,
+    slots: usize,
+    room: usize,
+    uses: usize,
+    input: &[u32],
+    output: &[u32],
+) -> u32
+    ensures { λ r. ⌜ r ≡ firstNo (addPermutationFront alone rel slots room uses (now (input .entry)) (now (output .entry))
+        ++ recordAsks rel (now (input .entry)) (now (output .entry))) ⌝ }
+{
+    let width = rel.width;
+    let no = asked_queries(rel, slots, room, uses);
     let no = limits::asked_store(no, input.len());
     let no = limits::asked_store(no, output.len());
-    let no = words::asked_halves(no, width, 3, MAX_COUNT, input, output);
-    words::asked_one_more(no, width, held, len)
+    words::asked_halves(no, width, 3, MAX_COUNT, input, output)
 }
 
 // Record a query from input to output wires, allocated or not (the source's `add_permutation`). Questions 1,
-// 2, 9, 3, 10.
+// 2, 9, 3, 11, 10.
 pub fn add_permutation(
     rel: PermutationRelation,
+    slots: &[u32],
     queries: &mut [u32],
+    uses: &mut [u32],
     input: &[u32],
     output: &[u32],
 ) -> Recorded
-    ensures { λ r. ⌜ AddsPermutation asIs rel (now (queries .entry)) (now (input .entry)) (now (output .entry)) r (now (queries .exit)) ⌝ }
+    ensures { λ r. ⌜ AddsPermutation asIs rel (now (slots .entry)) (now (queries .entry)) (now (uses .entry)) (now (input .entry)) (now (output .entry))
+        r (now (queries .exit)) (now (uses .exit)) ⌝ }
 {
-    let no = add_permutation_no(rel, queries.len(), input, output);
+    let no = add_permutation_no(rel, slots.len(), queries.len(), uses.len(), input, output);
     if no != 0 {
         return Recorded {
             outcome: Outcome::Refused(no),
+            relation: rel,
+        };
+    }
+    let room = words::asked_one_more(0, rel.width, rel.queries, queries.len());
+    let counted = uses::count_cells(false, slots.len(), uses, rel.stray, input, output, room);
+    if counted.number != 0 {
+        return Recorded {
+            outcome: Outcome::Refused(counted.number),
             relation: rel,
         };
     }
@@ -69,65 +100,56 @@ pub fn add_permutation(
             queries: rel.queries + 1,
             equations: rel.equations,
             words: rel.words,
+            stray: counted.stray,
         },
     }
 }
 
-// The number of a mint.
+// The number of a mint before its counts: 1, 2, 9, 3, 5, 6.
 fn allocate_permutation_no(
     rel: PermutationRelation,
     slots: usize,
     room: usize,
+    uses: usize,
     input: &[u32],
 ) -> u32
-    ensures { λ r. ⌜ r ≡ allocatePermutationNo rel slots room (now (input .entry)) ⌝ }
+    ensures { λ r. ⌜ r ≡ firstNo (allocatePermutationFront alone rel slots room uses (now (input .entry)) ++ roomAsks (rel .vars) slots (rel .width)) ⌝ }
 {
     let width = rel.width;
     let count = rel.vars;
-    let held = rel.queries;
-    let no = permutation::asked_relation(width, count, slots);
-    let no = words::asked_held(no, width, held, room);
+    let no = asked_queries(rel, slots, room, uses);
     let no = limits::asked_store(no, input.len());
     let no = words::asked_half(no, width, 3, MAX_COUNT, input);
-    let no = allocator::asked_grow(no, count, slots, width);
-    words::asked_one_more(no, width, held, room)
+    allocator::asked_grow(no, count, slots, width)
 }
 
-// The n wires from `first` on, as words at place `at` of the store. Nothing is written where there are not
-// as many wires, or where they do not fit.
-fn put_vars(out: &mut [u32], at: usize, first: u32, n: u32)
-    ensures { λ _. ⌜ now (out .exit) ≡ fitVars at first n (now (out .entry)) ⌝ }
+// As many wires from `first` on as the greatest width.
+fn vars_from(first: u32) -> [u32; 24]
+    requires { ⌜ first ≤ maxCount ⌝ }
+    ensures { λ r. ⌜ r ≡ upFrom first 24 ⌝ }
 {
-    if MAX_COUNT < first {
-        return;
-    }
-    if MAX_COUNT - first < n {
-        return;
-    }
-    if out.len() < at {
-        return;
-    }
-    if out.len() - at < n as usize {
-        return;
-    }
+    let mut out = [0; 24];
     let mut i: u32 = 0;
-    while i < n {
-        out[at + i as usize] = first + i;
+    while i < 24 {
+        out[i as usize] = first + i;
         i += 1;
     }
+    out
 }
 
 // Record a query from input wires to as many new ones (the source's `allocate_permutation`), or do neither.
-// Questions 1, 2, 9, 3, 5, 6, 10.
+// Questions 1, 2, 9, 3, 5, 6, 11, 10.
 pub fn allocate_permutation(
     rel: PermutationRelation,
     slots: &mut [u32],
     queries: &mut [u32],
+    uses: &mut [u32],
     input: &[u32],
 ) -> Allocated
-    ensures { λ r. ⌜ AllocatesPermutation asIs rel (now (slots .entry)) (now (queries .entry)) (now (input .entry)) r (now (slots .exit)) (now (queries .exit)) ⌝ }
+    ensures { λ r. ⌜ AllocatesPermutation asIs rel (now (slots .entry)) (now (queries .entry)) (now (uses .entry)) (now (input .entry))
+        r (now (slots .exit)) (now (queries .exit)) (now (uses .exit)) ⌝ }
 {
-    let no = allocate_permutation_no(rel, slots.len(), queries.len(), input);
+    let no = allocate_permutation_no(rel, slots.len(), queries.len(), uses.len(), input);
     if no != 0 {
         return Allocated {
             first: First::Refused(no),
@@ -138,10 +160,20 @@ pub fn allocate_permutation(
     let width = rel.width;
     let held = rel.queries;
     let half = width as usize;
+    let vars = vars_from(first);
+    let output = &vars[..half];
+    let room = words::asked_one_more(0, width, held, queries.len());
+    let counted = uses::count_cells(false, slots.len(), uses, rel.stray, input, output, room);
+    if counted.number != 0 {
+        return Allocated {
+            first: First::Refused(counted.number),
+            relation: rel,
+        };
+    }
     let at = held as usize * (half + half);
     allocator::grow_slots(slots, first, width);
     words::put(queries, at, input);
-    put_vars(queries, at + half, first, width);
+    words::put(queries, at + half, output);
     Allocated {
         first: First::Var(first),
         relation: PermutationRelation {
@@ -150,12 +182,13 @@ pub fn allocate_permutation(
             queries: held + 1,
             equations: rel.equations,
             words: rel.words,
+            stray: counted.stray,
         },
     }
 }
 
-// Questions 1 and 2 of an equation call.
-fn add_equation_sizes(rel: PermutationRelation, len: usize) -> u32
+// Questions 1 and 2 of a relation and its equations.
+pub fn asked_equations(rel: PermutationRelation, len: usize) -> u32
     ensures { λ r. ⌜ r ≡ firstNo (addEquationSizes rel len) ⌝ }
 {
     let width = rel.width;
@@ -189,6 +222,7 @@ fn one_equation(rel: PermutationRelation, n: usize) -> PermutationRelation
         queries: rel.queries,
         equations: rel.equations + 1,
         words: rel.words + (2 + 2 * (n as u32)),
+        stray: rel.stray,
     }
 }
 
@@ -218,7 +252,7 @@ pub fn add_equation(
 ) -> Recorded
     ensures { λ r. ⌜ AddsEquation asIs rel (now (equations .entry)) (termsOf (now (terms .entry))) (image .0) r (now (equations .exit)) ⌝ }
 {
-    let no = add_equation_sizes(rel, equations.len());
+    let no = asked_equations(rel, equations.len());
     let no = expr::asked_terms(no, terms);
     let no = add_equation_no(no, rel, equations.len(), terms.len(), image.0);
     let recorded = equation_recorded(no, rel, terms.len());

@@ -25,6 +25,7 @@ pub(crate) fn relation(given: &[u32]) -> PermutationRelation {
         queries: word(given, 4),
         equations: word(given, 5),
         words: word(given, 6),
+        stray: word(given, 7),
     }
 }
 
@@ -78,7 +79,7 @@ fn with_relation(number: u32, value: u32, r: PermutationRelation, same: bool) ->
         r.queries,
         r.equations,
         r.words,
-        0,
+        r.stray,
         limits::asked(0, same, 1),
         0,
         0,
@@ -94,10 +95,10 @@ pub(crate) fn number(outcome: Outcome) -> u32 {
     }
 }
 
-// The number, a value and the record.
-pub(crate) fn recorded(r: Recorded, value: u32) -> [u32; SIZE] {
+// The number, a value, the record, and whether the rest is the same.
+pub(crate) fn recorded(r: Recorded, value: u32, same: bool) -> [u32; SIZE] {
     let outcome = r.outcome;
-    with_relation(number(outcome), value, r.relation, true)
+    with_relation(number(outcome), value, r.relation, same)
 }
 
 // The number, the first new wire or 0, the record, and whether the rest is the same.

@@ -35,7 +35,7 @@ use allocator::FieldVar;
 use decoding::InstanceRead;
 use decoding::Span;
 
-// 31: record, label, publics, slots, queries, equations, scratch; the number, the instance's record, publics, scratch.
+// 31: record, label, publics, slots, queries, equations, use store, scratch; the number, the instance's record, publics, scratch.
 fn gate(
     given: &[u32],
     case: &[u32],
@@ -43,6 +43,7 @@ fn gate(
     slots: &[u32],
     queries: &[u32],
     equations: &[u32],
+    uses: &[u32],
     publics: &mut [u32],
 ) -> [u32; SIZE] {
     let mut buffer = [0u32; WORDS];
@@ -53,6 +54,7 @@ fn gate(
         slots,
         queries,
         equations,
+        uses,
         publics,
         scratch,
     );
@@ -204,7 +206,7 @@ pub(crate) fn call(
     let two = list(case, TWO);
     let three = list(case, THREE);
     match op {
-        31 => gate(given, case, label, one, two, three, first),
+        31 => gate(given, case, label, one, two, three, list(case, FOUR), first),
         32 => instance_to_bytes(given, label, one, two, three, other),
         33 => instance_from_bytes(word(given, 2), case, label, other, first),
         34 => public_value(given, one, word(given, 0)),

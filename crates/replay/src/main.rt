@@ -59,7 +59,7 @@ fn call(op: u32, case: &[u32], raw: &[u8], first: &mut [u32]) -> [u32; SIZE] {
     let text = text(case, raw, sample::TEXT);
     match op {
         1..=9 => leaves::call(op, given, text, first),
-        10..=20 => relation::call(op, given, case, text, first),
+        10..=20 | 27 | 28 => relation::call(op, given, case, text, first),
         21..=29 => traces::call(op, given, case, text, first),
         30 => shared::call(given, case, text, first),
         _ => instances::call(op, given, case, text, raw, first),

@@ -1,4 +1,4 @@
-// Operations 10 to 20: the calls on a relation.
+// Operations 10 to 20, 27 and 28: the calls on a relation.
 
 use crate::answer::SIZE;
 use crate::answer::allocated;
@@ -11,6 +11,9 @@ use crate::answer::three;
 use crate::sample::ONE;
 use crate::sample::SECOND;
 use crate::sample::SECOND_AFTER;
+use crate::sample::THIRD;
+use crate::sample::THIRD_AFTER;
+use crate::sample::THREE;
 use crate::sample::TWO;
 use crate::sample::WORDS;
 use crate::sample::lent;
@@ -30,9 +33,12 @@ fn set_tickets(given: &[u32], slots: &mut [u32], text: &[u8]) -> [u32; SIZE] {
     three(number(outcome), low(set.accepted), low(set.fresh))
 }
 
-// 11: width, slots; the number, the record, the slots.
-fn new_relation(given: &[u32], slots: &mut [u32]) -> [u32; SIZE] {
-    recorded(permutation::new_relation(word(given, 2), slots), 0)
+// 11: width, slots, use store; the number, the record, both stores.
+fn new_relation(given: &[u32], case: &[u32], slots: &mut [u32]) -> [u32; SIZE] {
+    let mut buffer = [0u32; WORDS];
+    let uses = lent(&mut buffer, list(case, SECOND));
+    let answer = permutation::new_relation(word(given, 2), slots, uses);
+    recorded(answer, 0, same(list(case, SECOND_AFTER), uses))
 }
 
 // 12: how many wires, record, slots; the number, the first of them or 0, the record, the slots.
@@ -52,20 +58,28 @@ fn set_vars(given: &[u32], slots: &mut [u32], vars: &[u32], values: &[u32]) -> [
     three(number(outcome), set.accepted, set.fresh)
 }
 
-// 15: record, queries, inputs, outputs; the number, the record, the queries.
+// 15: record, slots, queries, use store, inputs, outputs; the number, the record, queries and use store.
 fn add_permutation(
     given: &[u32],
+    case: &[u32],
     queries: &mut [u32],
     input: &[u32],
     output: &[u32],
 ) -> [u32; SIZE] {
-    recorded(
-        recording::add_permutation(relation(given), queries, input, output),
-        0,
-    )
+    let mut buffer = [0u32; WORDS];
+    let uses = lent(&mut buffer, list(case, SECOND));
+    let answer = recording::add_permutation(
+        relation(given),
+        list(case, THREE),
+        queries,
+        uses,
+        input,
+        output,
+    );
+    recorded(answer, 0, same(list(case, SECOND_AFTER), uses))
 }
 
-// 16: record, slots, inputs, queries; the number, the first new wire or 0, the record, the slots, the queries.
+// 16: record, slots, queries, use store, inputs; the number, the first new wire or 0, the record, the three stores.
 fn allocate_permutation(
     given: &[u32],
     case: &[u32],
@@ -73,9 +87,29 @@ fn allocate_permutation(
     input: &[u32],
 ) -> [u32; SIZE] {
     let mut buffer = [0u32; WORDS];
+    let mut buffer2 = [0u32; WORDS];
     let queries = lent(&mut buffer, list(case, SECOND));
-    let answer = recording::allocate_permutation(relation(given), slots, queries, input);
-    allocated(answer, same(list(case, SECOND_AFTER), queries))
+    let uses = lent(&mut buffer2, list(case, THIRD));
+    let answer = recording::allocate_permutation(relation(given), slots, queries, uses, input);
+    let left = same(list(case, SECOND_AFTER), queries) & same(list(case, THIRD_AFTER), uses);
+    allocated(answer, left)
+}
+
+// 27: number, record, slots, queries, use store; the number, the record, queries and use store.
+fn withdraw_query(given: &[u32], case: &[u32], queries: &mut [u32], i: u32) -> [u32; SIZE] {
+    let mut buffer = [0u32; WORDS];
+    let uses = lent(&mut buffer, list(case, SECOND));
+    let answer = withdraw::withdraw_query(relation(given), list(case, ONE), queries, uses, i);
+    recorded(answer, 0, same(list(case, SECOND_AFTER), uses))
+}
+
+// 28: number, record, equations; the number, the record, the equations.
+fn withdraw_equation(given: &[u32], equations: &mut [u32], i: u32) -> [u32; SIZE] {
+    recorded(
+        withdraw::withdraw_equation(relation(given), equations, i),
+        0,
+        true,
+    )
 }
 
 // 18: wire, record, slots; the number, the value or 0, 1 where there is one.
@@ -106,14 +140,16 @@ pub(crate) fn call(
     let two = list(case, TWO);
     match op {
         10 => set_tickets(given, first, text),
-        11 => new_relation(given, first),
+        11 => new_relation(given, case, first),
         12 => allocate_vars(given, first, x),
         13 => set_var(given, first, x, y),
         14 => set_vars(given, first, one, two),
-        15 => add_permutation(given, first, one, two),
+        15 => add_permutation(given, case, first, one, two),
         16 => allocate_permutation(given, case, first, one),
         17 | 20 => terms::add_equation(given, first, one, x, y),
         18 => value_of(given, one, x),
+        27 => withdraw_query(given, case, first, x),
+        28 => withdraw_equation(given, first, x),
         _ => is_allocated(given, x),
     }
 }

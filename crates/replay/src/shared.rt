@@ -1,7 +1,7 @@
 // Operation 30: openings, calls and gates of relations on a shared allocator.
 //
-// A case is one of operation 10 to 16, 18, 19 or 31 with more numbers: behind the record, whose wires are the allocator's,
-// and a word of 0, come the relation's number, how many are opened, its quota, what it obtained, and the operation.
+// A case is one of operation 10 to 16, 18, 19, 27, 28 or 31 with more numbers: behind the record, whose wires are the
+// allocator's, come the relation's number, how many are opened, its quota, what it obtained, and the operation.
 
 use crate::answer::SIZE;
 use crate::answer::looked;
@@ -9,9 +9,12 @@ use crate::answer::number;
 use crate::answer::set_answer;
 use crate::answer::three;
 use crate::answer::with_record;
+use crate::sample::FOUR;
 use crate::sample::ONE;
 use crate::sample::SECOND;
 use crate::sample::SECOND_AFTER;
+use crate::sample::THIRD;
+use crate::sample::THIRD_AFTER;
 use crate::sample::THREE;
 use crate::sample::TWO;
 use crate::sample::WORDS;
@@ -50,6 +53,7 @@ fn relation(given: &[u32]) -> SharedRelation {
         queries: word(given, 4),
         equations: word(given, 5),
         words: word(given, 6),
+        stray: word(given, 7),
         quota: word(given, 10),
         obtained: word(given, 11),
     }
@@ -71,7 +75,7 @@ fn with_share(
         r.queries,
         r.equations,
         r.words,
-        0,
+        r.stray,
         limits::asked(0, same, 1),
         a.opened,
         r.quota,
@@ -88,6 +92,12 @@ fn allocated(r: AllocatedOn, same: bool) -> [u32; SIZE] {
     }
 }
 
+// The number, both records, and whether the rest is the same, of a call that records or withdraws.
+fn recorded(given: &[u32], r: RecordedOn, same: bool) -> [u32; SIZE] {
+    let outcome = r.outcome;
+    with_share(number(outcome), 0, allocator(given), r.relation, same)
+}
+
 // 10: as 10; the number, how many lines were accepted, how many of those were fresh, the slots.
 fn set_tickets_on(given: &[u32], slots: &mut [u32], text: &[u8]) -> [u32; SIZE] {
     let set = shared_vars::set_tickets_on(
@@ -101,11 +111,14 @@ fn set_tickets_on(given: &[u32], slots: &mut [u32], text: &[u8]) -> [u32; SIZE] 
     three(number(outcome), low(set.accepted), low(set.fresh))
 }
 
-// 11: quota, width, allocator, slots; the number, the relation's number or 0, both records, the slots.
-fn with_allocator(given: &[u32], slots: &mut [u32], quota: u32) -> [u32; SIZE] {
-    let r: Opened = sharing::with_allocator(allocator(given), word(given, 2), quota, slots);
+// 11: quota, width, allocator, slots, use store; the number, the relation's number or 0, both records, both stores.
+fn with_allocator(given: &[u32], case: &[u32], slots: &mut [u32], quota: u32) -> [u32; SIZE] {
+    let mut buffer = [0u32; WORDS];
+    let uses = lent(&mut buffer, list(case, SECOND));
+    let r: Opened = sharing::with_allocator(allocator(given), word(given, 2), quota, slots, uses);
     let outcome = r.outcome;
-    with_share(number(outcome), r.index, r.allocator, r.relation, true)
+    let left = same(list(case, SECOND_AFTER), uses);
+    with_share(number(outcome), r.index, r.allocator, r.relation, left)
 }
 
 // 12: as 12; the number, the first wire or 0, both records, the slots.
@@ -142,26 +155,30 @@ fn set_vars_on(given: &[u32], slots: &mut [u32], vars: &[u32], values: &[u32]) -
     three(number(outcome), set.accepted, set.fresh)
 }
 
-// 15: as 15; the number, both records, the queries.
+// 15: as 15; the number, both records, queries and use store.
 fn add_permutation_on(
     given: &[u32],
+    case: &[u32],
     queries: &mut [u32],
     input: &[u32],
     output: &[u32],
 ) -> [u32; SIZE] {
-    let r: RecordedOn = shared_recording::add_permutation_on(
+    let mut buffer = [0u32; WORDS];
+    let uses = lent(&mut buffer, list(case, SECOND));
+    let answer = shared_recording::add_permutation_on(
         allocator(given),
         index(given),
         relation(given),
+        list(case, THREE),
         queries,
+        uses,
         input,
         output,
     );
-    let outcome = r.outcome;
-    with_share(number(outcome), 0, allocator(given), r.relation, true)
+    recorded(given, answer, same(list(case, SECOND_AFTER), uses))
 }
 
-// 16: as 16; the number, the first new wire or 0, both records, the slots, the queries.
+// 16: as 16; the number, the first new wire or 0, both records, the three stores.
 fn allocate_permutation_on(
     given: &[u32],
     case: &[u32],
@@ -169,16 +186,48 @@ fn allocate_permutation_on(
     input: &[u32],
 ) -> [u32; SIZE] {
     let mut buffer = [0u32; WORDS];
+    let mut buffer2 = [0u32; WORDS];
     let queries = lent(&mut buffer, list(case, SECOND));
+    let uses = lent(&mut buffer2, list(case, THIRD));
     let answer = shared_recording::allocate_permutation_on(
         allocator(given),
         index(given),
         relation(given),
         slots,
         queries,
+        uses,
         input,
     );
-    allocated(answer, same(list(case, SECOND_AFTER), queries))
+    let left = same(list(case, SECOND_AFTER), queries) & same(list(case, THIRD_AFTER), uses);
+    allocated(answer, left)
+}
+
+// 27: as 27; the number, both records, queries and use store.
+fn withdraw_query_on(given: &[u32], case: &[u32], queries: &mut [u32], i: u32) -> [u32; SIZE] {
+    let mut buffer = [0u32; WORDS];
+    let uses = lent(&mut buffer, list(case, SECOND));
+    let answer = shared_withdraw::withdraw_query_on(
+        allocator(given),
+        index(given),
+        relation(given),
+        list(case, ONE),
+        queries,
+        uses,
+        i,
+    );
+    recorded(given, answer, same(list(case, SECOND_AFTER), uses))
+}
+
+// 28: as 28; the number, both records, the equations.
+fn withdraw_equation_on(given: &[u32], equations: &mut [u32], i: u32) -> [u32; SIZE] {
+    let answer = shared_withdraw::withdraw_equation_on(
+        allocator(given),
+        index(given),
+        relation(given),
+        equations,
+        i,
+    );
+    recorded(given, answer, true)
 }
 
 // 18: as 18; the number, the value or 0, 1 where there is one.
@@ -214,6 +263,7 @@ fn compile_on(
     slots: &[u32],
     queries: &[u32],
     equations: &[u32],
+    uses: &[u32],
     publics: &mut [u32],
 ) -> [u32; SIZE] {
     let mut buffer = [0u32; WORDS];
@@ -226,6 +276,7 @@ fn compile_on(
         slots,
         queries,
         equations,
+        uses,
         publics,
         scratch,
     );
@@ -246,14 +297,25 @@ pub(crate) fn call(given: &[u32], case: &[u32], text: &[u8], first: &mut [u32]) 
     let two = list(case, TWO);
     match word(given, 12) {
         10 => set_tickets_on(given, first, text),
-        11 => with_allocator(given, first, x),
+        11 => with_allocator(given, case, first, x),
         12 => allocate_vars_on(given, first, x),
         13 => set_var_on(given, first, x, y),
         14 => set_vars_on(given, first, one, two),
-        15 => add_permutation_on(given, first, one, two),
+        15 => add_permutation_on(given, case, first, one, two),
         16 => allocate_permutation_on(given, case, first, one),
         18 => value_of_on(given, one, x),
         19 => is_allocated_on(given, x),
-        _ => compile_on(given, case, text, one, two, list(case, THREE), first),
+        27 => withdraw_query_on(given, case, first, x),
+        28 => withdraw_equation_on(given, first, x),
+        _ => compile_on(
+            given,
+            case,
+            text,
+            one,
+            two,
+            list(case, THREE),
+            list(case, FOUR),
+            first,
+        ),
     }
 }

@@ -84,7 +84,7 @@ pub(crate) fn add_equation(
 ) -> [u32; SIZE] {
     let from = at_most(from as usize, TERMS);
     let terms = take_terms(list);
-    let factor = word(given, 7);
+    let factor = word(given, 8);
     let answer = equate(
         relation(given),
         equations,
@@ -94,5 +94,5 @@ pub(crate) fn add_equation(
         BabyBearUnit(image),
     );
     let scaled = answer.scaled;
-    recorded(answer.recorded, number(scaled))
+    recorded(answer.recorded, number(scaled), true)
 }

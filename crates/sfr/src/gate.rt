@@ -28,13 +28,23 @@ pub extern "C" fn sfr_compile(
     slots: &[u32],
     queries: &[u32],
     equations: &[u32],
+    uses: &[u32],
     publics: &mut [u32],
     scratch: &mut [u32],
 ) -> SfrInstanceAnswer
     ensures { λ r. ⌜ Compiles compiledAnswer (gateLent rel (now (label .entry)) (now (slots .entry)) (now (queries .entry)) (now (equations .entry))
-        (length (now (publics .entry))) (length (now (scratch .entry)))) r (now (publics .exit)) (now (scratch .exit)) ⌝ }
+        (now (uses .entry)) (length (now (publics .entry))) (length (now (scratch .entry)))) r (now (publics .exit)) (now (scratch .exit)) ⌝ }
 {
-    let made = compile::compile(rel, label, slots, queries, equations, publics, scratch);
+    let made = compile::compile(
+        rel,
+        label,
+        slots,
+        queries,
+        equations,
+        uses,
+        publics,
+        scratch,
+    );
     let o = made.outcome;
     let instance = made.instance;
     SfrInstanceAnswer {

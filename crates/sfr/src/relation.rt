@@ -7,6 +7,7 @@ ghost use Rattle.limits.specs.Outcome.{outcomeNumber};
 ghost use Rattle.permutation.specs.Answers.{valueOf, isAllocated};
 ghost use Rattle.permutation.specs.Contracts.{MakesRelation, AllocatesVars, SetsVar, SetsVars};
 ghost use Rattle.recording.specs.Contracts.{AddsPermutation, AllocatesPermutation, AddsEquation};
+ghost use Rattle.withdraw.specs.Contracts.{WithdrawsEquation, WithdrawsQuery};
 ghost use Rattle.tickets.specs.Tickets.{SetsTickets};
 ghost use Rattle.sfr.specs.Relation.{recordedAnswer, allocatedAnswer, setAnswer, tallyOf, ticketTallyOf, valueAnswer, flagOf};
 use allocator::FieldVar;
@@ -112,12 +113,16 @@ fn allocated_answer(r: Allocated) -> SfrRelationAnswer
     }
 }
 
-// A relation with wire 0 alone, which has the value 0.
+// A relation with wire 0 alone, which has the value 0; its use counts become 0.
 #[no_mangle]
-pub extern "C" fn sfr_new_relation(width: u32, slots: &mut [u32]) -> SfrRelationAnswer
-    ensures { λ r. ⌜ MakesRelation recordedAnswer width (now (slots .entry)) r (now (slots .exit)) ⌝ }
+pub extern "C" fn sfr_new_relation(
+    width: u32,
+    slots: &mut [u32],
+    uses: &mut [u32],
+) -> SfrRelationAnswer
+    ensures { λ r. ⌜ MakesRelation recordedAnswer width (now (slots .entry)) (now (uses .entry)) r (now (slots .exit)) (now (uses .exit)) ⌝ }
 {
-    recorded_answer(permutation::new_relation(width, slots))
+    recorded_answer(permutation::new_relation(width, slots, uses))
 }
 
 // The next n wires, unassigned.
@@ -222,13 +227,16 @@ pub extern "C" fn sfr_set_tickets(
 #[no_mangle]
 pub extern "C" fn sfr_add_permutation(
     rel: PermutationRelation,
+    slots: &[u32],
     queries: &mut [u32],
+    uses: &mut [u32],
     input: &[u32],
     output: &[u32],
 ) -> SfrRelationAnswer
-    ensures { λ r. ⌜ AddsPermutation recordedAnswer rel (now (queries .entry)) (now (input .entry)) (now (output .entry)) r (now (queries .exit)) ⌝ }
+    ensures { λ r. ⌜ AddsPermutation recordedAnswer rel (now (slots .entry)) (now (queries .entry)) (now (uses .entry)) (now (input .entry)) (now (output .entry))
+        r (now (queries .exit)) (now (uses .exit)) ⌝ }
 {
-    recorded_answer(recording::add_permutation(rel, queries, input, output))
+    recorded_answer(recording::add_permutation(rel, slots, queries, uses, input, output))
 }
 
 // A query from input wires to as many new ones.
@@ -237,11 +245,28 @@ pub extern "C" fn sfr_allocate_permutation(
     rel: PermutationRelation,
     slots: &mut [u32],
     queries: &mut [u32],
+    uses: &mut [u32],
     input: &[u32],
 ) -> SfrRelationAnswer
-    ensures { λ r. ⌜ AllocatesPermutation allocatedAnswer rel (now (slots .entry)) (now (queries .entry)) (now (input .entry)) r (now (slots .exit)) (now (queries .exit)) ⌝ }
+    ensures { λ r. ⌜ AllocatesPermutation allocatedAnswer rel (now (slots .entry)) (now (queries .entry)) (now (uses .entry)) (now (input .entry))
+        r (now (slots .exit)) (now (queries .exit)) (now (uses .exit)) ⌝ }
 {
-    allocated_answer(recording::allocate_permutation(rel, slots, queries, input))
+    allocated_answer(recording::allocate_permutation(rel, slots, queries, uses, input))
+}
+
+// Query i withdrawn: later ones move down.
+#[no_mangle]
+pub extern "C" fn sfr_withdraw_query(
+    rel: PermutationRelation,
+    slots: &[u32],
+    queries: &mut [u32],
+    uses: &mut [u32],
+    i: u32,
+) -> SfrRelationAnswer
+    ensures { λ r. ⌜ WithdrawsQuery recordedAnswer rel (now (slots .entry)) (now (queries .entry)) (now (uses .entry)) i
+        r (now (queries .exit)) (now (uses .exit)) ⌝ }
+{
+    recorded_answer(withdraw::withdraw_query(rel, slots, queries, uses, i))
 }
 
 // An equation: the sum of the terms is the image.
@@ -255,6 +280,18 @@ pub extern "C" fn sfr_add_equation(
     ensures { λ r. ⌜ AddsEquation recordedAnswer rel (now (equations .entry)) (termsOf (now (terms .entry))) image r (now (equations .exit)) ⌝ }
 {
     recorded_answer(recording::add_equation(rel, equations, terms, BabyBearUnit(image)))
+}
+
+// Equation i withdrawn: later ones move down.
+#[no_mangle]
+pub extern "C" fn sfr_withdraw_equation(
+    rel: PermutationRelation,
+    equations: &mut [u32],
+    i: u32,
+) -> SfrRelationAnswer
+    ensures { λ r. ⌜ WithdrawsEquation recordedAnswer rel (now (equations .entry)) i r (now (equations .exit)) ⌝ }
+{
+    recorded_answer(withdraw::withdraw_equation(rel, equations, i))
 }
 
 // Every weight of the list times the factor, or the list as it was.

@@ -10,10 +10,11 @@ ghost use Rattle.permutation.specs.Answers.{setVarsOf};
 ghost use Rattle.tickets.specs.Tickets.{setTicketsOf};
 ghost use Rattle.compile.specs.Gate.{gateLent};
 ghost use Rattle.sharing.specs.Shares.{onAllocator, shares};
-ghost use Rattle.sharing.specs.Opening.{withAllocator, withAllocatorSlots};
-ghost use Rattle.sharing.specs.Answers.{Does, DoesBoth};
+ghost use Rattle.sharing.specs.Opening.{withAllocator, withAllocatorSlots, withAllocatorUses};
+ghost use Rattle.sharing.specs.Answers.{Does, DoesBoth, DoesAll};
 ghost use Rattle.shared_vars.specs.Answers.{allocateVarsOn, allocateVarsOnSlots, setVarOn, setVarOnSlots, setVarsOnRun, setTicketsOnRun, valueOfOn, isAllocatedOn};
-ghost use Rattle.shared_recording.specs.Answers.{addPermutationOn, addPermutationOnQueries, allocatePermutationOn, allocatePermutationOnSlots, allocatePermutationOnQueries, addEquationOn, addEquationOnEquations};
+ghost use Rattle.shared_recording.specs.Answers.{addPermutationOn, addPermutationOnQueries, addPermutationOnUses, allocatePermutationOn, allocatePermutationOnSlots, allocatePermutationOnQueries, allocatePermutationOnUses, addEquationOn, addEquationOnEquations};
+ghost use Rattle.shared_withdraw.specs.Answers.{withdrawEquationOn, withdrawEquationOnEquations, withdrawQueryOn, withdrawQueryOnQueries, withdrawQueryOnUses};
 ghost use Rattle.shared_compile.specs.Gate.{CompilesOn};
 ghost use Rattle.sfr.specs.Relation.{setAnswer, tallyOf, ticketTallyOf, valueAnswer, flagOf};
 ghost use Rattle.sfr.specs.Gate.{compiledAnswer};
@@ -103,17 +104,20 @@ fn recorded_on_answer(allocator: VarAllocator, done: RecordedOn) -> SfrSharedAns
     }
 }
 
-// A relation is opened; the first makes wire 0, which has the value 0.
+// A relation is opened, and its use counts become 0; the first makes wire 0, which has the value 0.
 #[no_mangle]
 pub extern "C" fn sfr_with_allocator(
     allocator: VarAllocator,
     width: u32,
     quota: u32,
     slots: &mut [u32],
+    uses: &mut [u32],
 ) -> SfrSharedAnswer
-    ensures { λ r. ⌜ Does openedAnswer (withAllocator allocator width quota (now (slots .entry))) (withAllocatorSlots allocator width (now (slots .entry))) r (now (slots .exit)) ⌝ }
+    ensures { λ r. ⌜ DoesBoth openedAnswer (withAllocator allocator width quota (now (slots .entry)) (now (uses .entry)))
+        (withAllocatorSlots allocator width (now (slots .entry)) (now (uses .entry)))
+        (withAllocatorUses allocator width (now (slots .entry)) (now (uses .entry))) r (now (slots .exit)) (now (uses .exit)) ⌝ }
 {
-    opened_answer(sharing::with_allocator(allocator, width, quota, slots))
+    opened_answer(sharing::with_allocator(allocator, width, quota, slots, uses))
 }
 
 // The next n wires for the relation, unassigned.
@@ -187,14 +191,28 @@ pub extern "C" fn sfr_add_permutation_on(
     allocator: VarAllocator,
     index: u32,
     rel: SharedRelation,
+    slots: &[u32],
     queries: &mut [u32],
+    uses: &mut [u32],
     input: &[u32],
     output: &[u32],
 ) -> SfrSharedAnswer
-    ensures { λ r. ⌜ Does (recordedOnAnswer allocator) (addPermutationOn allocator index rel (now (queries .entry)) (now (input .entry)) (now (output .entry)))
-        (addPermutationOnQueries allocator index rel (now (queries .entry)) (now (input .entry)) (now (output .entry))) r (now (queries .exit)) ⌝ }
+    ensures { λ r. ⌜ DoesBoth (recordedOnAnswer allocator)
+        (addPermutationOn allocator index rel (length (now (slots .entry))) (now (queries .entry)) (now (uses .entry)) (now (input .entry)) (now (output .entry)))
+        (addPermutationOnQueries allocator index rel (length (now (slots .entry))) (now (queries .entry)) (now (uses .entry)) (now (input .entry)) (now (output .entry)))
+        (addPermutationOnUses allocator index rel (length (now (slots .entry))) (now (queries .entry)) (now (uses .entry)) (now (input .entry)) (now (output .entry)))
+        r (now (queries .exit)) (now (uses .exit)) ⌝ }
 {
-    let done = shared_recording::add_permutation_on(allocator, index, rel, queries, input, output);
+    let done = shared_recording::add_permutation_on(
+        allocator,
+        index,
+        rel,
+        slots,
+        queries,
+        uses,
+        input,
+        output,
+    );
     recorded_on_answer(allocator, done)
 }
 
@@ -206,12 +224,14 @@ pub extern "C" fn sfr_allocate_permutation_on(
     rel: SharedRelation,
     slots: &mut [u32],
     queries: &mut [u32],
+    uses: &mut [u32],
     input: &[u32],
 ) -> SfrSharedAnswer
-    ensures { λ r. ⌜ DoesBoth allocatedOnAnswer (allocatePermutationOn allocator index rel (now (slots .entry)) (now (queries .entry)) (now (input .entry)))
-        (allocatePermutationOnSlots allocator index rel (now (slots .entry)) (now (queries .entry)) (now (input .entry)))
-        (allocatePermutationOnQueries allocator index rel (now (slots .entry)) (now (queries .entry)) (now (input .entry)))
-        r (now (slots .exit)) (now (queries .exit)) ⌝ }
+    ensures { λ r. ⌜ DoesAll allocatedOnAnswer (allocatePermutationOn allocator index rel (now (slots .entry)) (now (queries .entry)) (now (uses .entry)) (now (input .entry)))
+        (allocatePermutationOnSlots allocator index rel (now (slots .entry)) (now (queries .entry)) (now (uses .entry)) (now (input .entry)))
+        (allocatePermutationOnQueries allocator index rel (now (slots .entry)) (now (queries .entry)) (now (uses .entry)) (now (input .entry)))
+        (allocatePermutationOnUses allocator index rel (now (slots .entry)) (now (queries .entry)) (now (uses .entry)) (now (input .entry)))
+        r (now (slots .exit)) (now (queries .exit)) (now (uses .exit)) ⌝ }
 {
     allocated_on_answer(shared_recording::allocate_permutation_on(
         allocator,
@@ -219,8 +239,29 @@ pub extern "C" fn sfr_allocate_permutation_on(
         rel,
         slots,
         queries,
+        uses,
         input,
     ))
+}
+
+// Query i of the relation withdrawn: later ones move down.
+#[no_mangle]
+pub extern "C" fn sfr_withdraw_query_on(
+    allocator: VarAllocator,
+    index: u32,
+    rel: SharedRelation,
+    slots: &[u32],
+    queries: &mut [u32],
+    uses: &mut [u32],
+    i: u32,
+) -> SfrSharedAnswer
+    ensures { λ r. ⌜ DoesBoth (recordedOnAnswer allocator) (withdrawQueryOn allocator index rel (length (now (slots .entry))) (now (queries .entry)) (now (uses .entry)) i)
+        (withdrawQueryOnQueries allocator index rel (length (now (slots .entry))) (now (queries .entry)) (now (uses .entry)) i)
+        (withdrawQueryOnUses allocator index rel (length (now (slots .entry))) (now (queries .entry)) (now (uses .entry)) i)
+        r (now (queries .exit)) (now (uses .exit)) ⌝ }
+{
+    let done = shared_withdraw::withdraw_query_on(allocator, index, rel, slots, queries, uses, i);
+    recorded_on_answer(allocator, done)
 }
 
 // An equation of the relation: the sum of the terms is the image.
@@ -244,6 +285,22 @@ pub extern "C" fn sfr_add_equation_on(
         terms,
         BabyBearUnit(image),
     );
+    recorded_on_answer(allocator, done)
+}
+
+// Equation i of the relation withdrawn: later ones move down.
+#[no_mangle]
+pub extern "C" fn sfr_withdraw_equation_on(
+    allocator: VarAllocator,
+    index: u32,
+    rel: SharedRelation,
+    equations: &mut [u32],
+    i: u32,
+) -> SfrSharedAnswer
+    ensures { λ r. ⌜ Does (recordedOnAnswer allocator) (withdrawEquationOn allocator index rel (now (equations .entry)) i)
+        (withdrawEquationOnEquations allocator index rel (now (equations .entry)) i) r (now (equations .exit)) ⌝ }
+{
+    let done = shared_withdraw::withdraw_equation_on(allocator, index, rel, equations, i);
     recorded_on_answer(allocator, done)
 }
 
@@ -284,12 +341,13 @@ pub extern "C" fn sfr_compile_on(
     slots: &[u32],
     queries: &[u32],
     equations: &[u32],
+    uses: &[u32],
     publics: &mut [u32],
     scratch: &mut [u32],
 ) -> SfrInstanceAnswer
     ensures { λ r. ⌜ CompilesOn compiledAnswer (shares allocator index rel)
         (gateLent (onAllocator allocator rel) (now (label .entry)) (now (slots .entry)) (now (queries .entry)) (now (equations .entry))
-        (length (now (publics .entry))) (length (now (scratch .entry)))) r (now (publics .exit)) (now (scratch .exit)) ⌝ }
+        (now (uses .entry)) (length (now (publics .entry))) (length (now (scratch .entry)))) r (now (publics .exit)) (now (scratch .exit)) ⌝ }
 {
     let made = shared_compile::compile_on(
         allocator,
@@ -299,6 +357,7 @@ pub extern "C" fn sfr_compile_on(
         slots,
         queries,
         equations,
+        uses,
         publics,
         scratch,
     );

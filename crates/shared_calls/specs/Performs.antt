@@ -19,8 +19,8 @@ abbrev pub sharedState : VarAllocator → (slots : List ℕ) → (owns : List Ow
 sharedState a slots owns = record { allocator = a; slots = slots; owns = owns }
 
 -- this record, and these words in its stores
-abbrev pub own : SharedRelation → (queries equations : List ℕ) → OwnState
-own m queries equations = record { relation = m; queries = queries; equations = equations }
+abbrev pub own : SharedRelation → (queries equations uses : List ℕ) → OwnState
+own m queries equations uses = record { relation = m; queries = queries; equations = equations; uses = uses }
 
 -- ---- one call
 -- the call answers x and leaves q, as the theorem's list has it
@@ -30,19 +30,19 @@ SharedPerforms = PerformsBy sharedAnswer sharedAfter
 -- a call on relation r, which has the record m and these stores, answers x and leaves the relation with another record
 -- and other stores: whatever the others have, and for a number that isn't opened too
 abbrev pub OnRelation : ℕ → Call → Answer
-    → (a : VarAllocator) (m : SharedRelation) (slots queries equations : List ℕ)
-    → (a : VarAllocator) (m : SharedRelation) (slots queries equations : List ℕ) → Type 0
-OnRelation r c x a m slots queries equations a′ m′ slots′ queries′ equations′ =
-    (owns : List OwnState) (stray : OwnState) → getD owns r stray ≡ own m queries equations
-    → SharedPerforms (sharedState a slots owns) (On r stray c) x (sharedState a′ slots′ (set owns r (own m′ queries′ equations′)))
+    → (a : VarAllocator) (m : SharedRelation) (slots queries equations uses : List ℕ)
+    → (a : VarAllocator) (m : SharedRelation) (slots queries equations uses : List ℕ) → Type 0
+OnRelation r c x a m slots queries equations uses a′ m′ slots′ queries′ equations′ uses′ =
+    (owns : List OwnState) (handed : OwnState) → getD owns r handed ≡ own m queries equations uses
+    → SharedPerforms (sharedState a slots owns) (On r handed c) x (sharedState a′ slots′ (set owns r (own m′ queries′ equations′ uses′)))
 
 -- an opening: an accepted one adds the relation
-abbrev pub Opens : (width quota : ℕ) → Opened → (a : VarAllocator) (slots slots′ : List ℕ) → Type 0
-Opens width quota x a slots slots′ =
+abbrev pub Opens : (width quota : ℕ) → Opened → (a : VarAllocator) (slots uses slots′ uses′ : List ℕ) → Type 0
+Opens width quota x a slots uses slots′ uses′ =
     (owns : List OwnState) (queries equations : List ℕ)
-    → SharedPerforms (sharedState a slots owns) (Open width quota queries equations)
+    → SharedPerforms (sharedState a slots owns) (Open width quota queries equations uses)
     (record { outcome = x .outcome; first = x .index; accepted = 0; fresh = 0 })
-    (sharedState (x .allocator) slots′ (pick (isAccepted (x .outcome)) (owns ++ (own (x .relation) queries equations ∷ [])) owns))
+    (sharedState (x .allocator) slots′ (pick (isAccepted (x .outcome)) (owns ++ (own (x .relation) queries equations uses′ ∷ [])) owns))
 
 -- ---- calls made in turn
 -- from p to q, each on what the one before it left, with what each answered
@@ -55,8 +55,8 @@ sharedCallsOf = calledIn
 
 -- the theorem speaks of them: of these calls after a first opening, what they came to, and the ledger of what they
 -- answered
-pub record SharedRun (vars : ℕ) (slots : List ℕ) (width quota : ℕ) (queries equations : List ℕ) (es : List SharedEntry) (q : SharedState) : Type 0 where
-  pub whole : SharedWhole vars slots width quota queries equations (sharedCallsOf es)
-  pub last-is : sharedLast vars slots width quota queries equations (sharedCallsOf es) ≡ q
-  pub ledger-is : sharedLedger vars slots width quota queries equations (sharedCallsOf es)
-      ≡ sharedLedgerOf (beginLedger vars slots width quota queries equations (sharedCallsOf es)) es
+pub record SharedRun (vars : ℕ) (slots : List ℕ) (width quota : ℕ) (queries equations uses : List ℕ) (es : List SharedEntry) (q : SharedState) : Type 0 where
+  pub whole : SharedWhole vars slots width quota queries equations uses (sharedCallsOf es)
+  pub last-is : sharedLast vars slots width quota queries equations uses (sharedCallsOf es) ≡ q
+  pub ledger-is : sharedLedger vars slots width quota queries equations uses (sharedCallsOf es)
+      ≡ sharedLedgerOf (beginLedger vars slots width quota queries equations uses (sharedCallsOf es)) es

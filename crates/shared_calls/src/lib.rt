@@ -1,5 +1,5 @@
 // Each opening and each call of demand 3's list for relations on one allocator, by code that runs: a thin open function
-// that hands it on to `sharing`, `shared_vars` or `shared_recording`, with what the theorem says of the call as its contract.
+// that hands it on to `sharing`, `shared_vars`, `shared_recording` or `shared_withdraw`, with what the theorem says of the call as its contract.
 //
 // For every state, what the function answers and leaves is what the list has there (`sharedAnswer` and `sharedAfter` of
 // shared_history/specs/Calls), whatever the other relations have, and whatever the relation's stores hold that the call is
@@ -10,7 +10,7 @@
 ghost use mathlib.Core.List.{List};
 ghost use Prim.Native.Nat.{ℕ};
 ghost use Rattle.allocator.specs.Slots.{pair};
-ghost use Rattle.history.specs.Calls.{Allocate, Set, SetList, Record, Mint, Equate, Tickets, ofOutcome, ofFirst, ofSet, ofSetVars, ofSetTickets};
+ghost use Rattle.history.specs.Calls.{Allocate, Set, SetList, Record, Mint, Equate, Tickets, WithdrawQuery, WithdrawEquation, ofOutcome, ofFirst, ofSet, ofSetVars, ofSetTickets};
 ghost use Rattle.shared_calls.specs.Performs.{OnRelation, Opens};
 use allocator::FieldVar;
 use baby_bear::BabyBearUnit;
@@ -24,10 +24,16 @@ use sharing::VarAllocator;
 use tickets::SetTickets;
 
 // An opening; what the list starts from is the first.
-pub fn with_allocator(allocator: VarAllocator, width: u32, quota: u32, slots: &mut [u32]) -> Opened
-    ensures { λ r. ⌜ Opens width quota r allocator (now (slots .entry)) (now (slots .exit)) ⌝ }
+pub fn with_allocator(
+    allocator: VarAllocator,
+    width: u32,
+    quota: u32,
+    slots: &mut [u32],
+    uses: &mut [u32],
+) -> Opened
+    ensures { λ r. ⌜ Opens width quota r allocator (now (slots .entry)) (now (uses .entry)) (now (slots .exit)) (now (uses .exit)) ⌝ }
 {
-    sharing::with_allocator(allocator, width, quota, slots)
+    sharing::with_allocator(allocator, width, quota, slots, uses)
 }
 
 // Allocate.
@@ -38,8 +44,8 @@ pub fn allocate_vars_on(
     slots: &mut [u32],
     n: u32,
 ) -> AllocatedOn
-    ensures { λ r. ⌜ ((queries equations : List ℕ) → OnRelation index (Allocate n) (ofFirst (r .first)) allocator rel (now (slots .entry)) queries equations
-        (r .allocator) (r .relation) (now (slots .exit)) queries equations) ⌝ }
+    ensures { λ r. ⌜ ((queries equations uses : List ℕ) → OnRelation index (Allocate n) (ofFirst (r .first)) allocator rel (now (slots .entry)) queries equations uses
+        (r .allocator) (r .relation) (now (slots .exit)) queries equations uses) ⌝ }
 {
     shared_vars::allocate_vars_on(allocator, index, rel, slots, n)
 }
@@ -53,8 +59,8 @@ pub fn set_var_on(
     var: FieldVar,
     value: BabyBearUnit,
 ) -> allocator::Set
-    ensures { λ r. ⌜ ((queries equations : List ℕ) → OnRelation index (Set (pair (var .0) (value .0))) (ofSet r) allocator rel (now (slots .entry)) queries equations
-        allocator rel (now (slots .exit)) queries equations) ⌝ }
+    ensures { λ r. ⌜ ((queries equations uses : List ℕ) → OnRelation index (Set (pair (var .0) (value .0))) (ofSet r) allocator rel (now (slots .entry)) queries equations uses
+        allocator rel (now (slots .exit)) queries equations uses) ⌝ }
 {
     shared_vars::set_var_on(allocator, index, rel, slots, var, value)
 }
@@ -68,8 +74,8 @@ pub fn set_vars_on(
     vars: &[u32],
     values: &[u32],
 ) -> SetVars
-    ensures { λ r. ⌜ ((queries equations : List ℕ) → OnRelation index (SetList (now (vars .entry)) (now (values .entry))) (ofSetVars r) allocator rel (now (slots .entry)) queries equations
-        allocator rel (now (slots .exit)) queries equations) ⌝ }
+    ensures { λ r. ⌜ ((queries equations uses : List ℕ) → OnRelation index (SetList (now (vars .entry)) (now (values .entry))) (ofSetVars r) allocator rel (now (slots .entry)) queries equations uses
+        allocator rel (now (slots .exit)) queries equations uses) ⌝ }
 {
     shared_vars::set_vars_on(allocator, index, rel, slots, vars, values)
 }
@@ -82,8 +88,8 @@ pub fn set_tickets_on(
     slots: &mut [u32],
     text: &[u8],
 ) -> SetTickets
-    ensures { λ r. ⌜ ((queries equations : List ℕ) → OnRelation index (Tickets (now (text .entry))) (ofSetTickets r) allocator rel (now (slots .entry)) queries equations
-        allocator rel (now (slots .exit)) queries equations) ⌝ }
+    ensures { λ r. ⌜ ((queries equations uses : List ℕ) → OnRelation index (Tickets (now (text .entry))) (ofSetTickets r) allocator rel (now (slots .entry)) queries equations uses
+        allocator rel (now (slots .exit)) queries equations uses) ⌝ }
 {
     shared_vars::set_tickets_on(allocator, index, rel, slots, text)
 }
@@ -93,14 +99,17 @@ pub fn add_permutation_on(
     allocator: VarAllocator,
     index: u32,
     rel: SharedRelation,
+    slots: &[u32],
     queries: &mut [u32],
+    uses: &mut [u32],
     input: &[u32],
     output: &[u32],
 ) -> RecordedOn
-    ensures { λ r. ⌜ ((slots equations : List ℕ) → OnRelation index (Record (now (input .entry)) (now (output .entry))) (ofOutcome (r .outcome)) allocator rel slots (now (queries .entry)) equations
-        allocator (r .relation) slots (now (queries .exit)) equations) ⌝ }
+    ensures { λ r. ⌜ ((equations : List ℕ) → OnRelation index (Record (now (input .entry)) (now (output .entry))) (ofOutcome (r .outcome))
+        allocator rel (now (slots .entry)) (now (queries .entry)) equations (now (uses .entry))
+        allocator (r .relation) (now (slots .entry)) (now (queries .exit)) equations (now (uses .exit))) ⌝ }
 {
-    shared_recording::add_permutation_on(allocator, index, rel, queries, input, output)
+    shared_recording::add_permutation_on(allocator, index, rel, slots, queries, uses, input, output)
 }
 
 // Mint.
@@ -110,12 +119,46 @@ pub fn allocate_permutation_on(
     rel: SharedRelation,
     slots: &mut [u32],
     queries: &mut [u32],
+    uses: &mut [u32],
     input: &[u32],
 ) -> AllocatedOn
-    ensures { λ r. ⌜ ((equations : List ℕ) → OnRelation index (Mint (now (input .entry))) (ofFirst (r .first)) allocator rel (now (slots .entry)) (now (queries .entry)) equations
-        (r .allocator) (r .relation) (now (slots .exit)) (now (queries .exit)) equations) ⌝ }
+    ensures { λ r. ⌜ ((equations : List ℕ) → OnRelation index (Mint (now (input .entry))) (ofFirst (r .first))
+        allocator rel (now (slots .entry)) (now (queries .entry)) equations (now (uses .entry))
+        (r .allocator) (r .relation) (now (slots .exit)) (now (queries .exit)) equations (now (uses .exit))) ⌝ }
 {
-    shared_recording::allocate_permutation_on(allocator, index, rel, slots, queries, input)
+    shared_recording::allocate_permutation_on(allocator, index, rel, slots, queries, uses, input)
+}
+
+// A query withdrawn.
+pub fn withdraw_query_on(
+    allocator: VarAllocator,
+    index: u32,
+    rel: SharedRelation,
+    slots: &[u32],
+    queries: &mut [u32],
+    uses: &mut [u32],
+    i: u32,
+) -> RecordedOn
+    ensures { λ r. ⌜ ((equations : List ℕ) → OnRelation index (WithdrawQuery i) (ofOutcome (r .outcome))
+        allocator rel (now (slots .entry)) (now (queries .entry)) equations (now (uses .entry))
+        allocator (r .relation) (now (slots .entry)) (now (queries .exit)) equations (now (uses .exit))) ⌝ }
+{
+    shared_withdraw::withdraw_query_on(allocator, index, rel, slots, queries, uses, i)
+}
+
+// An equation withdrawn.
+pub fn withdraw_equation_on(
+    allocator: VarAllocator,
+    index: u32,
+    rel: SharedRelation,
+    equations: &mut [u32],
+    i: u32,
+) -> RecordedOn
+    ensures { λ r. ⌜ ((slots queries uses : List ℕ) → OnRelation index (WithdrawEquation i) (ofOutcome (r .outcome))
+        allocator rel slots queries (now (equations .entry)) uses
+        allocator (r .relation) slots queries (now (equations .exit)) uses) ⌝ }
+{
+    shared_withdraw::withdraw_equation_on(allocator, index, rel, equations, i)
 }
 
 // Equation.
@@ -127,8 +170,9 @@ pub fn add_equation_on(
     terms: &[Weighted],
     image: BabyBearUnit,
 ) -> RecordedOn
-    ensures { λ r. ⌜ ((slots queries : List ℕ) → OnRelation index (Equate (now (terms .entry)) (image .0)) (ofOutcome (r .outcome)) allocator rel slots queries (now (equations .entry))
-        allocator (r .relation) slots queries (now (equations .exit))) ⌝ }
+    ensures { λ r. ⌜ ((slots queries uses : List ℕ) → OnRelation index (Equate (now (terms .entry)) (image .0)) (ofOutcome (r .outcome))
+        allocator rel slots queries (now (equations .entry)) uses
+        allocator (r .relation) slots queries (now (equations .exit)) uses) ⌝ }
 {
     shared_recording::add_equation_on(allocator, index, rel, equations, terms, image)
 }

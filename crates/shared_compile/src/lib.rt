@@ -1,7 +1,7 @@
 // The gate of relation `index` of an allocator (document 02's R-2).
 //
 // It puts 1, 2 and 42, and then is the gate of a relation alone that has the shared wire count for its own: it judges on
-// everybody's sets and on the relation's own queries and equations. It answers on every input.
+// everybody's sets and on the relation's own queries, equations and use counts. It answers on every input.
 
 ghost use mathlib.Core.Path.{_≡_};
 ghost use lib.ListN.{length};
@@ -22,11 +22,12 @@ fn compile_on_no(
     slots: &[u32],
     queries: &[u32],
     equations: &[u32],
+    uses: &[u32],
     publics: usize,
     scratch: usize,
 ) -> u32
     ensures { λ r. ⌜ r ≡ compileOnNo (shares allocator index rel)
-        (gateLent (onAllocator allocator rel) (now (label .entry)) (now (slots .entry)) (now (queries .entry)) (now (equations .entry)) publics scratch) ⌝ }
+        (gateLent (onAllocator allocator rel) (now (label .entry)) (now (slots .entry)) (now (queries .entry)) (now (equations .entry)) (now (uses .entry)) publics scratch) ⌝ }
 {
     let width = rel.width;
     let held = sharing::on_allocator(allocator, rel);
@@ -41,6 +42,7 @@ fn compile_on_no(
         publics,
         scratch,
     );
+    let no = limits::asked_store(no, uses.len());
     sharing::asked_opened(no, allocator, index)
 }
 
@@ -54,12 +56,13 @@ pub fn compile_on(
     slots: &[u32],
     queries: &[u32],
     equations: &[u32],
+    uses: &[u32],
     publics: &mut [u32],
     scratch: &mut [u32],
 ) -> Compiled
     ensures { λ r. ⌜ CompilesOn asIs (shares allocator index rel)
         (gateLent (onAllocator allocator rel) (now (label .entry)) (now (slots .entry)) (now (queries .entry)) (now (equations .entry))
-        (length (now (publics .entry))) (length (now (scratch .entry)))) r (now (publics .exit)) (now (scratch .exit)) ⌝ }
+        (now (uses .entry)) (length (now (publics .entry))) (length (now (scratch .entry)))) r (now (publics .exit)) (now (scratch .exit)) ⌝ }
 {
     let no = compile_on_no(
         allocator,
@@ -69,6 +72,7 @@ pub fn compile_on(
         slots,
         queries,
         equations,
+        uses,
         publics.len(),
         scratch.len(),
     );
@@ -83,6 +87,7 @@ pub fn compile_on(
         slots,
         queries,
         equations,
+        uses,
         publics,
         scratch,
     )

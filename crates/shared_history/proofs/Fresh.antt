@@ -32,34 +32,34 @@ use Rattle.shared_history.specs.Demand.{SharedTold, AllSharedTold}
 use Rattle.shared_history.proofs.Fronts.{front-opened}
 
 -- a call that ledger and lengths let through is of a relation that is opened
-left-opened : (lengths : Lengths) (l : SharedLedger) (r : ℕ) (stray : OwnState) (c : Call) → sharedLeft lengths l (On r stray c) ≡ 0
+left-opened : (lengths : Lengths) (l : SharedLedger) (r : ℕ) (handed : OwnState) (c : Call) → sharedLeft lengths l (On r handed c) ≡ 0
     → ltb r (length (l .owns)) ≡ true
 unfolding sharedLeft
-left-opened lengths l r stray c = go (ltb r (length (l .owns))) refl
+left-opened lengths l r handed c = go (ltb r (length (l .owns))) refl
   where
     go : (b : Bool) → ltb r (length (l .owns)) ≡ b
         → pick b
         (leftWith (quotaAsks (ownLedgerAt l r .quota) (ownLedgerAt l r .obtained)) (ownLedgerAt l r .width) lengths (judgedOn l (ownLedgerAt l r)) c)
-        (firstNo (frontAsks (shares (allocatorBy l) r (stray .relation)) (onAllocator (allocatorBy l) (stray .relation)) lengths c))
+        (firstNo (frontAsks (shares (allocatorBy l) r (handed .relation)) (onAllocator (allocatorBy l) (handed .relation)) lengths c))
         ≡ 0
         → b ≡ true
     go true e z = refl
-    go false e z = sym e ∙ lt-ltb r (length (l .owns)) (front-opened (allocatorBy l) r (stray .relation) _ lengths c z)
+    go false e z = sym e ∙ lt-ltb r (length (l .owns)) (front-opened (allocatorBy l) r (handed .relation) _ lengths c z)
 
 -- what the first is where the test passes
 passed : (b : Bool) (k j : ℕ) → b ≡ true → pick b k j ≡ 0 → k ≡ 0
 passed true k j e z = z
 passed false k j e z = cc
 
-pub shared-unnamed : (p : SharedState) (l : SharedLedger) (r : ℕ) (stray : OwnState) (q : Pair)
-    → SharedTold p l (On r stray (Set q)) → Accepted (sharedAnswer p (On r stray (Set q)) .outcome)
-    → (sharedAnswer p (On r stray (Set q)) .fresh ≡ 1) ↔ (has (pairVars (l .sets)) (q .var) ≡ false)
+pub shared-unnamed : (p : SharedState) (l : SharedLedger) (r : ℕ) (handed : OwnState) (q : Pair)
+    → SharedTold p l (On r handed (Set q)) → Accepted (sharedAnswer p (On r handed (Set q)) .outcome)
+    → (sharedAnswer p (On r handed (Set q)) .fresh ≡ 1) ↔ (has (pairVars (l .sets)) (q .var) ≡ false)
 unfolding sharedLeft sharedSetBy leftWith setBy
-shared-unnamed p l r stray q t a =
+shared-unnamed p l r handed q t a =
     let n = l .count in
     let sets = l .sets in
     let z = accepted-no _ (sym (t .answers .by-ledger) ∙ a) in
-    let yes = left-opened (lengthsFor p (On r stray (Set q))) l r stray (Set q) z in
+    let yes = left-opened (lengthsFor p (On r handed (Set q))) l r handed (Set q) z in
     one-unnamed n sets q (passed (ltb r (length (l .owns))) (pairLeft n sets q) _ yes z) _
     (t .fresh ∙ ap (λ (b : Bool). freshCount n sets (pick b (pairsSet n sets (q ∷ [])) [])) yes)
 
@@ -81,26 +81,26 @@ refused-is o (suc k) e h = ap isAccepted e
 pub shared-joined : (p : SharedState) (l : SharedLedger) (c : SharedCall) → SharedTold p l c
     → sharedNoted l c (sharedAnswer p c) .sets ≡ joins (l .sets) (sharedSetBy l c)
 unfolding sharedNoted sharedSetBy sharedLeft
-shared-joined p l (Open width quota queries equations) t = refl
-shared-joined p l (On r stray c) t = go (ltb r (length (l .owns))) refl (t .answers .by-ledger) (t .accepted)
+shared-joined p l (Open width quota queries equations uses) t = refl
+shared-joined p l (On r handed c) t = go (ltb r (length (l .owns))) refl (t .answers .by-ledger) (t .accepted)
   where
     e : OwnLedger
     e = ownLedgerAt l r
 
     a : Answer
-    a = sharedAnswer p (On r stray c)
+    a = sharedAnswer p (On r handed c)
 
     front : ℕ
-    front = firstNo (frontAsks (shares (allocatorBy l) r (stray .relation)) (onAllocator (allocatorBy l) (stray .relation)) (lengthsFor p (On r stray c)) c)
+    front = firstNo (frontAsks (shares (allocatorBy l) r (handed .relation)) (onAllocator (allocatorBy l) (handed .relation)) (lengthsFor p (On r handed c)) c)
 
     go : (b : Bool) → ltb r (length (l .owns)) ≡ b
         → a .outcome
-        ≡ outcomeOf (pick b (leftWith (quotaAsks (e .quota) (e .obtained)) (e .width) (lengthsFor p (On r stray c)) (judgedOn l e) c) front)
+        ≡ outcomeOf (pick b (leftWith (quotaAsks (e .quota) (e .obtained)) (e .width) (lengthsFor p (On r handed c)) (judgedOn l e) c) front)
         → a .accepted ≡ length (pick b (setBy (judgedOn l e) c) [])
         → noted (e .width) (judgedOn l e) c a .sets ≡ joins (l .sets) (pick b (setBy (judgedOn l e) c) [])
     go true y o n = joined-by (e .width) (judgedOn l e) _ _ c a o n
     go false y o n =
         none-joined (e .width) (judgedOn l e) c a
         (refused-is (a .outcome) front o
-        (λ z. absurd (omega (arith, ltb-false r (length (l .owns)) y, front-opened (allocatorBy l) r (stray .relation) _ (lengthsFor p (On r stray c)) c z))))
+        (λ z. absurd (omega (arith, ltb-false r (length (l .owns)) y, front-opened (allocatorBy l) r (handed .relation) _ (lengthsFor p (On r handed c)) c z))))
         n

@@ -6,10 +6,11 @@ use mathlib.Core.Bool.{Bool, true}
 use mathlib.Core.List.{List, [], _∷_, _++_}
 use native.Mathlib.Omega.{arith}
 use lib.Dec.{eqb, ltb}
-use lib.ListN.{length}
+use lib.ListN.{length, take}
 use Rattle.limits.specs.Questions.{_▸_, Question, question, firstNo, onYes}
 use Rattle.limits.specs.Outcome.{outcomeOf}
 use Rattle.limits.specs.Asks.{widthAsks, storeAsks, countAsks}
+use Rattle.uses.specs.Uses.{usesAsks}
 use Rattle.limits.proofs.Questions.{both, ▸-zero, goes-on, stays, firstNo-append, Puts}
 use Rattle.allocator.specs.Slots.{pairs, isFresh, mostAsks, roomAsks, pairAsks, itemsAsks, SetRun, runAfter}
 use Rattle.allocator.specs.Assign.{setOf}
@@ -19,7 +20,9 @@ use Rattle.permutation.specs.Relation.{queriesAsks, equationsAsks, relationAsks
 use Rattle.permutation.specs.Numbers.{setVarNo, setVarsNo}
 use Rattle.permutation.specs.Answers.{setVarsRun}
 use Rattle.permutation.specs.declared.PermutationRelation.{PermutationRelation}
-use Rattle.recording.specs.Relation.{addPermutationRest, mintSizes, mintAsks, allocatePermutationRest, addEquationRest}
+use Rattle.recording.specs.Relation.{queryFront, recordAsks, joinAsks, mintSizes, mintAsks, mintCells, addEquationRest}
+use Rattle.strike.specs.Strike.{endsRight}
+use Rattle.withdraw.specs.Relation.{cellsAt}
 use Rattle.tickets.specs.Lines.{linesAsks}
 use Rattle.tickets.specs.Tickets.{setTicketsRun}
 use Rattle.compile.specs.Gate.{GateLent, lentStoresAsks, lentSoundAsks, madeAsks, compileFront, compileAsksWith}
@@ -27,7 +30,7 @@ use Rattle.sharing.specs.Shares.{shares}
 use Rattle.sharing.specs.declared.VarAllocator.{VarAllocator}
 use Rattle.sharing.specs.declared.SharedRelation.{SharedRelation}
 use Rattle.sharing.proofs.Numbers.{puts-in, Subsequence, subsequence, counting, is-opened, shown-on}
-use Rattle.history.specs.Calls.{Call, Allocate, Set, SetList, Record, Mint, Equate, Tickets, State, Lengths, lengthsOf, Answer, ofSet, answer, asksWith, frontAsks}
+use Rattle.history.specs.Calls.{Call, Allocate, Set, SetList, Record, Mint, Equate, Tickets, WithdrawQuery, WithdrawEquation, State, Lengths, lengthsOf, Answer, ofSet, answer, asksWith, frontAsks}
 
 -- ---- lists of questions
 -- accepted: both parts are
@@ -54,7 +57,14 @@ abbrev pub sharedWith : List Question → (ℕ → List Question) → Sharing
 sharedWith o w = record { counted = true; opened = o; within = w }
 
 module _ (o : List Question) (w : ℕ → List Question) (z : firstNo o ≡ 0) where
-  -- it is taken out of each call's front
+  -- it is taken out of the front of a call that changes the use counts ..
+  query-settled : (rel : PermutationRelation) (n : Lengths) (lists : List Question)
+      → firstNo (queryFront (sharedWith o w) rel (n .slots) (n .queries) (n .uses) lists)
+      ≡ firstNo (queryFront (afterFive w) rel (n .slots) (n .queries) (n .uses) lists)
+  query-settled rel n lists =
+      drop-mid (relationAsks rel (n .slots) ++ (queriesAsks rel (n .queries) ++ (storeAsks (n .uses) ++ lists))) o [] z
+
+  -- .. and of each call's front
   pub settled : (rel : PermutationRelation) (n : Lengths) (c : Call)
       → firstNo (frontAsks (sharedWith o w) rel n c) ≡ firstNo (frontAsks (afterFive w) rel n c)
   unfolding frontAsks
@@ -62,14 +72,16 @@ module _ (o : List Question) (w : ℕ → List Question) (z : firstNo o ≡ 0) w
   settled rel n (Set p) = drop-end (relationAsks rel (n .slots)) o z
   settled rel n (SetList vars values) =
       drop-mid (relationAsks rel (n .slots) ++ (storeAsks (length vars) ++ storeAsks (length values))) o [] z
-  settled rel n (Record input output) =
-      drop-mid
-      (widthAsks (rel .width) ++ (queriesAsks rel (n .queries) ++ (countAsks (rel .vars) ++ (storeAsks (length input) ++ storeAsks (length output))))) o [] z
+  settled rel n (Record input output) = query-settled rel n (storeAsks (length input) ++ storeAsks (length output))
   settled rel n (Mint input) =
-      drop-mid (relationAsks rel (n .slots) ++ (queriesAsks rel (n .queries) ++ storeAsks (length input))) (o ++ []) (mintAsks rel input ++ w (rel .width))
-      (drop-end o [] refl ∙ z)
+      let more = mintAsks rel input ++ w (rel .width) in
+      firstNo-append (mintSizes (sharedWith o w) rel (n .slots) (n .queries) (n .uses) input) more
+      ∙ ap (λ (k : ℕ). k ▸ firstNo more) (query-settled rel n (storeAsks (length input)))
+      ∙ sym (firstNo-append (mintSizes (afterFive w) rel (n .slots) (n .queries) (n .uses) input) more)
   settled rel n (Equate terms image) = drop-mid (widthAsks (rel .width) ++ (equationsAsks rel (n .equations) ++ countAsks (rel .vars))) o [] z
   settled rel n (Tickets text) = drop-end (relationAsks rel (n .slots)) o z
+  settled rel n (WithdrawQuery i) = query-settled rel n []
+  settled rel n (WithdrawEquation i) = drop-mid (widthAsks (rel .width) ++ (equationsAsks rel (n .equations) ++ countAsks (rel .vars))) o [] z
 
 -- ---- the front that a call of relation r puts
 module _ (a : VarAllocator) (r : ℕ) (m : SharedRelation) (rel : PermutationRelation) (n : Lengths) where
@@ -83,6 +95,8 @@ module _ (a : VarAllocator) (r : ℕ) (m : SharedRelation) (rel : PermutationRel
   asked (Mint input) = search puts-in depth 20
   asked (Equate terms image) = search puts-in depth 20
   asked (Tickets text) = search puts-in depth 20
+  asked (WithdrawQuery i) = search puts-in depth 20
+  asked (WithdrawEquation i) = search puts-in depth 20
 
   -- and sharing only puts questions in
   inserted : (c : Call) → Subsequence (frontAsks alone rel n c) (frontAsks (counting a r m true) rel n c)
@@ -94,6 +108,8 @@ module _ (a : VarAllocator) (r : ℕ) (m : SharedRelation) (rel : PermutationRel
   inserted (Mint input) = search subsequence depth 40
   inserted (Equate terms image) = search subsequence depth 40
   inserted (Tickets text) = search subsequence depth 40
+  inserted (WithdrawQuery i) = search subsequence depth 40
+  inserted (WithdrawEquation i) = search subsequence depth 40
 
   -- let through: the relation is opened
   pub front-opened : (c : Call) → firstNo (frontAsks (shares a r m) rel n c) ≡ 0 → r < a .opened
@@ -110,7 +126,7 @@ pub mint-within : (h : Sharing) (rel : PermutationRelation) (n : Lengths) (input
 unfolding frontAsks
 mint-within h rel n input z =
     parts-yes (mintAsks rel input) (h .within (rel .width))
-    (parts-yes (mintSizes h rel (n .slots) (n .queries) input) (mintAsks rel input ++ h .within (rel .width)) z .1) .1
+    (parts-yes (mintSizes h rel (n .slots) (n .queries) (n .uses) input) (mintAsks rel input ++ h .within (rel .width)) z .1) .1
 
 -- a sharing that asks for the count
 pub counted-is : (h : Sharing) → h .counted ≡ true → h ≡ sharedWith (h .opened) (h .within)
@@ -123,10 +139,20 @@ rest s (Allocate n) = roomAsks (s .relation .vars) (length (s .slots)) n
 rest s (Set p) = pairAsks (s .relation .vars) (s .slots) p
 rest s (SetList vars values) =
     itemsAsks (pairAsks (s .relation .vars)) (λ p. p) (s .slots) (pairs vars values) ++ (question 9 (eqb (length vars) (length values)) ∷ [])
-rest s (Record input output) = addPermutationRest (s .relation) (length (s .queries)) input output
-rest s (Mint input) = allocatePermutationRest (s .relation) (length (s .slots)) (length (s .queries))
+rest s (Record input output) =
+    recordAsks (s .relation) input output ++ joinAsks (s .relation) (length (s .slots)) (length (s .queries)) (s .uses) (input ++ output)
+rest s (Mint input) =
+    roomAsks (s .relation .vars) (length (s .slots)) (s .relation .width)
+    ++ joinAsks (s .relation) (length (s .slots)) (length (s .queries)) (s .uses) (mintCells (s .relation) input)
 rest s (Equate terms image) = addEquationRest (s .relation) (length (s .equations)) (termsOf terms) image
 rest s (Tickets text) = linesAsks (s .relation .vars) (s .slots) text
+rest s (WithdrawQuery i) =
+    question 45 (ltb i (s .relation .queries))
+    ∷ usesAsks true (length (s .slots)) (s .uses) (s .relation .stray) (cellsAt (s .relation) (s .queries) i)
+rest s (WithdrawEquation i) =
+    question 45 (ltb i (s .relation .equations))
+    ∷ question 11 (endsRight (s .relation .equations) (take (s .relation .words) (s .equations)))
+    ∷ []
 
 front-rest : (h : Sharing) (s : State) (c : Call) → asksWith h s c ≡ frontAsks h (s .relation) (lengthsOf s) c ++ rest s c
 unfolding asksWith frontAsks
@@ -137,6 +163,8 @@ front-rest h s (Record input output) = refl
 front-rest h s (Mint input) = refl
 front-rest h s (Equate terms image) = refl
 front-rest h s (Tickets text) = refl
+front-rest h s (WithdrawQuery i) = refl
+front-rest h s (WithdrawEquation i) = refl
 
 -- the outcome by the front: of an answer on a relation alone, or of the refusal
 pub outcome-on : (a : VarAllocator) (r : ℕ) (m : SharedRelation) (s : State) (c : Call) (new old : Answer)
@@ -188,6 +216,8 @@ none-set within s (SetList vars values) j e = run-none (setVarsNo (s .relation) 
 none-set within s (Record input output) j e = (refl, refl)
 none-set within s (Mint input) j e = (refl, refl)
 none-set within s (Equate terms image) j e = (refl, refl)
+none-set within s (WithdrawQuery i) j e = (refl, refl)
+none-set within s (WithdrawEquation i) j e = (refl, refl)
 none-set within s (Tickets text) j e = run-none (firstNo (relationAsks (s .relation) (length (s .slots)))) _ (s .slots) j e
 
 -- ---- the gate's
@@ -197,7 +227,7 @@ gate-front h l = firstNo-append (compileFront h l) (lentSoundAsks l ++ madeAsks 
 -- where the count is asked, the front is that of a relation alone, and then what follows 2
 pub gate-opened : (h : Sharing) → h .counted ≡ true → (l : GateLent) → firstNo (compileFront h l) ≡ firstNo (compileFront alone l) ▸ firstNo (h .opened)
 gate-opened h e l =
-    let front = relationAsks (l .relation) (length (l .slots)) ++ lentStoresAsks l in
+    let front = relationAsks (l .relation) (length (l .slots)) ++ (lentStoresAsks l ++ storeAsks (length (l .uses))) in
     ap (λ (x : Sharing). firstNo (compileFront x l)) (counted-is h e)
     ∙ firstNo-append front (h .opened ++ [])
     ∙ ap (λ (k : ℕ). firstNo front ▸ k) (drop-end (h .opened) [] refl)

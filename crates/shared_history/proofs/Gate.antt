@@ -47,24 +47,24 @@ module _ (h : Sharing) (l : GateLent) where
         (λ (j : ℕ). replicate (l .publics) 0) (compileOnNo h l) (compileNo l) _ number-is (λ j. refl)
 
 -- ---- the others go on
-kept : (r : ℕ) (stray : OwnState) (p : SharedState) → r < length (p .owns) → (d : SharedCall) → Other r d
-    → (r < length (sharedAfter p d .owns)) × (ownAt (sharedAfter p d) r stray ≡ ownAt p r stray)
+kept : (r : ℕ) (handed : OwnState) (p : SharedState) → r < length (p .owns) → (d : SharedCall) → Other r d
+    → (r < length (sharedAfter p d .owns)) × (ownAt (sharedAfter p d) r handed ≡ ownAt p r handed)
 unfolding sharedAfter
-kept r stray p h (Open width quota queries equations) t = go (withAllocatorNo (p .allocator) width (length (p .slots))) _
+kept r handed p h (Open width quota queries equations uses) t = go (withAllocatorNo (p .allocator) width (length (p .slots)) (length uses)) _
   where
-    go : (k : ℕ) (m : OwnState) → (r < length (onYes k (p .owns ++ (m ∷ [])) (p .owns))) × (getD (onYes k (p .owns ++ (m ∷ [])) (p .owns)) r stray ≡ ownAt p r stray)
-    go zero m = (omega (arith, length-append (p .owns) (m ∷ [])), List·getD-append (p .owns) (m ∷ []) stray r h)
+    go : (k : ℕ) (m : OwnState) → (r < length (onYes k (p .owns ++ (m ∷ [])) (p .owns))) × (getD (onYes k (p .owns ++ (m ∷ [])) (p .owns)) r handed ≡ ownAt p r handed)
+    go zero m = (omega (arith, length-append (p .owns) (m ∷ [])), List·getD-append (p .owns) (m ∷ []) handed r h)
     go (suc k) m = (h, refl)
-kept r stray p h (On q any c) t = go (frontNo p q (ownAt p q any) c)
+kept r handed p h (On q any c) t = go (frontNo p q (ownAt p q any) c)
   where
     go : (k : ℕ) → (r < length (onYes k (actedOn p q (ownAt p q any) c) p .owns))
-        × (ownAt (onYes k (actedOn p q (ownAt p q any) c) p) r stray ≡ ownAt p r stray)
-    go zero = (subst (λ (n : ℕ). r < n) (sym (length-set (p .owns) q _)) h, getD-set-other (p .owns) q r _ stray t)
+        × (ownAt (onYes k (actedOn p q (ownAt p q any) c) p) r handed ≡ ownAt p r handed)
+    go zero = (subst (λ (n : ℕ). r < n) (sym (length-set (p .owns) q _)) h, getD-set-other (p .owns) q r _ handed t)
     go (suc k) = (h, refl)
 
-pub kept-all : (r : ℕ) (stray : OwnState) (ds : List SharedCall) (p : SharedState) → r < length (p .owns) → All (Other r) ds
-    → ownAt (sharedFinal p ds) r stray ≡ ownAt p r stray
-kept-all r stray [] p h t = refl
-kept-all r stray (d ∷ ds) p h t =
-    let k = kept r stray p h d (t .0) in
-    kept-all r stray ds (sharedAfter p d) (k .0) (t .1) ∙ k .1
+pub kept-all : (r : ℕ) (handed : OwnState) (ds : List SharedCall) (p : SharedState) → r < length (p .owns) → All (Other r) ds
+    → ownAt (sharedFinal p ds) r handed ≡ ownAt p r handed
+kept-all r handed [] p h t = refl
+kept-all r handed (d ∷ ds) p h t =
+    let k = kept r handed p h d (t .0) in
+    kept-all r handed ds (sharedAfter p d) (k .0) (t .1) ∙ k .1

@@ -8,3 +8,4 @@ pub mod Gate
 pub mod Theorem
 pub mod Looks
 pub mod Examples
+pub mod Struck

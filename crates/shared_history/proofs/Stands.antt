@@ -10,6 +10,8 @@ use native.Mathlib.Omega.{arith}
 use lib.ListN.{length, getD, set}
 use Rattle.limits.specs.Numbers.{maxWidth}
 use Rattle.words.specs.Store.{All}
+use Rattle.words.specs.Pieces.{flat}
+use Rattle.uses.specs.Uses.{Counted as Right}
 use Rattle.permutation.specs.State.{HoldsSlots}
 use Rattle.recording.specs.State.{HoldsQueries, HoldsEquations}
 use Rattle.sharing.specs.Shares.{maxRelations}
@@ -18,13 +20,14 @@ use Rattle.shared_history.specs.Calls.{OwnState, SharedState, ownAt, see
 use Rattle.shared_history.specs.Demand.{obtainedBy, obtainedIn, Counted}
 use Rattle.shared_history.proofs.Lists.{Both, both-at, both-length}
 
--- a relation's own record and stores
-pub record Own (m : OwnState) (e : OwnLedger) : Type 0 where
+-- a relation's own record and stores, beside a slot store of that length
+pub record Own (slots : ℕ) (m : OwnState) (e : OwnLedger) : Type 0 where
   pub least : 1 ≤ e .width
   pub most : e .width ≤ maxWidth
   pub widthIs : m .relation .width ≡ e .width
   pub inQueries : HoldsQueries (e .width) (m .relation .queries) (m .queries) (e .queries)
   pub inEquations : HoldsEquations (m .relation .equations) (m .relation .words) (m .equations) (e .equations)
+  pub usesAre : Right slots (flat (e .queries)) (m .uses) (m .relation .stray)
   pub quotaIs : m .relation .quota ≡ e .quota
   pub obtainedIs : m .relation .obtained ≡ e .obtained
   pub within : m .relation .obtained ≤ m .relation .quota
@@ -33,7 +36,7 @@ pub record Own (m : OwnState) (e : OwnLedger) : Type 0 where
 pub record Stands (p : SharedState) (l : SharedLedger) : Type 0 where
   pub count : p .allocator .vars ≡ l .count
   pub inSlots : HoldsSlots (p .allocator .vars) (p .slots) (l .sets)
-  pub each : Both Own (p .owns) (l .owns)
+  pub each : Both (Own (length (p .slots))) (p .owns) (l .owns)
   pub openedIs : p .allocator .opened ≡ length (p .owns)
   pub least : 1 ≤ p .allocator .opened
   pub few : p .allocator .opened ≤ maxRelations
@@ -42,14 +45,14 @@ pub record Stands (p : SharedState) (l : SharedLedger) : Type 0 where
 module _ (p : SharedState) (l : SharedLedger) (st : Stands p l) where
   -- as many are opened as the ledger has
   pub opened-in : p .allocator .opened ≡ length (l .owns)
-  opened-in = st .openedIs ∙ both-length Own (p .owns) (l .owns) (st .each)
+  opened-in = st .openedIs ∙ both-length (Own (length (p .slots))) (p .owns) (l .owns) (st .each)
 
   -- a relation that is opened
-  pub own-at : (r : ℕ) → r < p .allocator .opened → (stray : OwnState) → Own (ownAt p r stray) (ownLedgerAt l r)
-  own-at r h stray = both-at Own (p .owns) (l .owns) (st .each) r (omega (arith, st .openedIs)) stray (newOwnLedger 0 0)
+  pub own-at : (r : ℕ) → r < p .allocator .opened → (handed : OwnState) → Own (length (p .slots)) (ownAt p r handed) (ownLedgerAt l r)
+  own-at r h handed = both-at (Own (length (p .slots))) (p .owns) (l .owns) (st .each) r (omega (arith, st .openedIs)) handed (newOwnLedger 0 0)
 
   -- is in step with its part of the ledger
-  pub agrees : (m : OwnState) (e : OwnLedger) → Own m e → Agrees (e .width) (seen p m) (judgedOn l e)
+  pub agrees : (m : OwnState) (e : OwnLedger) → Own (length (p .slots)) m e → Agrees (e .width) (seen p m) (judgedOn l e)
   agrees m e o =
       record {
         least = o .least;
@@ -59,6 +62,7 @@ module _ (p : SharedState) (l : SharedLedger) (st : Stands p l) where
         inSlots = st .inSlots;
         inQueries = o .inQueries;
         inEquations = o .inEquations;
+        counts = o .usesAre;
       }
 
 -- ---- wires
@@ -75,32 +79,32 @@ obtained-new [] m e = omega arith
 obtained-new (x ∷ ms) m e = omega (arith, obtained-new ms m e)
 
 -- by the records and by the ledger
-both-obtained : (ms : List OwnState) (es : List OwnLedger) → Both Own ms es → obtainedBy ms ≡ obtainedIn es
-both-obtained [] [] t = refl
-both-obtained [] (e ∷ es) t = absurd t
-both-obtained (m ∷ ms) [] t = absurd t
-both-obtained (m ∷ ms) (e ∷ es) t = ap₂ (λ (a b : ℕ). a + b) (t .0 .obtainedIs) (both-obtained ms es (t .1))
+both-obtained : (n : ℕ) (ms : List OwnState) (es : List OwnLedger) → Both (Own n) ms es → obtainedBy ms ≡ obtainedIn es
+both-obtained n [] [] t = refl
+both-obtained n [] (e ∷ es) t = absurd t
+both-obtained n (m ∷ ms) [] t = absurd t
+both-obtained n (m ∷ ms) (e ∷ es) t = ap₂ (λ (a b : ℕ). a + b) (t .0 .obtainedIs) (both-obtained n ms es (t .1))
 
-all-within : (ms : List OwnState) (es : List OwnLedger) → Both Own ms es → All (λ m. m .relation .obtained ≤ m .relation .quota) ms
-all-within [] es t = tt
-all-within (m ∷ ms) [] t = absurd t
-all-within (m ∷ ms) (e ∷ es) t = (t .0 .within, all-within ms es (t .1))
+all-within : (n : ℕ) (ms : List OwnState) (es : List OwnLedger) → Both (Own n) ms es → All (λ m. m .relation .obtained ≤ m .relation .quota) ms
+all-within n [] es t = tt
+all-within n (m ∷ ms) [] t = absurd t
+all-within n (m ∷ ms) (e ∷ es) t = (t .0 .within, all-within n ms es (t .1))
 
-all-within-in : (ms : List OwnState) (es : List OwnLedger) → Both Own ms es → All (λ e. e .obtained ≤ e .quota) es
-all-within-in [] [] t = tt
-all-within-in [] (e ∷ es) t = absurd t
-all-within-in (m ∷ ms) [] t = absurd t
-all-within-in (m ∷ ms) (e ∷ es) t = (omega (arith, t .0 .within, t .0 .quotaIs, t .0 .obtainedIs), all-within-in ms es (t .1))
+all-within-in : (n : ℕ) (ms : List OwnState) (es : List OwnLedger) → Both (Own n) ms es → All (λ e. e .obtained ≤ e .quota) es
+all-within-in n [] [] t = tt
+all-within-in n [] (e ∷ es) t = absurd t
+all-within-in n (m ∷ ms) [] t = absurd t
+all-within-in n (m ∷ ms) (e ∷ es) t = (omega (arith, t .0 .within, t .0 .quotaIs, t .0 .obtainedIs), all-within-in n ms es (t .1))
 
 pub counted : (p : SharedState) (l : SharedLedger) → Stands p l → Counted p l
 counted p l st =
     record {
       vars = st .sum;
-      count = omega (arith, st .count, st .sum, both-obtained (p .owns) (l .owns) (st .each));
+      count = omega (arith, st .count, st .sum, both-obtained (length (p .slots)) (p .owns) (l .owns) (st .each));
       same = st .count;
       stored = st .inSlots .room;
-      quotas = all-within (p .owns) (l .owns) (st .each);
-      ledgerQuotas = all-within-in (p .owns) (l .owns) (st .each);
+      quotas = all-within (length (p .slots)) (p .owns) (l .owns) (st .each);
+      ledgerQuotas = all-within-in (length (p .slots)) (p .owns) (l .owns) (st .each);
       opened = st .openedIs;
       few = st .few;
     }

@@ -19,7 +19,7 @@ use Rattle.sharing.proofs.Numbers.{some-opened, is-opened}
 use Rattle.shared_compile.proofs.Numbers.{gate-asked, gate-inserted, compileOn-outcome}
 use Rattle.compile.specs.declared.Compiled.{Compiled}
 use Rattle.history.specs.Calls.{lengthsOf}
-use Rattle.history.specs.Demand.{Accepted}
+use Rattle.history.specs.Demand.{Accepted, Used}
 use Rattle.history.specs.Whole.{lentToGate, compiled, Gated, Judged}
 use Rattle.history.proofs.Outcomes.{past-fits}
 use Rattle.history.proofs.Theorem as base
@@ -33,9 +33,15 @@ use Rattle.shared_history.proofs.Gate.{asked-is, compiled-is, publics-a
 use Rattle.shared_history.proofs.Told.{allocator-is, opened-yes, told-calls}
 
 -- ---- a relation that is opened
-module _ (p : SharedState) (l : SharedLedger) (st : Stands p l) (r : ℕ) (h : r < p .allocator .opened) (stray : OwnState) where
+module _ (p : SharedState) (l : SharedLedger) (st : Stands p l) (r : ℕ) (h : r < p .allocator .opened) (handed : OwnState) where
   abbrev own : OwnState
-  own = ownAt p r stray
+  own = ownAt p r handed
+
+  -- its use counts
+  used : Used (ownLedgerAt l r .width) (length (p .slots)) (judgedOn l (ownLedgerAt l r)) (own .uses) (own .relation .stray)
+  used =
+      base.used-is (ownLedgerAt l r .width) (seen p own) (judgedOn l (ownLedgerAt l r))
+      (agrees p l st own (ownLedgerAt l r) (own-at p l st r h handed))
 
   -- its gate is that of a relation alone
   same-front : (g : GateLent) → firstNo (compileFront (sharesOf p r own) g) ≡ firstNo (compileFront alone g)
@@ -46,12 +52,12 @@ module _ (p : SharedState) (l : SharedLedger) (st : Stands p l) (r : ℕ) (h : r
 
   judged : (ds : List SharedCall) → All (Other r) ds
       → Judged (ownLedgerAt l r .width) (lengthsOf (seen p own))
-      (ownAt (sharedFinal p ds) r stray .queries) (ownAt (sharedFinal p ds) r stray .equations)
+      (ownAt (sharedFinal p ds) r handed .queries) (ownAt (sharedFinal p ds) r handed .equations)
       (gateOn p r own) (judgedOn l (ownLedgerAt l r))
   judged ds t =
       let e = ownLedgerAt l r in
       let x = judgedOn l e in
-      let j = base.judged (e .width) (seen p own) x (agrees p l st own e (own-at p l st r h stray)) in
+      let j = base.judged (e .width) (seen p own) x (agrees p l st own e (own-at p l st r h handed)) in
       record {
         gates = λ label publics scratch. record {
           by-questions =
@@ -63,7 +69,7 @@ module _ (p : SharedState) (l : SharedLedger) (st : Stands p l) (r : ℕ) (h : r
             subst
             (λ (y : OwnState). Gated (e .width) (y .queries) (y .equations) (gateOn p r own label publics scratch .answer .instance)
             (gateOn p r own label publics scratch .publics) label x)
-            (sym (kept-all r stray ds p (omega (arith, st .openedIs)) t))
+            (sym (kept-all r handed ds p (omega (arith, st .openedIs)) t))
             (base.gated-as (e .width) (own .queries) (own .equations) _ _ _ _ label x
             (ap (λ (y : Compiled). y .instance) (same-gate label publics scratch))
             (publics-are (sharesOf p r own) (lentToGate (seen p own) label publics scratch) (same-front (lentToGate (seen p own) label publics scratch)))
@@ -90,7 +96,7 @@ module _ (p : SharedState) (l : SharedLedger) (st : Stands p l) (r : ℕ) (n : p
   front-by : firstNo (compileFront (sharesOf p r m) (lentToGate (seen p m) label publics scratch)) ≡ firstNo (compileFront (shares (allocatorBy l) r (m .relation)) lent-by)
   front-by =
       ap (λ (a : VarAllocator). firstNo (compileFront (shares a r (m .relation))
-      (gateLent (onAllocator a (m .relation)) label (p .slots) (m .queries) (m .equations) (length publics) (length scratch)))) (allocator-is p l st)
+      (gateLent (onAllocator a (m .relation)) label (p .slots) (m .queries) (m .equations) (m .uses) (length publics) (length scratch)))) (allocator-is p l st)
 
   gate-by : gateOn p r m label publics scratch .answer .outcome ≡ outcomeOf (firstNo (compileFront (shares (allocatorBy l) r (m .relation)) lent-by))
   gate-by =
@@ -119,16 +125,17 @@ module _ (p : SharedState) (l : SharedLedger) (st : Stands p l) (r : ℕ) (n : p
       }
 
 -- ---- the whole
-module _ (vars : ℕ) (slots : List ℕ) (width quota : ℕ) (queries equations : List ℕ) (cs : List SharedCall)
-    (accepted : Accepted (sharedAnswer (noneOpened vars slots width quota queries equations cs) (opening vars slots width quota queries equations cs) .outcome)) where
-  stands : Stands (sharedLast vars slots width quota queries equations cs) (sharedLedger vars slots width quota queries equations cs)
-  stands = keeps-calls cs _ _ (begins vars slots width quota queries equations accepted)
+module _ (vars : ℕ) (slots : List ℕ) (width quota : ℕ) (queries equations uses : List ℕ) (cs : List SharedCall)
+    (accepted : Accepted (sharedAnswer (noneOpened vars slots width quota queries equations uses cs) (opening vars slots width quota queries equations uses cs) .outcome)) where
+  stands : Stands (sharedLast vars slots width quota queries equations uses cs) (sharedLedger vars slots width quota queries equations uses cs)
+  stands = keeps-calls cs _ _ (begins vars slots width quota queries equations uses accepted)
 
-  pub shared-whole : SharedWhole vars slots width quota queries equations cs
+  pub shared-whole : SharedWhole vars slots width quota queries equations uses cs
   shared-whole =
       record {
-        told = told-calls cs _ _ (begins vars slots width quota queries equations accepted);
+        told = told-calls cs _ _ (begins vars slots width quota queries equations uses accepted);
         counts = counted _ _ stands;
+        used = used _ _ stands;
         judged = judged _ _ stands;
         not-opened = unopened-is _ _ stands;
       }

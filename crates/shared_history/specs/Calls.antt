@@ -10,19 +10,20 @@ use Rattle.allocator.specs.Slots.{Pair}
 use Rattle.expr.specs.Equation.{Equation}
 use Rattle.permutation.specs.Sharing.{Sharing}
 use Rattle.sharing.specs.Shares.{onAllocator, shares}
-use Rattle.sharing.specs.Opening.{withAllocatorAsks, withAllocatorNo, withAllocator, withAllocatorSlots}
+use Rattle.sharing.specs.Opening.{withAllocatorAsks, withAllocatorNo, withAllocator, withAllocatorSlots, withAllocatorUses}
 use Rattle.sharing.specs.Answers.{offAllocator, withVars}
 use Rattle.sharing.specs.declared.VarAllocator.{VarAllocator}
 use Rattle.sharing.specs.declared.SharedRelation.{SharedRelation}
 use Rattle.history.specs.Along.{Logged, logBy, leftBy, ledgerBy}
 use Rattle.history.specs.Ledger.{Ledger}
-use Rattle.history.specs.Calls.{Call, Allocate, Set, SetList, Record, Mint, Equate, Tickets, State, state, Lengths, lengthsOf, asksWith, frontAsks, Answer, onAccepted, answer, after, ledger, firstLedger, noted}
+use Rattle.history.specs.Calls.{Call, Allocate, Set, SetList, Record, Mint, Equate, Tickets, WithdrawQuery, WithdrawEquation, State, state, Lengths, lengthsOf, asksWith, frontAsks, Answer, onAccepted, answer, after, ledger, firstLedger, noted}
 
--- what a relation has to itself: its record, and the words of its two stores
+-- what a relation has to itself: its record, and the words of its three stores
 pub record OwnState : Type 0 where
   pub relation : SharedRelation
   pub queries : List ℕ
   pub equations : List ℕ
+  pub uses : List ℕ
 
 -- what the relations share, and what each has to itself, in the order of their numbers
 pub record SharedState : Type 0 where
@@ -30,19 +31,19 @@ pub record SharedState : Type 0 where
   pub slots : List ℕ
   pub owns : List OwnState
 
--- the opening of a relation, lent its two stores; or a call on relation r. A number that isn't opened has no record and no
--- stores: the caller hands in what it likes, `stray`, which 1 and 2 are put to before 42
+-- the opening of a relation, lent its three stores; or a call on relation r. A number that isn't opened has no record and no
+-- stores: the caller hands in what it likes, `handed`, which 1 and 2 are put to before 42
 pub data SharedCall : Type 0 where
-  Open : (width quota : ℕ) (queries equations : List ℕ) → SharedCall
-  On : (r : ℕ) (stray : OwnState) → Call → SharedCall
+  Open : (width quota : ℕ) (queries equations uses : List ℕ) → SharedCall
+  On : (r : ℕ) (handed : OwnState) → Call → SharedCall
 
 -- what a call on number r gets
 abbrev pub ownAt : SharedState → ℕ → OwnState → OwnState
-ownAt p r stray = getD (p .owns) r stray
+ownAt p r handed = getD (p .owns) r handed
 
 -- a relation with the shared count and the shared slots: what a relation alone would be
 abbrev pub seen : SharedState → OwnState → State
-seen p m = state (onAllocator (p .allocator) (m .relation)) (p .slots) (m .queries) (m .equations)
+seen p m = state (onAllocator (p .allocator) (m .relation)) (p .slots) (m .queries) (m .equations) (m .uses)
 
 -- what sharing puts in among its questions
 abbrev pub sharesOf : SharedState → ℕ → OwnState → Sharing
@@ -50,9 +51,9 @@ sharesOf p r m = shares (p .allocator) r (m .relation)
 
 -- the lengths of the stores that a call gets
 abbrev pub lengthsFor : SharedState → SharedCall → Lengths
-lengthsFor p (Open width quota queries equations) =
-    record { slots = length (p .slots); queries = length queries; equations = length equations }
-lengthsFor p (On r stray c) = lengthsOf (seen p (ownAt p r stray))
+lengthsFor p (Open width quota queries equations uses) =
+    record { slots = length (p .slots); queries = length queries; equations = length equations; uses = length uses }
+lengthsFor p (On r handed c) = lengthsOf (seen p (ownAt p r handed))
 
 -- how many wires a call asks for, at a width
 abbrev pub wiresOf : ℕ → Call → ℕ
@@ -63,6 +64,8 @@ wiresOf w (Record input output) = 0
 wiresOf w (Mint input) = w
 wiresOf w (Equate terms image) = 0
 wiresOf w (Tickets text) = 0
+wiresOf w (WithdrawQuery i) = 0
+wiresOf w (WithdrawEquation i) = 0
 
 -- how many it obtains
 abbrev pub taken : ℕ → Call → Answer → ℕ
@@ -70,8 +73,8 @@ taken w c a = onAccepted a (wiresOf w c) 0
 
 -- ---- questions in order; a call answers the first that says no
 unfoldable pub sharedAsks : SharedState → SharedCall → List Question
-sharedAsks p (Open width quota queries equations) = withAllocatorAsks (p .allocator) width (length (p .slots))
-sharedAsks p (On r stray c) = let m = ownAt p r stray in asksWith (sharesOf p r m) (seen p m) c
+sharedAsks p (Open width quota queries equations uses) = withAllocatorAsks (p .allocator) width (length (p .slots)) (length uses)
+sharedAsks p (On r handed c) = let m = ownAt p r handed in asksWith (sharesOf p r m) (seen p m) c
 
 -- the number up to the last question that sharing puts in, 42 or 43
 unfoldable pub frontNo : SharedState → ℕ → OwnState → Call → ℕ
@@ -85,11 +88,11 @@ refusedWith k = record { outcome = outcome.Refused k; first = 0; accepted = 0; f
 -- an opening answers the relation's number; a relation's call what the same call answers on a relation alone, where the
 -- front of its questions lets it through
 unfoldable pub sharedAnswer : SharedState → SharedCall → Answer
-sharedAnswer p (Open width quota queries equations) =
-    let o = withAllocator (p .allocator) width quota (p .slots) in
+sharedAnswer p (Open width quota queries equations uses) =
+    let o = withAllocator (p .allocator) width quota (p .slots) uses in
     record { outcome = o .outcome; first = o .index; accepted = 0; fresh = 0 }
-sharedAnswer p (On r stray c) =
-    let m = ownAt p r stray in
+sharedAnswer p (On r handed c) =
+    let m = ownAt p r handed in
     onYes (frontNo p r m c) (answer (seen p m) c) (refusedWith (frontNo p r m c))
 
 -- ---- what a call leaves
@@ -100,6 +103,7 @@ ownAfter m t n =
       relation = offAllocator (m .relation) (t .relation) (m .relation .obtained + n);
       queries = t .queries;
       equations = t .equations;
+      uses = t .uses;
     }
 
 -- after a call of relation r that is let through: count and slots for all, the rest for r alone
@@ -114,15 +118,21 @@ actedOn p r m c =
 
 -- after each call; an accepted opening adds a relation
 unfoldable pub sharedAfter : SharedState → SharedCall → SharedState
-sharedAfter p (Open width quota queries equations) =
-    let o = withAllocator (p .allocator) width quota (p .slots) in
+sharedAfter p (Open width quota queries equations uses) =
+    let o = withAllocator (p .allocator) width quota (p .slots) uses in
     record {
       allocator = o .allocator;
-      slots = withAllocatorSlots (p .allocator) width (p .slots);
-      owns = onYes (withAllocatorNo (p .allocator) width (length (p .slots)))
-          (p .owns ++ (record { relation = o .relation; queries = queries; equations = equations } ∷ [])) (p .owns);
+      slots = withAllocatorSlots (p .allocator) width (p .slots) uses;
+      owns = onYes (withAllocatorNo (p .allocator) width (length (p .slots)) (length uses))
+          (p .owns
+          ++ (record {
+            relation = o .relation;
+            queries = queries;
+            equations = equations;
+            uses = withAllocatorUses (p .allocator) width (p .slots) uses;
+          } ∷ [])) (p .owns);
     }
-sharedAfter p (On r stray c) = let m = ownAt p r stray in onYes (frontNo p r m c) (actedOn p r m c) p
+sharedAfter p (On r handed c) = let m = ownAt p r handed in onYes (frontNo p r m c) (actedOn p r m c) p
 
 -- ---- the ledger
 -- of each relation: its width and quota, the wires that it obtained, its queries and its equations
@@ -169,9 +179,9 @@ ownLedgerAfter e l n =
 -- what a call and its answer make of the ledger: an accepted opening adds a relation; a relation's call notes for all
 -- and for itself what it notes in the ledger of a relation alone
 unfoldable pub sharedNoted : SharedLedger → SharedCall → Answer → SharedLedger
-sharedNoted l (Open width quota queries equations) a =
+sharedNoted l (Open width quota queries equations uses) a =
     record { count = l .count; sets = l .sets; owns = onAccepted a (l .owns ++ (newOwnLedger width quota ∷ [])) (l .owns) }
-sharedNoted l (On r stray c) a =
+sharedNoted l (On r handed c) a =
     let e = ownLedgerAt l r in
     let n = noted (e .width) (judgedOn l e) c a in
     record { count = n .count; sets = n .sets; owns = set (l .owns) r (ownLedgerAfter e n (taken (e .width) c a)) }

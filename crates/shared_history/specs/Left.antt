@@ -5,7 +5,8 @@ use mathlib.Core.List.{List, [], _∷_, _++_}
 use lib.Dec.{ltb}
 use lib.ListN.{length}
 use Rattle.limits.specs.Questions.{question, firstNo, pick}
-use Rattle.limits.specs.Asks.{widthAsks}
+use Rattle.limits.specs.Asks.{widthAsks, storeAsks}
+use Rattle.uses.specs.Uses.{lengthAsks}
 use Rattle.allocator.specs.Slots.{Pair}
 use Rattle.sharing.specs.Shares.{maxRelations, onAllocator, quotaAsks, shares}
 use Rattle.sharing.specs.declared.VarAllocator.{VarAllocator}
@@ -17,20 +18,23 @@ use Rattle.shared_history.specs.Calls.{SharedCall, Open, On, SharedLedge
 abbrev pub allocatorBy : SharedLedger → VarAllocator
 allocatorBy l = record { vars = l .count; opened = length (l .owns) }
 
--- the number that a call answers, by ledger and lengths; 0 is yes. Of an opening 1 and 42 are left; of a relation's call
+-- the number that a call answers, by ledger and lengths; 0 is yes. Of an opening 1, 42, and 2 and 10 of its use store are
+-- left; of a relation's call
 -- what is left to a relation alone, and 43; of a call on a number that isn't opened all up to its 42
 unfoldable pub sharedLeft : Lengths → SharedLedger → SharedCall → ℕ
-sharedLeft lengths l (Open width quota queries equations) =
-    firstNo (widthAsks width ++ (question 42 (ltb (length (l .owns)) maxRelations) ∷ []))
-sharedLeft lengths l (On r stray c) =
+sharedLeft lengths l (Open width quota queries equations uses) =
+    firstNo (widthAsks width
+    ++ (storeAsks (lengths .uses)
+    ++ (question 42 (ltb (length (l .owns)) maxRelations) ∷ lengthAsks (lengths .slots) (lengths .uses))))
+sharedLeft lengths l (On r handed c) =
     let e = ownLedgerAt l r in
     let a = allocatorBy l in
     pick (ltb r (length (l .owns)))
     (leftWith (quotaAsks (e .quota) (e .obtained)) (e .width) lengths (judgedOn l e) c)
-    (firstNo (frontAsks (shares a r (stray .relation)) (onAllocator a (stray .relation)) lengths c))
+    (firstNo (frontAsks (shares a r (handed .relation)) (onAllocator a (handed .relation)) lengths c))
 
 -- the pairs that a call sets, by the ledger and the arguments alone: of a relation's call those of a relation alone on
 -- everybody's sets
 unfoldable pub sharedSetBy : SharedLedger → SharedCall → List Pair
-sharedSetBy l (Open width quota queries equations) = []
-sharedSetBy l (On r stray c) = pick (ltb r (length (l .owns))) (setBy (judgedOn l (ownLedgerAt l r)) c) []
+sharedSetBy l (Open width quota queries equations uses) = []
+sharedSetBy l (On r handed c) = pick (ltb r (length (l .owns))) (setBy (judgedOn l (ownLedgerAt l r)) c) []

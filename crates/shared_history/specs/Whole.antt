@@ -8,7 +8,8 @@
 --   (2) to (4) of each relation, on everybody's sets accepted before its gate and on its own queries and equations,
 --       whatever the others do between its gate and its write (`judged`, by the base's own `Judged`); the gate of a
 --       number that isn't opened is refused, with 42 where 1 and 2 say yes (`not-opened`)
---   and the wires in the store are 1 and what each relation obtained (`counts`)
+--   and the wires in the store are 1 and what each relation obtained (`counts`); each relation's use counts and stray count
+--   are those of the cells of its own queries in the ledger (`used`)
 --
 -- A list's beginning is a list, so this is said at every place of it. Nothing is assumed but that the first opening was
 -- accepted: any words in the stores, any count before it, any widths and quotas, any list with refused calls and calls on
@@ -25,7 +26,7 @@ use Rattle.sharing.specs.Shares.{onAllocator, shares}
 use Rattle.compile.specs.Gate.{GateLent, gateLent, compileFront, compileAsksWith}
 use Rattle.shared_compile.specs.Gate.{compileOn, compilePublicsOn}
 use Rattle.history.specs.Calls.{lengthsOf}
-use Rattle.history.specs.Demand.{Answers}
+use Rattle.history.specs.Demand.{Answers, Used}
 use Rattle.history.specs.Whole.{GateDone, lentToGate, Judged}
 use Rattle.shared_history.specs.Calls.{OwnState, SharedState, SharedCall, Open, On, ownAt, seen, sharesOf, sharedAnswer, sharedAfter, SharedLedger, firstShared, ownLedgerAt, judgedOn, sharedNoted, sharedFinal, sharedLog, sharedLedgerOf}
 use Rattle.shared_history.specs.Left.{allocatorBy}
@@ -33,8 +34,8 @@ use Rattle.shared_history.specs.Demand.{AllSharedTold, Counted}
 
 -- no call on relation r: an opening, or a call on another
 abbrev pub Other : ℕ → SharedCall → Type 0
-Other r (Open width quota queries equations) = Unit {0}
-Other r (On q stray c) = q ≡ r → ⊥
+Other r (Open width quota queries equations uses) = Unit {0}
+Other r (On q handed c) = q ≡ r → ⊥
 
 -- the gate of relation r, by its own record and stores and what is lent beside them
 abbrev pub gateOn : SharedState → ℕ → OwnState → (label publics scratch : List ℕ) → GateDone
@@ -49,7 +50,7 @@ gateOn p r m label publics scratch =
 -- what it is lent, with the wire count by the ledger
 abbrev pub lentBy : SharedLedger → SharedState → OwnState → (label publics scratch : List ℕ) → GateLent
 lentBy l p m label publics scratch =
-    gateLent (onAllocator (allocatorBy l) (m .relation)) label (p .slots) (m .queries) (m .equations) (length publics) (length scratch)
+    gateLent (onAllocator (allocatorBy l) (m .relation)) label (p .slots) (m .queries) (m .equations) (m .uses) (length publics) (length scratch)
 
 -- the gate of a number that isn't opened, whatever record and stores are handed in
 pub record Unopened (p : SharedState) (l : SharedLedger) (r : ℕ) (m : OwnState) (label publics scratch : List ℕ) : Type 0 where
@@ -60,14 +61,14 @@ pub record Unopened (p : SharedState) (l : SharedLedger) (r : ℕ) (m : OwnState
       → gateOn p r m label publics scratch .answer .outcome ≡ outcome.Refused 42
 
 -- `vars`: what stood for the count before
-module _ (vars : ℕ) (slots : List ℕ) (width quota : ℕ) (queries equations : List ℕ) (cs : List SharedCall) where
+module _ (vars : ℕ) (slots : List ℕ) (width quota : ℕ) (queries equations uses : List ℕ) (cs : List SharedCall) where
   -- nothing is opened
   abbrev pub noneOpened : SharedState
   noneOpened = record { allocator = record { vars = vars; opened = 0 }; slots = slots; owns = [] }
 
   -- the first opening
   abbrev pub opening : SharedCall
-  opening = Open width quota queries equations
+  opening = Open width quota queries equations uses
 
   -- what it leaves
   abbrev pub sharedBegin : SharedState
@@ -91,11 +92,15 @@ module _ (vars : ℕ) (slots : List ℕ) (width quota : ℕ) (queries equations 
     pub told : AllSharedTold sharedBegin beginLedger cs
     -- the wires
     pub counts : Counted sharedLast sharedLedger
+    -- the use counts of every relation that is opened
+    pub used : (r : ℕ) → r < sharedLast .allocator .opened → (handed : OwnState)
+        → Used (ownLedgerAt sharedLedger r .width) (length (sharedLast .slots)) (judgedOn sharedLedger (ownLedgerAt sharedLedger r))
+        (ownAt sharedLast r handed .uses) (ownAt sharedLast r handed .relation .stray)
     -- (2) to (4) of every relation that is opened; `ds`: what goes on between its gate and its write
-    pub judged : (r : ℕ) → r < sharedLast .allocator .opened → (stray : OwnState) (ds : List SharedCall) → All (Other r) ds
-        → Judged (ownLedgerAt sharedLedger r .width) (lengthsOf (seen sharedLast (ownAt sharedLast r stray)))
-        (ownAt (sharedFinal sharedLast ds) r stray .queries) (ownAt (sharedFinal sharedLast ds) r stray .equations)
-        (gateOn sharedLast r (ownAt sharedLast r stray)) (judgedOn sharedLedger (ownLedgerAt sharedLedger r))
+    pub judged : (r : ℕ) → r < sharedLast .allocator .opened → (handed : OwnState) (ds : List SharedCall) → All (Other r) ds
+        → Judged (ownLedgerAt sharedLedger r .width) (lengthsOf (seen sharedLast (ownAt sharedLast r handed)))
+        (ownAt (sharedFinal sharedLast ds) r handed .queries) (ownAt (sharedFinal sharedLast ds) r handed .equations)
+        (gateOn sharedLast r (ownAt sharedLast r handed)) (judgedOn sharedLedger (ownLedgerAt sharedLedger r))
     -- (2) of a number that isn't opened
     pub not-opened : (r : ℕ) → sharedLast .allocator .opened ≤ r → (m : OwnState) (label publics scratch : List ℕ)
         → Unopened sharedLast sharedLedger r m label publics scratch

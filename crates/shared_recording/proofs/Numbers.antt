@@ -2,7 +2,7 @@
 -- questions, in document 01's order. Assumes nothing.
 use Prim.Native.Nat.{ℕ}
 use mathlib.Core.Path.{_≡_, refl}
-use mathlib.Core.List.{List}
+use mathlib.Core.List.{List, _++_}
 use lib.ListN.{length}
 use Rattle.limits.specs.Questions.{firstNo}
 use Rattle.limits.specs.Outcome.{outcomeNumber}
@@ -12,7 +12,8 @@ use Rattle.permutation.specs.Sharing.{Sharing}
 use Rattle.permutation.specs.Answers.{firstNumber}
 use Rattle.permutation.specs.declared.PermutationRelation.{PermutationRelation}
 use Rattle.permutation.proofs.Answered.{first-number}
-use Rattle.recording.specs.Relation.{addPermutationFront, addPermutationRest, addPermutationAsksWith, allocatePermutationFront, allocatePermutationRest, allocatePermutationAsksWith, addEquationFront, addEquationRest, addEquationAsksWith}
+use Rattle.allocator.specs.Slots.{roomAsks}
+use Rattle.recording.specs.Relation.{addPermutationFront, recordAsks, joinAsks, addPermutationAsksWith, mintCells, allocatePermutationFront, allocatePermutationAsksWith, addEquationFront, addEquationRest, addEquationAsksWith}
 use Rattle.recording.specs.Numbers.{addPermutationNo, allocatePermutationNo, addEquationNo}
 use Rattle.sharing.specs.Shares.{onAllocator, shares}
 use Rattle.sharing.specs.declared.VarAllocator.{VarAllocator}
@@ -30,24 +31,25 @@ module _ (a : VarAllocator) (r : ℕ) (m : SharedRelation) where
   h = shares a r m
 
   -- record
-  pub addPermutationOn-number : (queries input output : List ℕ)
-      → outcomeNumber (addPermutationOn a r m queries input output .outcome) ≡ firstNo (addPermutationAsksWith h x (length queries) input output)
+  pub addPermutationOn-number : (slots : ℕ) (queries uses input output : List ℕ)
+      → outcomeNumber (addPermutationOn a r m slots queries uses input output .outcome) ≡ firstNo (addPermutationAsksWith h x slots (length queries) uses input output)
   unfolding addPermutationOnNo addPermutationNo
-  addPermutationOn-number queries input output =
-      number-on a r m (λ (g : Sharing). addPermutationFront g x (length queries) input output)
+  addPermutationOn-number slots queries uses input output =
+      number-on a r m (λ (g : Sharing). addPermutationFront g x slots (length queries) (length uses) input output)
       (search puts-in depth 20) (search subsequence depth 40)
-      (λ (q : RecordedOn). outcomeNumber (q .outcome)) (addPermutationRest x (length queries) input output) _ _
-      (outcome-number (addPermutationNo x (length queries) input output)) refl
+      (λ (q : RecordedOn). outcomeNumber (q .outcome)) (recordAsks x input output ++ joinAsks x slots (length queries) uses (input ++ output)) _ _
+      (outcome-number (addPermutationNo x slots (length queries) uses input output)) refl
 
   -- mint
-  pub allocatePermutationOn-number : (slots queries input : List ℕ)
-      → firstNumber (allocatePermutationOn a r m slots queries input .first) ≡ firstNo (allocatePermutationAsksWith h x (length slots) (length queries) input)
+  pub allocatePermutationOn-number : (slots queries uses input : List ℕ)
+      → firstNumber (allocatePermutationOn a r m slots queries uses input .first) ≡ firstNo (allocatePermutationAsksWith h x (length slots) (length queries) uses input)
   unfolding allocatePermutationOnNo allocatePermutationNo
-  allocatePermutationOn-number slots queries input =
-      number-on a r m (λ (g : Sharing). allocatePermutationFront g x (length slots) (length queries) input)
+  allocatePermutationOn-number slots queries uses input =
+      number-on a r m (λ (g : Sharing). allocatePermutationFront g x (length slots) (length queries) (length uses) input)
       (search puts-in depth 20) (search subsequence depth 40)
-      (λ (q : AllocatedOn). firstNumber (q .first)) (allocatePermutationRest x (length slots) (length queries)) _ _
-      (first-number (allocatePermutationNo x (length slots) (length queries) input) (a .vars)) refl
+      (λ (q : AllocatedOn). firstNumber (q .first))
+      (roomAsks (a .vars) (length slots) (m .width) ++ joinAsks x (length slots) (length queries) uses (mintCells x input)) _ _
+      (first-number (allocatePermutationNo x (length slots) (length queries) uses input) (a .vars)) refl
 
   -- equation
   pub addEquationOn-number : (equations : List ℕ) (terms : List Term) (image : ℕ)

@@ -5,14 +5,18 @@
 
 ghost use Prim.Native.Nat.{_+_};
 ghost use mathlib.Core.Path.{_≡_};
+ghost use mathlib.Core.List.{_++_};
 ghost use lib.Dec.{leb};
+ghost use lib.ListN.{length};
 ghost use Rattle.limits.specs.Outcome.{asIs};
 ghost use Rattle.limits.specs.Questions.{firstNo};
+ghost use Rattle.limits.specs.Asks.{storeAsks};
+ghost use Rattle.permutation.specs.Relation.{relationAsksWith, queriesAsks};
 ghost use Rattle.expr.specs.Weighted.{termsOf};
 ghost use Rattle.recording.specs.Relation.{mintSizes};
 ghost use Rattle.sharing.specs.Shares.{onAllocator, shares};
-ghost use Rattle.sharing.specs.Answers.{Does, DoesBoth, recordedNot};
-ghost use Rattle.shared_recording.specs.Answers.{addPermutationOnNo, mintFrontNo, addEquationOnNo, addPermutationOn, addPermutationOnQueries, allocatePermutationOn, allocatePermutationOnSlots, allocatePermutationOnQueries, addEquationOn, addEquationOnEquations};
+ghost use Rattle.sharing.specs.Answers.{Does, DoesBoth, DoesAll, recordedNot};
+ghost use Rattle.shared_recording.specs.Answers.{addPermutationOnNo, mintFrontNo, addEquationOnNo, addPermutationOn, addPermutationOnQueries, addPermutationOnUses, allocatePermutationOn, allocatePermutationOnSlots, allocatePermutationOnQueries, allocatePermutationOnUses, addEquationOn, addEquationOnEquations};
 use baby_bear::BabyBearUnit;
 use expr::Weighted;
 use limits::MAX_COUNT;
@@ -23,40 +27,71 @@ use sharing::RecordedOn;
 use sharing::SharedRelation;
 use sharing::VarAllocator;
 
+// Questions 1 and 2 of the relation and the slots, its queries and its use store: the same whatever its number is.
+pub fn asked_queries_on(
+    allocator: VarAllocator,
+    rel: SharedRelation,
+    slots: usize,
+    room: usize,
+    uses: usize,
+) -> u32
+    ensures { λ r. ⌜ r ≡ firstNo (relationAsksWith (shares allocator 0 rel) (onAllocator allocator rel) slots
+        ++ (queriesAsks (onAllocator allocator rel) room ++ storeAsks uses)) ⌝ }
+{
+    let width = rel.width;
+    let held = rel.queries;
+    let no = limits::asked_width(0, width);
+    let no = sharing::asked_slots_on(no, allocator, slots);
+    let no = words::asked_held(no, width, held, room);
+    limits::asked_store(no, uses)
+}
+
 // The number of a record call up to 42.
 fn add_permutation_on_no(
     allocator: VarAllocator,
     index: u32,
     rel: SharedRelation,
-    len: usize,
+    slots: usize,
+    room: usize,
+    uses: usize,
     input: &[u32],
     output: &[u32],
 ) -> u32
-    ensures { λ r. ⌜ r ≡ addPermutationOnNo allocator index rel len (now (input .entry)) (now (output .entry)) ⌝ }
+    ensures { λ r. ⌜ r ≡ addPermutationOnNo allocator index rel slots room uses (now (input .entry)) (now (output .entry)) ⌝ }
 {
-    let width = rel.width;
-    let held = rel.queries;
-    let no = limits::asked_width(0, width);
-    let no = words::asked_held(no, width, held, len);
-    let no = sharing::asked_count_on(no, allocator);
+    let no = asked_queries_on(allocator, rel, slots, room, uses);
     let no = limits::asked_store(no, input.len());
     let no = limits::asked_store(no, output.len());
     sharing::asked_opened(no, allocator, index)
 }
 
-// Record a query of the relation from input to output wires, allocated or not. Questions 1, 2, 42, 9, 3, 10.
+// Record a query of the relation from input to output wires, allocated or not. Questions 1, 2, 42, 9, 3, 11, 10.
 pub fn add_permutation_on(
     allocator: VarAllocator,
     index: u32,
     rel: SharedRelation,
+    slots: &[u32],
     queries: &mut [u32],
+    uses: &mut [u32],
     input: &[u32],
     output: &[u32],
 ) -> RecordedOn
-    ensures { λ r. ⌜ Does asIs (addPermutationOn allocator index rel (now (queries .entry)) (now (input .entry)) (now (output .entry)))
-        (addPermutationOnQueries allocator index rel (now (queries .entry)) (now (input .entry)) (now (output .entry))) r (now (queries .exit)) ⌝ }
+    ensures { λ r. ⌜ DoesBoth asIs
+        (addPermutationOn allocator index rel (length (now (slots .entry))) (now (queries .entry)) (now (uses .entry)) (now (input .entry)) (now (output .entry)))
+        (addPermutationOnQueries allocator index rel (length (now (slots .entry))) (now (queries .entry)) (now (uses .entry)) (now (input .entry)) (now (output .entry)))
+        (addPermutationOnUses allocator index rel (length (now (slots .entry))) (now (queries .entry)) (now (uses .entry)) (now (input .entry)) (now (output .entry)))
+        r (now (queries .exit)) (now (uses .exit)) ⌝ }
 {
-    let no = add_permutation_on_no(allocator, index, rel, queries.len(), input, output);
+    let no = add_permutation_on_no(
+        allocator,
+        index,
+        rel,
+        slots.len(),
+        queries.len(),
+        uses.len(),
+        input,
+        output,
+    );
     if no != 0 {
         return RecordedOn {
             outcome: Outcome::Refused(no),
@@ -65,7 +100,9 @@ pub fn add_permutation_on(
     }
     let done = recording::add_permutation(
         sharing::on_allocator(allocator, rel),
+        slots,
         queries,
+        uses,
         input,
         output,
     );
@@ -79,15 +116,12 @@ fn mint_sizes_on(
     rel: SharedRelation,
     slots: usize,
     room: usize,
+    uses: usize,
     input: &[u32],
 ) -> u32
-    ensures { λ r. ⌜ r ≡ firstNo (mintSizes (shares allocator index rel) (onAllocator allocator rel) slots room (now (input .entry))) ⌝ }
+    ensures { λ r. ⌜ r ≡ firstNo (mintSizes (shares allocator index rel) (onAllocator allocator rel) slots room uses (now (input .entry))) ⌝ }
 {
-    let width = rel.width;
-    let held = rel.queries;
-    let no = limits::asked_width(0, width);
-    let no = sharing::asked_slots_on(no, allocator, slots);
-    let no = words::asked_held(no, width, held, room);
+    let no = asked_queries_on(allocator, rel, slots, room, uses);
     let no = limits::asked_store(no, input.len());
     sharing::asked_opened(no, allocator, index)
 }
@@ -107,12 +141,13 @@ fn mint_front_no(
     rel: SharedRelation,
     slots: usize,
     room: usize,
+    uses: usize,
     input: &[u32],
 ) -> u32
-    ensures { λ r. ⌜ r ≡ mintFrontNo allocator index rel slots room (now (input .entry)) ⌝ }
+    ensures { λ r. ⌜ r ≡ mintFrontNo allocator index rel slots room uses (now (input .entry)) ⌝ }
 {
     let width = rel.width;
-    let no = mint_sizes_on(allocator, index, rel, slots, room, input);
+    let no = mint_sizes_on(allocator, index, rel, slots, room, uses, input);
     if within_quota(rel) {
         return no;
     }
@@ -121,21 +156,31 @@ fn mint_front_no(
 }
 
 // Record a query of the relation from input wires to as many new ones, or do neither. Questions 1, 2, 42, 9, 3, 5, 43,
-// 6, 10.
+// 6, 11, 10.
 pub fn allocate_permutation_on(
     allocator: VarAllocator,
     index: u32,
     rel: SharedRelation,
     slots: &mut [u32],
     queries: &mut [u32],
+    uses: &mut [u32],
     input: &[u32],
 ) -> AllocatedOn
-    ensures { λ r. ⌜ DoesBoth asIs (allocatePermutationOn allocator index rel (now (slots .entry)) (now (queries .entry)) (now (input .entry)))
-        (allocatePermutationOnSlots allocator index rel (now (slots .entry)) (now (queries .entry)) (now (input .entry)))
-        (allocatePermutationOnQueries allocator index rel (now (slots .entry)) (now (queries .entry)) (now (input .entry)))
-        r (now (slots .exit)) (now (queries .exit)) ⌝ }
+    ensures { λ r. ⌜ DoesAll asIs (allocatePermutationOn allocator index rel (now (slots .entry)) (now (queries .entry)) (now (uses .entry)) (now (input .entry)))
+        (allocatePermutationOnSlots allocator index rel (now (slots .entry)) (now (queries .entry)) (now (uses .entry)) (now (input .entry)))
+        (allocatePermutationOnQueries allocator index rel (now (slots .entry)) (now (queries .entry)) (now (uses .entry)) (now (input .entry)))
+        (allocatePermutationOnUses allocator index rel (now (slots .entry)) (now (queries .entry)) (now (uses .entry)) (now (input .entry)))
+        r (now (slots .exit)) (now (queries .exit)) (now (uses .exit)) ⌝ }
 {
-    let no = mint_front_no(allocator, index, rel, slots.len(), queries.len(), input);
+    let no = mint_front_no(
+        allocator,
+        index,
+        rel,
+        slots.len(),
+        queries.len(),
+        uses.len(),
+        input,
+    );
     if no != 0 {
         return AllocatedOn {
             first: First::Refused(no),
@@ -148,13 +193,19 @@ pub fn allocate_permutation_on(
         sharing::on_allocator(allocator, rel),
         slots,
         queries,
+        uses,
         input,
     );
     sharing::allocated_on(allocator, rel, done, more)
 }
 
-// The number of an equation call up to 42.
-fn add_equation_on_no(allocator: VarAllocator, index: u32, rel: SharedRelation, len: usize) -> u32
+// The number of a call on the relation's equations up to 42.
+pub fn add_equation_on_no(
+    allocator: VarAllocator,
+    index: u32,
+    rel: SharedRelation,
+    len: usize,
+) -> u32
     ensures { λ r. ⌜ r ≡ addEquationOnNo allocator index rel len ⌝ }
 {
     let width = rel.width;

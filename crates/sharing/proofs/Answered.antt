@@ -15,10 +15,10 @@ use Rattle.limits.specs.declared.Outcome.the-variants as outcome
 use Rattle.limits.proofs.Questions.{▸-zero, puts-yes}
 use Rattle.limits.proofs.Answered.{outcome-refused, stays-by}
 use Rattle.allocator.specs.Slots.{fitAsks, slotsAsks}
-use Rattle.permutation.specs.Answers.{freshSlots}
+use Rattle.permutation.specs.Answers.{freshSlots, freshUses}
 use Rattle.sharing.specs.Shares.{maxRelations}
-use Rattle.sharing.specs.Opening.{withAllocatorAsks, withAllocatorNo, newShared, oneOpened, withAllocator, withAllocatorSlots}
-use Rattle.sharing.specs.Answers.{Does, DoesBoth}
+use Rattle.sharing.specs.Opening.{withAllocatorAsks, withAllocatorNo, newShared, oneOpened, withAllocator, withAllocatorSlots, withAllocatorUses}
+use Rattle.sharing.specs.Answers.{Does, DoesBoth, DoesAll}
 use Rattle.sharing.specs.declared.VarAllocator.{VarAllocator}
 use Rattle.sharing.proofs.Numbers.{puts-in}
 
@@ -51,6 +51,25 @@ module _ {A : Type 0} (n k : ℕ) (e : k ≡ n) where
         leaves-too = refused-by (λ j. u) v n k e h;
       }
 
+  pub both-through : k ≡ 0 → (new old : A) (s t u v : List ℕ) (r : A) (left right : List ℕ) → r ≡ new → left ≡ t → right ≡ v
+      → DoesBoth asIs (onYes n new old) (onYes n t s) (onYes n v u) r left right
+  both-through z new old s t u v r left right p q o =
+      record {
+        answers = p ∙ through-by new old n k e z;
+        leaves = q ∙ through-by t s n k e z;
+        leaves-too = o ∙ through-by v u n k e z;
+      }
+
+  pub all-refused : (k ≡ 0 → ⊥) → (f : ℕ → A) (new : A) (s t u v x y : List ℕ)
+      → DoesAll asIs (onYes n new (f n)) (onYes n t s) (onYes n v u) (onYes n y x) (f k) s u x
+  all-refused h f new s t u v x y =
+      record {
+        answers = refused-by f new n k e h;
+        leaves = refused-by (λ j. s) t n k e h;
+        leaves-too = refused-by (λ j. u) v n k e h;
+        leaves-last = refused-by (λ j. x) y n k e h;
+      }
+
 -- ---- the wire count is asked where a relation is opened
 module _ (n o : ℕ) where
   pub counted : (qs : List Question) → 0 < o → n ▸ firstNo qs ≡ n ▸ firstNo (pick (ltb 0 o) qs [])
@@ -73,19 +92,19 @@ pub record CanOpen (a : VarAllocator) (len : ℕ) : Type 0 where
   pub room : 1 ≤ len
   pub left : a .opened < maxRelations
 
-pub opens-yes : (a : VarAllocator) (width len : ℕ) → withAllocatorNo a width len ≡ 0 → CanOpen a len
+pub opens-yes : (a : VarAllocator) (width len uses : ℕ) → withAllocatorNo a width len uses ≡ 0 → CanOpen a len
 unfolding withAllocatorNo
-opens-yes a width len e =
-    let says = puts-yes (withAllocatorAsks a width len) e in
+opens-yes a width len uses e =
+    let says = puts-yes (withAllocatorAsks a width len uses) e in
     record {
       room = leb-true _ _ (says 6 _ tt (search puts-in depth 20));
       left = ltb-true _ _ (says 42 _ tt (search puts-in depth 20));
     }
 
-module _ (a : VarAllocator) (width quota : ℕ) (slots : List ℕ) (k : ℕ) (e : k ≡ withAllocatorNo a width (length slots)) where
+module _ (a : VarAllocator) (width quota : ℕ) (slots uses : List ℕ) (k : ℕ) (e : k ≡ withAllocatorNo a width (length slots) (length uses)) where
   -- a refusal
   pub opening-refused : (k ≡ 0 → ⊥)
-      → record { outcome = outcome.Refused k; index = 0; allocator = a; relation = newShared 0 0 } ≡ withAllocator a width quota slots
+      → record { outcome = outcome.Refused k; index = 0; allocator = a; relation = newShared 0 0 } ≡ withAllocator a width quota slots uses
   opening-refused h =
       rw (sym e) (λ i. record {
         outcome = outcome-refused k h i;
@@ -94,21 +113,27 @@ module _ (a : VarAllocator) (width quota : ℕ) (slots : List ℕ) (k : ℕ) (e 
         relation = stays-by k (newShared width quota) (newShared 0 0) h i;
       })
 
-  pub slots-refused : (k ≡ 0 → ⊥) → slots ≡ withAllocatorSlots a width slots
+  pub slots-refused : (k ≡ 0 → ⊥) → slots ≡ withAllocatorSlots a width slots uses
   slots-refused h = refused-by (λ j. slots) (pick (ltb 0 (a .opened)) slots (freshSlots slots)) _ k e h
 
+  pub uses-refused : (k ≡ 0 → ⊥) → uses ≡ withAllocatorUses a width slots uses
+  uses-refused h = refused-by (λ j. uses) (freshUses uses) _ k e h
+
+  pub uses-accepted : k ≡ 0 → freshUses uses ≡ withAllocatorUses a width slots uses
+  uses-accepted z = through-by (freshUses uses) uses _ k e z
+
   module _ (z : k ≡ 0) where
-    accepted : withAllocatorNo a width (length slots) ≡ 0
+    accepted : withAllocatorNo a width (length slots) (length uses) ≡ 0
     accepted = sym e ∙ z
 
     -- a later one
     module _ (h : 0 < a .opened) where
       pub opening-later :
           record { outcome = outcome.Accepted; index = a .opened; allocator = record { vars = a .vars; opened = a .opened + 1 }; relation = newShared width quota }
-          ≡ withAllocator a width quota slots
+          ≡ withAllocator a width quota slots uses
       opening-later = rw (accepted, lt-ltb 0 (a .opened) h)
 
-      pub slots-later : slots ≡ withAllocatorSlots a width slots
+      pub slots-later : slots ≡ withAllocatorSlots a width slots uses
       slots-later = rw (accepted, lt-ltb 0 (a .opened) h)
 
     -- the first
@@ -118,8 +143,8 @@ module _ (a : VarAllocator) (width quota : ℕ) (slots : List ℕ) (k : ℕ) (e 
 
       pub opening-first :
           record { outcome = outcome.Accepted; index = 0; allocator = record { vars = 1; opened = 1 }; relation = newShared width quota }
-          ≡ withAllocator a width quota slots
+          ≡ withAllocator a width quota slots uses
       opening-first = rw (accepted, le-ltb 0 (a .opened) h, none)
 
-      pub slots-first : freshSlots slots ≡ withAllocatorSlots a width slots
+      pub slots-first : freshSlots slots ≡ withAllocatorSlots a width slots uses
       slots-first = rw (accepted, le-ltb 0 (a .opened) h)

@@ -94,7 +94,7 @@ module _ (a : VarAllocator) (r : ℕ) (m : SharedRelation) where
     number-on number rest new old n o = shown-on number (λ k. k) rest new old n (λ j e. o ∙ e)
 
 -- ---- an opening
-pub withAllocator-number : (a : VarAllocator) (width quota : ℕ) (slots : List ℕ)
-    → outcomeNumber (withAllocator a width quota slots .outcome) ≡ firstNo (withAllocatorAsks a width (length slots))
+pub withAllocator-number : (a : VarAllocator) (width quota : ℕ) (slots uses : List ℕ)
+    → outcomeNumber (withAllocator a width quota slots uses .outcome) ≡ firstNo (withAllocatorAsks a width (length slots) (length uses))
 unfolding withAllocatorNo
-withAllocator-number a width quota slots = outcome-number (withAllocatorNo a width (length slots))
+withAllocator-number a width quota slots uses = outcome-number (withAllocatorNo a width (length slots) (length uses))

@@ -23,6 +23,7 @@ offAllocator m rel obtained =
       queries = rel .queries;
       equations = rel .equations;
       words = rel .words;
+      stray = rel .stray;
       quota = m .quota;
       obtained = obtained;
     }
@@ -71,3 +72,10 @@ pub record DoesBoth {A B : Type 0} (told : B → A) (answer : B) (one two : List
   pub answers : r ≡ told answer
   pub leaves : left ≡ one
   pub leaves-too : right ≡ two
+
+-- one that writes three
+pub record DoesAll {A B : Type 0} (told : B → A) (answer : B) (one two three : List ℕ) (r : A) (left right last : List ℕ) : Type 0 where
+  pub answers : r ≡ told answer
+  pub leaves : left ≡ one
+  pub leaves-too : right ≡ two
+  pub leaves-last : last ≡ three

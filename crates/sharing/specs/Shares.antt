@@ -17,7 +17,7 @@ maxRelations = 8
 
 -- a relation as one that has its wires to itself would be: the wire count is the allocator's
 abbrev pub onAllocator : VarAllocator → SharedRelation → PermutationRelation
-onAllocator a m = relation (m .width) (a .vars) (m .queries) (m .equations) (m .words)
+onAllocator a m = relation (m .width) (a .vars) (m .queries) (m .equations) (m .words) (m .stray)
 
 -- is a relation opened? While none is, the wire count is asked nothing
 abbrev pub anyOpened : VarAllocator → Bool

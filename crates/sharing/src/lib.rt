@@ -11,8 +11,8 @@ ghost use Rattle.limits.specs.Questions.{_▸_, firstNo, pick};
 ghost use Rattle.limits.specs.Asks.{storeAsks, countAsks};
 ghost use Rattle.allocator.specs.Slots.{fitAsks, mostAsks};
 ghost use Rattle.sharing.specs.Shares.{anyOpened, onAllocator, openedAsks, quotaAsks};
-ghost use Rattle.sharing.specs.Opening.{withAllocatorNo, newShared, withAllocator, withAllocatorSlots};
-ghost use Rattle.sharing.specs.Answers.{offAllocator, obtainedAfter, allocatedOn, recordedOn, Does};
+ghost use Rattle.sharing.specs.Opening.{withAllocatorNo, newShared, withAllocator, withAllocatorSlots, withAllocatorUses};
+ghost use Rattle.sharing.specs.Answers.{offAllocator, obtainedAfter, allocatedOn, recordedOn, DoesBoth};
 use limits::MAX_COUNT;
 use limits::Outcome;
 use permutation::Allocated;
@@ -37,6 +37,7 @@ pub struct SharedRelation {
     pub queries: u32,
     pub equations: u32,
     pub words: u32,
+    pub stray: u32,
     pub quota: u32,
     pub obtained: u32,
 }
@@ -72,6 +73,7 @@ pub fn on_allocator(allocator: VarAllocator, rel: SharedRelation) -> Permutation
         queries: rel.queries,
         equations: rel.equations,
         words: rel.words,
+        stray: rel.stray,
     }
 }
 
@@ -127,6 +129,7 @@ fn off_allocator(rel: SharedRelation, done: PermutationRelation, obtained: u32) 
         queries: done.queries,
         equations: done.equations,
         words: done.words,
+        stray: done.stray,
         quota: rel.quota,
         obtained,
     }
@@ -176,15 +179,17 @@ pub fn recorded_on(rel: SharedRelation, done: Recorded) -> RecordedOn
 }
 
 // The number of an opening.
-fn with_allocator_no(allocator: VarAllocator, width: u32, len: usize) -> u32
-    ensures { λ r. ⌜ r ≡ withAllocatorNo allocator width len ⌝ }
+fn with_allocator_no(allocator: VarAllocator, width: u32, len: usize, uses: usize) -> u32
+    ensures { λ r. ⌜ r ≡ withAllocatorNo allocator width len uses ⌝ }
 {
     let opened = allocator.opened;
     let no = limits::asked_width(0, width);
+    let no = limits::asked_store(no, uses);
     let no = asked_slots_on(no, allocator, len);
     let no = limits::asked(no, opened <= MAX_RELATIONS, 2);
     let no = limits::asked(no, opened < MAX_RELATIONS, 42);
-    limits::asked(no, 1 <= len, 6)
+    let no = limits::asked(no, 1 <= len, 6);
+    limits::asked(no, uses == len, 10)
 }
 
 // A relation's record as it is opened.
@@ -196,17 +201,26 @@ fn new_shared(width: u32, quota: u32) -> SharedRelation
         queries: 0,
         equations: 0,
         words: 0,
+        stray: 0,
         quota,
         obtained: 0,
     }
 }
 
 // Open a relation (the source's `with_allocator`): its number is how many were opened before. The first makes wire 0,
-// which has the value 0. Questions 1, 2, 42, 6.
-pub fn with_allocator(allocator: VarAllocator, width: u32, quota: u32, slots: &mut [u32]) -> Opened
-    ensures { λ r. ⌜ Does asIs (withAllocator allocator width quota (now (slots .entry))) (withAllocatorSlots allocator width (now (slots .entry))) r (now (slots .exit)) ⌝ }
+// which has the value 0. The relation's own use counts become 0. Questions 1, 2, 42, 6, 10.
+pub fn with_allocator(
+    allocator: VarAllocator,
+    width: u32,
+    quota: u32,
+    slots: &mut [u32],
+    uses: &mut [u32],
+) -> Opened
+    ensures { λ r. ⌜ DoesBoth asIs (withAllocator allocator width quota (now (slots .entry)) (now (uses .entry)))
+        (withAllocatorSlots allocator width (now (slots .entry)) (now (uses .entry)))
+        (withAllocatorUses allocator width (now (slots .entry)) (now (uses .entry))) r (now (slots .exit)) (now (uses .exit)) ⌝ }
 {
-    let no = with_allocator_no(allocator, width, slots.len());
+    let no = with_allocator_no(allocator, width, slots.len(), uses.len());
     if no != 0 {
         return Opened {
             outcome: Outcome::Refused(no),
@@ -217,6 +231,7 @@ pub fn with_allocator(allocator: VarAllocator, width: u32, quota: u32, slots: &m
     }
     let index = allocator.opened;
     let vars = allocator.vars;
+    words::fill(uses, 0);
     if 0 < index {
         return Opened {
             outcome: Outcome::Accepted,

@@ -29,8 +29,8 @@ told outcome accepted fresh = record { outcome = outcome; accepted = accepted; f
 
 -- a text is answered so, and leaves wires 1 and 2 so
 pub record Example (width : ℕ) (text : List ℕ) (outcome : Outcome) (accepted fresh one two : ℕ) : Type 0 where
-  pub answer : setTickets (relation width 3 0 0 0) (slots unassigned unassigned) text ≡ told outcome accepted fresh
-  pub leaves : setTicketsSlots (relation width 3 0 0 0) (slots unassigned unassigned) text ≡ slots one two
+  pub answer : setTickets (relation width 3 0 0 0 0) (slots unassigned unassigned) text ≡ told outcome accepted fresh
+  pub leaves : setTicketsSlots (relation width 3 0 0 0 0) (slots unassigned unassigned) text ≡ slots one two
 
 pub record Examples : Type 0 where
   -- 25 g is 1 step, and 100,663,296,024 g are p − 1

@@ -50,13 +50,13 @@ module _ (vars : ℕ) (binds : ℕ → Bool) where
   valid-terms (t ∷ ts) a =
       join _ _ (ask-yes 14 _ (lt-ltb (t .var) vars (a .0 .0))) (join _ _ (ask-yes 15 _ (fact-weight t (a .0 .1))) (valid-terms ts (a .1)))
 
-  equations-valid : (es : List Equation) → firstNo (termwiseAsks vars binds es) ≡ 0 → All (ValidEquation vars binds) es
+  pub equations-valid : (es : List Equation) → firstNo (termwiseAsks vars binds es) ≡ 0 → All (ValidEquation vars binds) es
   equations-valid [] e = tt
   equations-valid (q ∷ es) e =
       let a = both _ _ (sym (firstNo-append (gateTermsAsks vars binds (q .terms)) (termwiseAsks vars binds es)) ∙ e) in
       (terms-valid (q .terms) (a .0), equations-valid es (a .1))
 
-  valid-equations : (es : List Equation) → All (ValidEquation vars binds) es → firstNo (termwiseAsks vars binds es) ≡ 0
+  pub valid-equations : (es : List Equation) → All (ValidEquation vars binds) es → firstNo (termwiseAsks vars binds es) ≡ 0
   valid-equations [] a = refl
   valid-equations (q ∷ es) a =
       firstNo-append (gateTermsAsks vars binds (q .terms)) (termwiseAsks vars binds es)

@@ -1,3 +1,4 @@
+pub mod Bound
 pub mod Terms
 pub mod Marks
 pub mod Gate

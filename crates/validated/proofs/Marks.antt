@@ -1,11 +1,11 @@
--- Marks: what is left of the wires, marked on what is there, comes to the whole; and a wire has a mark
--- exactly where it was in the list. Assumes nothing.
+-- Marks: what is left of the wires, marked on what is there, comes to the whole; and marks taken for counts,
+-- with no slots, bind a wire exactly where it was in the list. Assumes nothing.
 use Prim.Native.Nat.{ℕ, zero, suc, _≤_, _<_}
 use mathlib.Core.Path.{_≡_, refl, sym, ap, _∙_}
-use mathlib.Core.Bool.{Bool, true, false, not, _||_, or-comm}
+use mathlib.Core.Bool.{Bool, true, false, _||_, or-comm}
 use mathlib.Core.List.{List, [], _∷_}
 use native.Mathlib.Omega.{arith}
-use borrow.Author.Tests.{lt-ltb, le-ltb, ltb-true, eq-eqb, ne-eqb, eqb-true, eqb-false}
+use borrow.Author.Tests.{lt-ltb, le-ltb, ltb-true, eqb-true, eqb-false}
 use lib.Dec.{eqb, ltb}
 use lib.ListN.{length, drop, getD, set, replicate, length-set, drop-of-length-le}
 use lib.Seq.{set-set, getD-set-same, getD-set-other}
@@ -13,7 +13,8 @@ use Rattle.limits.specs.Questions.{pick}
 use Rattle.limits.proofs.Below.{both-true}
 use Rattle.words.specs.Store.{allBelow}
 use Rattle.instance.specs.Parts.{has, pairVars, pairsAt}
-use Rattle.validated.specs.Marks.{isMarked, marked, Marking}
+use Rattle.validated.specs.Validated.{boundBy}
+use Rattle.validated.specs.Marks.{marked, Marking}
 
 -- ---- the loop
 module _ (vars : ℕ) (marks : List ℕ) where
@@ -37,12 +38,11 @@ mark-lacking vars zero marks h = mark-done vars (set marks 0 1)
 mark-lacking vars (suc n) marks h =
     mark-more vars (set marks 0 1) 0 (pairVars (pairsAt n [])) h (rw set-set (mark-lacking vars n marks h))
 
--- ---- which wires have a mark
-mark-one : (marks : List ℕ) (y x : ℕ) → y < length marks → isMarked (set marks y 1) x ≡ (eqb x y || isMarked marks x)
-unfolding isMarked
+-- ---- which wires are bound
+mark-one : (marks : List ℕ) (y x : ℕ) → y < length marks → boundBy [] (set marks y 1) x ≡ (eqb x y || boundBy [] marks x)
 mark-one marks y x h = go (eqb x y) refl
   where
-    go : (b : Bool) → eqb x y ≡ b → not (eqb (getD (set marks y 1) x 0) 0) ≡ (b || not (eqb (getD marks x 0) 0))
+    go : (b : Bool) → eqb x y ≡ b → ltb 0 (getD (set marks y 1) x 0) ≡ (b || ltb 0 (getD marks x 0))
     go true e =
         let z : x ≡ y = eqb-true x y e in
         rw (z, getD-set-same marks y 1 0 h)
@@ -54,7 +54,7 @@ turned true false m = refl
 turned false q m = ap (λ (b : Bool). b || m) (or-comm false q)
 
 pub marked-has : (vars : ℕ) (xs marks : List ℕ) → allBelow vars xs ≡ true → vars ≤ length marks
-    → (x : ℕ) → isMarked (marked vars xs marks) x ≡ (has xs x || isMarked marks x)
+    → (x : ℕ) → boundBy [] (marked vars xs marks) x ≡ (has xs x || boundBy [] marks x)
 unfolding allBelow marked
 marked-has vars [] marks a h x = refl
 marked-has vars (y ∷ xs) marks a h x =
@@ -63,11 +63,10 @@ marked-has vars (y ∷ xs) marks a h x =
     let k : y < length marks = omega (arith, ltb-true y vars b) in
     let l : vars ≤ length (set marks y 1) = rw (length-set marks y 1) h in
     let r = marked-has vars xs (set marks y 1) (e .1) l x in
-    simp b (r ∙ ap (λ (m : Bool). has xs x || m) (mark-one marks y x k) ∙ turned (has xs x) (eqb x y) (isMarked marks x))
+    simp b (r ∙ ap (λ (m : Bool). has xs x || m) (mark-one marks y x k) ∙ turned (has xs x) (eqb x y) (boundBy [] marks x))
 
 -- none at first
-pub unmarked : (n x : ℕ) → isMarked (replicate n 0) x ≡ false
-unfolding isMarked
+pub unmarked : (n x : ℕ) → boundBy [] (replicate n 0) x ≡ false
 unmarked zero zero = refl
 unmarked zero (suc x) = refl
 unmarked (suc n) zero = refl
@@ -81,12 +80,3 @@ marked-length vars (x ∷ xs) marks = go (ltb x vars) (marked-length vars xs (se
     go : (b : Bool) → length (marked vars xs (set marks x 1)) ≡ length marks → length (pick b (marked vars xs (set marks x 1)) marks) ≡ length marks
     go true e = e
     go false e = refl
-
--- what reading a mark says
-pub mark-read : (marks : List ℕ) (x : ℕ) → (getD marks x 0 ≡ 0 → ⊥) → isMarked marks x ≡ true
-unfolding isMarked
-mark-read marks x h = simp (ne-eqb (getD marks x 0) 0 h)
-
-pub none-read : (marks : List ℕ) (x : ℕ) → getD marks x 0 ≡ 0 → isMarked marks x ≡ false
-unfolding isMarked
-none-read marks x h = simp (eq-eqb (getD marks x 0) 0 h)

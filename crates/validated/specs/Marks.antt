@@ -2,16 +2,12 @@
 -- Assumes nothing.
 use Prim.Native.Nat.{ℕ}
 use mathlib.Core.Path.{_≡_}
-use mathlib.Core.Bool.{Bool, not}
+use mathlib.Core.Bool.{Bool}
 use mathlib.Core.List.{List, [], _∷_}
-use lib.Dec.{eqb, ltb}
-use lib.ListN.{getD, set}
+use lib.Dec.{ltb}
+use lib.ListN.{set}
 use Rattle.limits.specs.Questions.{pick}
 use Rattle.words.specs.Store.{allBelow}
-
--- the wire has a mark
-unfoldable pub isMarked : List ℕ → ℕ → Bool
-isMarked marks x = not (eqb (getD marks x 0) 0)
 
 -- wires marked in order, up to the first that is not below the count
 unfoldable pub marked : ℕ → List ℕ → List ℕ → List ℕ

@@ -2,21 +2,25 @@
 // hold.
 //
 // Scratch has a word per wire: 0, or 1 where the wire is bound. Publics and queries bind, in one pass over
-// each; then the terms are asked one by one. Words that a store lacks count as 0, as in the definitions.
+// each; then the terms are asked one by one, with these marks for counts and no slots. The walk over the terms
+// is that of a relation's gate too (`use_gate`), with its slots and use counts. Words that a store lacks count
+// as 0 and slots that are lacking as unassigned, as in the definitions.
 
 ghost use mathlib.Core.Path.{_≡_};
 ghost use Prim.Native.Nat.{_≤_};
-ghost use lib.ListN.{length, drop, replicate};
+ghost use lib.ListN.{length, drop, getD, replicate};
+ghost use Rattle.limits.specs.Numbers.{unassigned};
 ghost use Rattle.limits.specs.Questions.{firstNo};
 ghost use Rattle.expr.specs.Equation.{termsAt, equationsAt};
 ghost use Rattle.instance.specs.Parts.{pairVars, pairsAt, partsOf};
-ghost use Rattle.validated.specs.Validated.{gateTermsAsks, termwiseAsks, gateNo, AsksValidated};
-ghost use Rattle.validated.specs.Marks.{isMarked, Marking};
+ghost use Rattle.validated.specs.Validated.{boundBy, gateTermsAsks, termwiseAsks, gateNo, AsksValidated};
+ghost use Rattle.validated.specs.Marks.{Marking};
 use held::held_pieces;
 use held::held_words;
 use held::size_at;
 use held::word_at;
 use instance::PermutationInstance;
+use limits::UNASSIGNED;
 
 // Mark the wires of the first n pairs. Is every one of them below the count?
 fn mark_publics(marks: &mut [u32], vars: u32, s: &[u32], n: u32) -> bool
@@ -57,10 +61,29 @@ fn mark_queries(marks: &mut [u32], vars: u32, s: &[u32]) -> bool
     true
 }
 
+// The slot at place i, or unassigned past the end.
+fn slot_at(slots: &[u32], i: usize) -> u32
+    ensures { λ r. ⌜ r ≡ getD (now (slots .entry)) i unassigned ⌝ }
+{
+    if i < slots.len() {
+        return slots[i];
+    }
+    UNASSIGNED
+}
+
+// 15: is the wire's slot assigned, or its count above 0? The count is looked at only where the slot is not.
+fn is_bound(slots: &[u32], uses: &[u32], x: u32) -> bool
+    ensures { λ r. ⌜ r ≡ boundBy (now (slots .entry)) (now (uses .entry)) x ⌝ }
+{
+    if slot_at(slots, x as usize) != UNASSIGNED {
+        return true;
+    }
+    0 < word_at(uses, x as usize)
+}
+
 // 14 and 15 of the t terms from place `at` on.
-fn asked_terms(vars: u32, marks: &[u32], s: &[u32], at: usize, t: u32) -> u32
-    requires { ⌜ vars ≤ length (now marks) ⌝ }
-    ensures { λ r. ⌜ r ≡ firstNo (gateTermsAsks vars (isMarked (now (marks .entry))) (termsAt t (drop at (now (s .entry))))) ⌝ }
+fn asked_terms(vars: u32, slots: &[u32], uses: &[u32], s: &[u32], at: usize, t: u32) -> u32
+    ensures { λ r. ⌜ r ≡ firstNo (gateTermsAsks vars (boundBy (now (slots .entry)) (now (uses .entry))) (termsAt t (drop at (now (s .entry))))) ⌝ }
 {
     let mut i = at;
     let mut left = t;
@@ -73,7 +96,7 @@ fn asked_terms(vars: u32, marks: &[u32], s: &[u32], at: usize, t: u32) -> u32
             return 0;
         }
         if word_at(s, i + 1) != 0 {
-            if marks[x as usize] == 0 {
+            if !is_bound(slots, uses, x) {
                 return 15;
             }
         }
@@ -83,10 +106,9 @@ fn asked_terms(vars: u32, marks: &[u32], s: &[u32], at: usize, t: u32) -> u32
     0
 }
 
-// 14 and 15, equation by equation.
-fn asked_equations(vars: u32, marks: &[u32], s: &[u32], n: u32) -> u32
-    requires { ⌜ vars ≤ length (now marks) ⌝ }
-    ensures { λ r. ⌜ r ≡ firstNo (termwiseAsks vars (isMarked (now (marks .entry))) (equationsAt n (now (s .entry)))) ⌝ }
+// 14 and 15 of n equations in their words, equation by equation, with what slots and counts bind.
+pub fn asked_equations(vars: u32, slots: &[u32], uses: &[u32], s: &[u32], n: u32) -> u32
+    ensures { λ r. ⌜ r ≡ firstNo (termwiseAsks vars (boundBy (now (slots .entry)) (now (uses .entry))) (equationsAt n (now (s .entry)))) ⌝ }
 {
     let mut at: usize = 0;
     let mut left = n;
@@ -94,7 +116,7 @@ fn asked_equations(vars: u32, marks: &[u32], s: &[u32], n: u32) -> u32
         if s.len() <= at {
             return 0;
         }
-        let no = asked_terms(vars, marks, s, at + 1, s[at]);
+        let no = asked_terms(vars, slots, uses, s, at + 1, s[at]);
         if no != 0 {
             return no;
         }
@@ -129,6 +151,7 @@ fn validated(
     }
     asked_equations(
         vars,
+        &publics[..0],
         marks,
         held_words(equations, words as usize),
         ins.equations,

@@ -67,7 +67,12 @@ fn share(rng: &mut Rng, state: &mut State, share: Share) -> Share {
             (rel.queries, rel.equations, rel.words) = (rng.edge(), rng.edge(), rng.edge());
         }
         _ => {
-            let stores = [&mut state.slots, &mut state.queries, &mut state.equations];
+            let stores = [
+                &mut state.slots,
+                &mut state.queries,
+                &mut state.equations,
+                &mut state.uses,
+            ];
             for store in stores {
                 if rng.once_in(2) {
                     store.clear();
@@ -89,7 +94,7 @@ pub fn state(rng: &mut Rng, state: &mut State) {
     let (slots, queries) = (state.slots.len() as u32, state.queries.len() as u32);
     let equations = state.equations.len() as u32;
     let rel = &mut state.rel;
-    match rng.below(12) {
+    match rng.below(16) {
         0 => rel.width = width(rng),
         1 => rel.vars_count = near(rng, slots),
         2 => rel.vars_count = near(rng, MAX_COUNT),
@@ -99,21 +104,131 @@ pub fn state(rng: &mut Rng, state: &mut State) {
         6 => rel.words = near(rng, equations),
         7 => rel.words = rng.below(equations as usize + 1) as u32,
         8 => {
-            let store = match rng.below(3) {
+            let store = match rng.below(4) {
                 0 => &mut state.slots,
                 1 => &mut state.queries,
-                _ => &mut state.equations,
+                2 => &mut state.equations,
+                _ => &mut state.uses,
             };
             let len = rng.below(store.len() + 3);
             store.resize(len, DIRT);
         }
         9 => word(rng, &mut state.queries),
         10 => word(rng, &mut state.equations),
+        11 => rel.stray = near(rng, rel.stray),
+        12 => {
+            let len = near_len(rng, state.uses.len());
+            state.uses.resize(len, 0);
+        }
+        13 => word(rng, &mut state.uses),
+        14 => {
+            for count in &mut state.uses {
+                *count = near(rng, *count);
+            }
+        }
         _ => {
             for slot in &mut state.slots {
                 if rng.once_in(3) {
                     *slot = rng.edge();
                 }
+            }
+        }
+    }
+}
+
+/// Counts that a call on these cells has to judge: of some of them such that it just passes or just
+/// fails at 0 or at 2^30, or any word; and now and then a use store of another length.
+pub fn counts(rng: &mut Rng, state: &mut State, cells: &[u32]) {
+    let slots = state.slots.len();
+    let is_stray = |cell: u32| cell as usize >= slots;
+    if rng.once_in(4) {
+        // Where the others are right, 10 is the answer.
+        let len = near_len(rng, state.uses.len());
+        state.uses.resize(len, rng.edge());
+        return;
+    }
+    for _ in 0..rng.between(1, 3) {
+        let cell = if cells.is_empty() {
+            0
+        } else {
+            *rng.pick(cells)
+        };
+        let like = |&&other: &&u32| other == cell || is_stray(other) && is_stray(cell);
+        let times = cells.iter().filter(like).count() as u32;
+        let count = if is_stray(cell) {
+            &mut state.rel.stray
+        } else {
+            match state.uses.get_mut(cell as usize) {
+                Some(count) => count,
+                None => continue,
+            }
+        };
+        *count = match rng.below(10) {
+            0 => times,
+            1 => times.saturating_sub(1),
+            2 => 0,
+            3 => MAX_COUNT - times,
+            4 => MAX_COUNT - times + 1,
+            5 => MAX_COUNT,
+            6 => MAX_COUNT + times,
+            7 => MAX_COUNT + times + 1,
+            8 => near(rng, *count),
+            _ => rng.edge(),
+        };
+    }
+    if rng.once_in(8) {
+        let len = near_len(rng, state.uses.len());
+        state.uses.resize(len, rng.edge());
+    }
+}
+
+/// Counts of wires, allocated or not, that no list of calls leaves there: 13 and 15 go by these.
+pub fn miscount(rng: &mut Rng, state: &mut State) {
+    let count = |rng: &mut Rng| match rng.below(3) {
+        0 => 0,
+        1 => 1,
+        _ => rng.edge(),
+    };
+    for _ in 0..rng.between(1, 6) {
+        let vars = state.rel.vars_count as usize;
+        match rng.below(4) {
+            0 => state.rel.stray = count(rng),
+            1 if vars < state.uses.len() => {
+                let at = rng.between(vars, state.uses.len() - 1);
+                state.uses[at] = count(rng);
+            }
+            _ => {
+                let at = rng.below(vars.clamp(1, 9));
+                if let Some(used) = state.uses.get_mut(at) {
+                    *used = count(rng);
+                }
+            }
+        }
+    }
+}
+
+/// Equations that may end elsewhere than at the used words: by a count, the used words or a word.
+#[cfg(feature = "library")]
+pub fn equations(rng: &mut Rng, state: &mut State) {
+    let rel = &mut state.rel;
+    match rng.below(6) {
+        0 => rel.equations = near(rng, rel.equations),
+        1 => rel.words = near(rng, rel.words),
+        2 => rel.words = rel.words.saturating_sub(2),
+        3 => {
+            let held = (rel.words as usize).min(state.equations.len());
+            word(rng, &mut state.equations[..held]);
+        }
+        4 if !state.equations.is_empty() => {
+            state.equations[0] = near(rng, state.equations[0]);
+        }
+        _ => {
+            // One without terms more, in words that were used or not.
+            rel.equations = rel.equations.wrapping_add(1);
+            rel.words = rel.words.wrapping_add(2);
+            let at = (rel.words as usize).saturating_sub(2);
+            if let Some(count) = state.equations.get_mut(at) {
+                *count = rng.below(2) as u32;
             }
         }
     }

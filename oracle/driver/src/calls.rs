@@ -16,7 +16,9 @@ pub enum Call {
     Tickets(Text),
     Record(Vec<u32>, Vec<u32>),
     Mint(Vec<u32>),
+    WithdrawQuery(u32),
     Equation(Vec<(u32, u32)>, u32),
+    WithdrawEquation(u32),
     Value(u32),
     IsAllocated(u32),
 }
@@ -31,10 +33,16 @@ impl Call {
             Self::Tickets(_) => "tickets",
             Self::Record(..) => "record",
             Self::Mint(_) => "mint",
+            Self::WithdrawQuery(_) => "withdraw query",
             Self::Equation(..) => "equation",
+            Self::WithdrawEquation(_) => "withdraw equation",
             Self::Value(_) => "value",
             Self::IsAllocated(_) => "is allocated",
         }
+    }
+
+    pub const fn is_withdrawal(&self) -> bool {
+        matches!(self, Self::WithdrawQuery(_) | Self::WithdrawEquation(_))
     }
 
     /// What of a set, a set list or a ticket text was fresh, where any of it was accepted: one of
@@ -102,6 +110,7 @@ macro_rules! made {
                         queries: rel.queries,
                         equations: rel.equations,
                         words: rel.words,
+                        stray: rel.stray,
                     },
                     share: None,
                 }
@@ -120,6 +129,7 @@ macro_rules! made {
                         queries: rel.queries,
                         equations: rel.equations,
                         words: rel.words,
+                        stray: rel.stray,
                     },
                     share: Some((allocator.opened, rel.quota, rel.obtained)),
                 }
@@ -153,6 +163,7 @@ macro_rules! called {
                     queries: rel.queries,
                     equations: rel.equations,
                     words: rel.words,
+                    stray: rel.stray,
                 };
                 $side::$alone(rel $(, $argument)*).into()
             }
@@ -163,6 +174,7 @@ macro_rules! called {
                     queries: rel.queries,
                     equations: rel.equations,
                     words: rel.words,
+                    stray: rel.stray,
                     quota: share.quota,
                     obtained: share.obtained,
                 };
@@ -188,10 +200,11 @@ pub struct State {
     pub slots: Vec<u32>,
     pub queries: Vec<u32>,
     pub equations: Vec<u32>,
+    pub uses: Vec<u32>,
 }
 
 impl State {
-    /// Dirty stores of these lengths, and no relation yet.
+    /// Dirty stores of these lengths, with a use count per slot, and no relation yet.
     pub fn sized(slots: usize, queries: usize, equations: usize) -> Self {
         Self {
             rel: Relation::default(),
@@ -199,6 +212,7 @@ impl State {
             slots: vec![DIRT; slots],
             queries: vec![DIRT; queries],
             equations: vec![DIRT; equations],
+            uses: vec![DIRT; slots],
         }
     }
 
@@ -214,21 +228,22 @@ impl State {
 
     /// A new relation over these stores, by the second reading.
     pub fn new_relation(&mut self, width: u32) -> u32 {
-        let answer = reading::new(width, &mut self.slots);
+        let answer = reading::new(width, &mut self.slots, &mut self.uses);
         self.rel = answer.relation;
         answer.number
     }
 
     /// Opens a relation on the allocator, by the second reading.
     pub fn with_allocator(&mut self, width: u32, quota: u32) -> Answer {
-        let answer =
-            reading::with_allocator(allocator!(reading, self), width, quota, &mut self.slots);
+        let allocator = allocator!(reading, self);
+        let (slots, uses) = (&mut self.slots, &mut self.uses);
+        let answer = reading::with_allocator(allocator, width, quota, slots, uses);
         self.keep(answer.into())
     }
 
     /// Runs a call by the second reading.
     pub fn run(&mut self, call: &Call) -> Answer {
-        let (slots, queries) = (&mut self.slots, &mut self.queries);
+        let (slots, queries, uses) = (&mut self.slots, &mut self.queries, &mut self.uses);
         match call {
             Call::Allocate(count) => {
                 let made = called!(
@@ -277,7 +292,9 @@ impl State {
                     self,
                     add_permutation,
                     add_permutation_on,
+                    slots,
                     queries,
+                    uses,
                     input,
                     output
                 );
@@ -291,7 +308,21 @@ impl State {
                     allocate_permutation_on,
                     slots,
                     queries,
+                    uses,
                     input
+                );
+                self.keep(made)
+            }
+            Call::WithdrawQuery(index) => {
+                let made = called!(
+                    reading,
+                    self,
+                    withdraw_query,
+                    withdraw_query_on,
+                    slots,
+                    queries,
+                    uses,
+                    *index
                 );
                 self.keep(made)
             }
@@ -305,6 +336,18 @@ impl State {
                     equations,
                     &terms,
                     *image
+                );
+                self.keep(made)
+            }
+            Call::WithdrawEquation(index) => {
+                let equations = &mut self.equations;
+                let made = called!(
+                    reading,
+                    self,
+                    withdraw_equation,
+                    withdraw_equation_on,
+                    equations,
+                    *index
                 );
                 self.keep(made)
             }

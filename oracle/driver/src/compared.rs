@@ -31,6 +31,37 @@ pub fn holds(what: &str, yes: bool, answer: impl Debug) -> Compared {
     Err(Difference(format!("{what}: {answer:?}")))
 }
 
+/// The gates of relations of which something was withdrawn before, told apart.
+const GATE_AFTER: &str = "gate after withdrawal";
+
+/// The numbers that withdrawals, and gates after them, have to be answered by in a command.
+type Numbers = &'static [(&'static str, &'static [u32])];
+
+/// Where calls alone have made the record.
+const MADE: Numbers = &[
+    ("withdraw query", &[0, 45]),
+    ("withdraw equation", &[0, 45]),
+    (GATE_AFTER, &[0, 13, 15]),
+];
+
+/// Where records and stores go astray too.
+const ASTRAY: Numbers = &[
+    ("withdraw query", &[0, 10, 11, 45]),
+    ("withdraw equation", &[0, 11, 45]),
+    ("record", &[0, 10, 11]),
+    ("mint", &[0, 10, 11]),
+    (GATE_AFTER, &[0, 13, 15]),
+];
+
+/// The numbers that have to be seen in a command.
+fn expected(command: &str) -> Numbers {
+    match command {
+        "self" | "whole" => MADE,
+        "relation" | "shared" => ASTRAY,
+        _ => &[],
+    }
+}
+
 /// What a run has seen: how often each call answered each number, and how often what of a set, a
 /// set list or a ticket text was fresh.
 #[derive(Default)]
@@ -46,6 +77,14 @@ impl Seen {
         self.total += 1;
     }
 
+    /// A gate, and whether anything was withdrawn from the relation before it.
+    pub fn gated(&mut self, number: u32, struck: bool) {
+        self.answered("gate", number);
+        if struck {
+            *self.answers.entry((GATE_AFTER, number)).or_default() += 1;
+        }
+    }
+
     /// A call on a relation and its answer.
     pub fn called(&mut self, call: &Call, answer: &Answer) {
         self.answered(call.name(), answer.number);
@@ -55,15 +94,27 @@ impl Seen {
         }
     }
 
-    /// A kind of set, set list or ticket text that was never seen, where others of it were.
-    pub fn missing(&self) -> Option<String> {
+    /// A kind of set, set list or ticket text that was never seen, where others of it were, or a
+    /// number of a withdrawal, or of a gate after one.
+    pub fn missing(&self, command: &str) -> Option<String> {
         let kinds = |name| if name == "set" { SET_KINDS } else { LIST_KINDS };
         let mut missing = self.sets.iter().flat_map(|(&name, seen)| {
             let kinds = kinds(name).iter();
             let missing = kinds.filter(|kind| !seen.contains_key(*kind));
             missing.map(move |kind| format!("{name}: {kind}"))
         });
-        missing.next()
+        missing.next().or_else(|| self.unanswered(command))
+    }
+
+    /// A number that the command has to see and didn't.
+    fn unanswered(&self, command: &str) -> Option<String> {
+        let numbers = expected(command).iter();
+        let numbers =
+            numbers.flat_map(|&(name, numbers)| numbers.iter().map(move |&number| (name, number)));
+        let mut missing = numbers.filter(|key| !self.answers.contains_key(key));
+        missing
+            .next()
+            .map(|(name, number)| format!("{name}: {number}"))
     }
 
     /// One line per call: its answers, and how often each was given.

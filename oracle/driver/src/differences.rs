@@ -75,7 +75,7 @@ fn a_ninth_relation_and_a_wire_beyond_the_quota() {
     for index in 0..9 {
         let relation = source::with_allocator(1, &source);
         assert_eq!(relation.allocate_vars(1), Some(vec![index + 1]));
-        let opened = reading::with_allocator(allocator, 1, 0, &mut slots);
+        let opened = reading::with_allocator(allocator, 1, 0, &mut slots, &mut [0; 4]);
         assert_eq!(opened.number, if index < 8 { 0 } else { 42 });
         allocator = opened.allocator;
         if opened.number == 0 {

@@ -2,7 +2,7 @@
 
 use std::collections::BTreeSet;
 
-use reading::{MAX_COUNT, P, TICKET_LINE, UNASSIGNED};
+use reading::{MAX_COUNT, P, UNASSIGNED};
 use source::{Params, Parts};
 
 use crate::{
@@ -34,8 +34,8 @@ pub struct Generator {
     pub params: Params,
     /// The unit of each wire, in an honest list.
     pub table: Vec<u32>,
-    /// Wires that a set or a query names, in an honest list.
-    known: BTreeSet<u32>,
+    /// Whether a query or an equation of the list has been withdrawn.
+    pub struck: bool,
 }
 
 impl Generator {
@@ -59,7 +59,7 @@ impl Generator {
             width,
             params,
             table: vec![0],
-            known: BTreeSet::from([0]),
+            struck: false,
         }
     }
 
@@ -97,7 +97,7 @@ impl Generator {
 
     /// A call that fits the mood, for a relation in this state.
     pub fn call(&mut self, state: &State) -> Call {
-        match self.rng.below(23) {
+        match self.rng.below(27) {
             0..=2 => Call::Allocate(self.count(state)),
             3 => self.allocate_with(),
             4..=6 => {
@@ -110,7 +110,66 @@ impl Generator {
             15 | 16 => Call::Mint(self.vars(state)),
             17..=20 => self.equation(state),
             21 => Call::Value(self.var(state)),
-            _ => Call::IsAllocated(self.var(state)),
+            22 => Call::IsAllocated(self.var(state)),
+            23 | 24 if state.rel.queries > 0 || self.rng.once_in(4) => {
+                Call::WithdrawQuery(self.index(state.rel.queries))
+            }
+            25 | 26 if state.rel.equations > 0 || self.rng.once_in(4) => {
+                Call::WithdrawEquation(self.index(state.rel.equations))
+            }
+            23 | 24 => Call::Mint(self.vars(state)),
+            _ => self.equation(state),
+        }
+    }
+
+    /// The number of an item, of which there are so many: most often of one that is there.
+    pub fn index(&mut self, count: u32) -> u32 {
+        let rng = &mut self.rng;
+        match rng.below(12) {
+            0 => count,
+            1 if self.mood == Mood::Wild => rng.edge(),
+            2 => u32::MAX,
+            3 | 4 => count.saturating_sub(1),
+            5 | 6 => 0,
+            _ => rng.below(count.clamp(1, 1000) as usize) as u32,
+        }
+    }
+
+    /// A call that changes use counts and that every question before 11 lets pass, where the state
+    /// does: a query recorded, minted or withdrawn; and its cells.
+    #[cfg(feature = "library")]
+    pub fn counted_call(&mut self, state: &State) -> (Call, Vec<u32>) {
+        let (rel, width) = (state.rel, state.rel.width.clamp(1, 24));
+        let vars = |generator: &mut Self| -> Vec<u32> {
+            let slots = state.slots.len() as u32;
+            let last = generator.rng.below(4) as u32;
+            let var = |rng: &mut Rng| match rng.below(6) {
+                0 => slots.saturating_sub(1) + rng.below(2) as u32,
+                1 => rng.below(slots.max(1) as usize) as u32,
+                2 => MAX_COUNT - 1,
+                _ => last,
+            };
+            (0..width).map(|_| var(&mut generator.rng)).collect()
+        };
+        let held = (state.queries.len() as u32 / (2 * width)).min(rel.queries);
+        match self.rng.below(if held == 0 { 2 } else { 4 }) {
+            0 => {
+                let (input, output) = (vars(self), vars(self));
+                let cells = [&input[..], &output].concat();
+                (Call::Record(input, output), cells)
+            }
+            1 => {
+                let input = vars(self);
+                let outputs = (0..width).map(|i| rel.vars_count.wrapping_add(i));
+                let cells = input.iter().copied().chain(outputs).collect();
+                (Call::Mint(input), cells)
+            }
+            _ => {
+                let index = self.rng.below(held as usize);
+                let size = 2 * width as usize;
+                let cells = state.queries.chunks(size).nth(index).unwrap_or(&[]);
+                (Call::WithdrawQuery(index as u32), cells.to_vec())
+            }
         }
     }
 
@@ -123,8 +182,10 @@ impl Generator {
         call
     }
 
-    /// Follows an honest list: what the wires of an accepted call are worth.
+    /// Follows a list: whether anything was withdrawn and, in an honest one, what the wires of an
+    /// accepted call are worth.
     pub fn note(&mut self, call: &Call, answer: &Answer) {
+        self.struck |= call.is_withdrawal() && answer.number == 0;
         if self.mood != Mood::Honest || answer.number != 0 {
             return;
         }
@@ -135,44 +196,20 @@ impl Generator {
                     self.table.push(value);
                 }
             }
-            Call::AllocateWith(values) => {
-                let first = self.table.len() as u32;
-                self.known.extend(first..first + values.len() as u32);
-                self.table.extend(values);
-            }
-            Call::Set(var, _) => {
-                self.known.insert(*var);
-            }
-            Call::SetList(vars, _) => self.known.extend(vars),
-            Call::Tickets(text) => {
-                let pairs = text.0.chunks(TICKET_LINE).flat_map(reading::ticket);
-                self.known.extend(pairs.map(|(var, _)| var));
-            }
-            Call::Record(input, output) => {
-                self.known.extend(input);
-                self.known.extend(output);
-            }
+            Call::AllocateWith(values) => self.table.extend(values),
             Call::Mint(input) => {
                 let values = self.values(input);
-                let first = self.table.len() as u32;
-                self.known.extend(input);
-                self.known.extend(first..first + self.width);
                 self.table.extend(self.params.permute(&values));
             }
-            Call::Equation(..) | Call::Value(_) | Call::IsAllocated(_) => {}
+            _ => {}
         }
     }
 
-    /// Follows what others have done to the wires of a shared allocator: what these are worth,
-    /// and which of them are set.
-    pub fn hear(&mut self, table: &[u32], state: &State) {
-        if self.mood != Mood::Honest {
-            return;
+    /// Follows what others have done to the wires of a shared allocator: what these are worth.
+    pub fn hear(&mut self, table: &[u32]) {
+        if self.mood == Mood::Honest {
+            self.table = table.to_vec();
         }
-        self.table = table.to_vec();
-        let (slots, ..) = state.held();
-        let set = (0..).zip(slots).filter(|(_, &slot)| slot != UNASSIGNED);
-        self.known.extend(set.map(|(var, _)| var));
     }
 
     /// What the wires carry by the table; 1 where it has none.
@@ -254,6 +291,11 @@ impl Generator {
         } else {
             width
         };
+        if self.mood == Mood::Wild && self.rng.once_in(3) {
+            // No word that is no wire: allocated ones, and some that aren't.
+            let last = state.rel.vars_count.clamp(1, 1000) as usize + 8;
+            return (0..len).map(|_| self.rng.below(last) as u32).collect();
+        }
         (0..len).map(|_| self.var(state)).collect()
     }
 
@@ -372,7 +414,7 @@ impl Generator {
             let terms = terms.collect();
             return Call::Equation(terms, self.unit());
         }
-        let known: Vec<u32> = self.known.iter().copied().collect();
+        let known = known(state);
         let mut image = 0;
         let mut terms = Vec::new();
         for _ in 0..len {
@@ -383,6 +425,14 @@ impl Generator {
         }
         Call::Equation(terms, image as u32)
     }
+}
+
+/// The wires that a set or a held query names, of a relation that honest calls alone have made.
+fn known(state: &State) -> Vec<u32> {
+    let (slots, queries, _) = state.held();
+    let set = (0..).zip(slots).filter(|(_, &slot)| slot != UNASSIGNED);
+    let known = set.map(|(var, _)| var).chain(queries.iter().copied());
+    known.collect::<BTreeSet<u32>>().into_iter().collect()
 }
 
 /// A sheet of few rounds, or of as many as there may be.

@@ -1,5 +1,7 @@
 //! An instance's record and its stores, with the second reading's calls on them.
 
+use std::collections::BTreeSet;
+
 use reading::{Instance, InstanceAnswer, Trace};
 use source::{Params, Parts};
 
@@ -49,8 +51,12 @@ pub fn compile(
     publics: &mut [u32],
     scratch: &mut [u32],
 ) -> InstanceAnswer {
-    let (slots, queries, equations) = (&state.slots, &state.queries, &state.equations);
-    called!(reading, state, compile, compile_on, label, slots, queries, equations, publics, scratch)
+    let (slots, queries) = (&state.slots, &state.queries);
+    let (equations, uses) = (&state.equations, &state.uses);
+    called!(
+        reading, state, compile, compile_on, label, slots, queries, equations, uses, publics,
+        scratch
+    )
 }
 
 /// The gate on a relation, in so much room.
@@ -137,6 +143,23 @@ impl Held {
             &self.queries[..cells],
             &self.equations[..self.ins.words as usize],
         )
+    }
+
+    /// What the check says of an honest list's gated instance and its trace: yes or, where a
+    /// withdrawn query alone named the wire of a term, which then has weight 0, 34.
+    pub fn honest_number(&self) -> u32 {
+        let (publics, queries, equations) = self.words();
+        let publics = publics.iter().step_by(2);
+        let known: BTreeSet<u32> = publics.chain(queries).copied().collect();
+        let mut rest = equations;
+        while let Some((&terms, after)) = rest.split_first() {
+            let (terms, after) = after.split_at(2 * terms as usize);
+            if terms.chunks(2).any(|term| !known.contains(&term[0])) {
+                return 34;
+            }
+            rest = &after[1..];
+        }
+        0
     }
 
     /// An SFRI write into so many bytes: the number and the bytes written.

@@ -13,7 +13,7 @@ use source::{Allocator, Relation};
 
 use crate::{
     against_source::calls,
-    calls::{Answer, Call, State},
+    calls::{Answer, Call, State, DIRT},
     compared::{holds, same, Compared, Log, Outcome},
     generate::{Generator, Mood},
     rng::Rng,
@@ -92,7 +92,8 @@ impl Plant {
             _ if opened == 0 => self.open(side),
             0..=2 => self.open(side),
             3 => self.unopened(side),
-            4 => {
+            // An honest list's gate is followed by much else.
+            4 | 5 if self.mood != Mood::Honest || self.rng.once_in(3) => {
                 let index = self.rng.below(opened);
                 self.judge(index, side)
             }
@@ -119,8 +120,8 @@ impl Plant {
         answer
     }
 
-    /// A state that no relation has yet, under this number.
-    fn stray(generator: &mut Generator, index: u32) -> State {
+    /// A state that no relation has yet, under this number, with a use count per slot.
+    fn unopened_state(&self, generator: &mut Generator, index: u32) -> State {
         let stores = generator.state();
         State {
             rel: Record::default(),
@@ -131,6 +132,7 @@ impl Plant {
                 obtained: 0,
             }),
             slots: Vec::new(),
+            uses: vec![DIRT; self.slots.len()],
             ..stores
         }
     }
@@ -147,7 +149,7 @@ impl Plant {
             _ => self.rng.between(20, 200) as u32,
         };
         let opened = self.allocator.opened;
-        let mut state = Self::stray(&mut generator, opened);
+        let mut state = self.unopened_state(&mut generator, opened);
         side.log()
             .say(|| format!("Open({width}, {quota}) on {:?}", self.allocator));
         let answer = self.lend(&mut state, |state| {
@@ -176,7 +178,7 @@ impl Plant {
         };
         let mut generator = Generator::new(Rng::new(self.rng.next()));
         generator.mood = Mood::Tame;
-        let mut state = Self::stray(&mut generator, index);
+        let mut state = self.unopened_state(&mut generator, index);
         state.rel.width = generator.width;
         let answer = self.lend(&mut state, |state| {
             let call = generator.call(state);
@@ -197,7 +199,7 @@ impl Plant {
     fn lend_to(
         &mut self,
         index: usize,
-        body: impl FnOnce(&mut State, &mut Generator, &dyn Relation) -> Compared,
+        body: impl FnOnce(&mut State, &mut Generator, &mut Box<dyn Relation>) -> Compared,
     ) -> Compared {
         let (mut mixers, table) = (take(&mut self.mixers), take(&mut self.table));
         let Mixer {
@@ -206,8 +208,8 @@ impl Plant {
             relation,
         } = &mut mixers[index];
         self.lend(state, |state| {
-            generator.hear(&table, state);
-            body(state, generator, &**relation)
+            generator.hear(&table);
+            body(state, generator, relation)
         })?;
         self.table = match self.mood {
             Mood::Honest => generator.table.clone(),
@@ -217,25 +219,31 @@ impl Plant {
         self.compare()
     }
 
-    /// A call of an opened relation.
+    /// A call of an opened relation; its gate follows an accepted withdrawal, in an honest list every third.
     fn call(&mut self, index: usize, side: &mut impl Side) -> Compared {
         let spelling = self.rng.below(3);
+        let mut struck = false;
         self.lend_to(index, |state, generator, relation| {
             side.astray(generator, state)?;
             let call = generator.call(state);
             side.log().say(|| format!("{call:?} of {index}"));
             let answer = side.call(state, &call)?;
-            calls::compare(&call, &answer, generator.width, relation, spelling)?;
+            calls::compare(&call, &answer, generator.width, relation, false, spelling)?;
             generator.note(&call, &answer);
+            struck = call.is_withdrawal() && answer.number == 0;
             Ok(())
-        })
+        })?;
+        if struck && (self.mood != Mood::Honest || self.rng.once_in(3)) {
+            return self.judge(index, side);
+        }
+        Ok(())
     }
 
     /// The gate of an opened relation, and what follows it.
     fn judge(&mut self, index: usize, side: &mut impl Side) -> Compared {
         side.log().say(|| format!("relation {index}"));
         self.lend_to(index, |state, generator, relation| {
-            side.judge(generator, state, relation)
+            side.judge(generator, state, &**relation)
         })
     }
 

@@ -31,16 +31,16 @@ use case::{Case, FIRST, FIRST_AFTER, TEXT};
 /// Random cases of leaves, of scans for UTF-8, of calls on a relation, of tickets and each call on a
 /// trace, of each call on an instance, of calls on a shared allocator, and of states behind a digest,
 /// where no count is given: with the fixed ones they stay below 1 MiB.
-const LEAVES: u64 = 2_500;
+const LEAVES: u64 = 1_600;
 const SCANS: u64 = 120;
-const RELATIONS: u64 = 1_000;
-const TRACES: u64 = 120;
-const INSTANCES: u64 = 200;
-const SHARED: u64 = 160;
-const INVERSES: u64 = 110;
+const RELATIONS: u64 = 900;
+const TRACES: u64 = 100;
+const INSTANCES: u64 = 150;
+const SHARED: u64 = 180;
+const INVERSES: u64 = 80;
 
 /// What the cases of an operation are.
-const OPERATIONS: [(u32, &str); 31] = [
+const OPERATIONS: [(u32, &str); 33] = [
     (1, "sums"),
     (2, "products"),
     (3, "texts"),
@@ -65,6 +65,8 @@ const OPERATIONS: [(u32, &str); 31] = [
     (24, "reads of SFRW"),
     (25, "permuted states"),
     (26, "states behind a digest"),
+    (27, "withdrawn queries"),
+    (28, "withdrawn equations"),
     (30, "calls on a shared allocator"),
     (31, "gates"),
     (32, "writes of SFRI"),
@@ -143,6 +145,7 @@ pub fn run(options: &Options) -> bool {
         sample.random_scaled(&mut more);
         sample.random_tickets(&mut tickets);
     }
+    sample.fixed_gates();
     for _ in 0..options.count.unwrap_or(INSTANCES) {
         sample.random_instance(&mut rng, &mut writes, &mut more);
         sample.random_heading(&mut more);

@@ -7,12 +7,14 @@ use crate::{
         ask, ask_opened, ask_room_for_vars, ask_slots, ask_vars, is_store, is_unit, is_var,
         is_width, number_of, Asked,
     },
+    uses::ask_length,
     Flag, On, Relation, RelationAnswer, SetAnswer, Tally, Value, UNASSIGNED,
 };
 
-/// A relation with one wire, which has the value 0 (01: fresh). Questions 1, 2, 6.
-pub fn new(width: u32, slots: &mut [u32]) -> RelationAnswer {
-    match ask_new(width, slots) {
+/// A relation with one wire, which has the value 0 (01: fresh), and no query that uses any (02,
+/// Questions 1, 2, 6, 10.
+pub fn new(width: u32, slots: &mut [u32], uses: &mut [u32]) -> RelationAnswer {
+    match ask_new(width, slots, uses) {
         Err(number) => RelationAnswer {
             number,
             first: 0,
@@ -20,6 +22,7 @@ pub fn new(width: u32, slots: &mut [u32]) -> RelationAnswer {
         },
         Ok(()) => {
             slots[0] = 0;
+            uses.fill(0);
             let relation = Relation {
                 width,
                 vars_count: 1,
@@ -34,10 +37,11 @@ pub fn new(width: u32, slots: &mut [u32]) -> RelationAnswer {
     }
 }
 
-fn ask_new(width: u32, slots: &[u32]) -> Asked {
+fn ask_new(width: u32, slots: &[u32], uses: &[u32]) -> Asked {
     ask(1, is_width(width))?;
-    ask(2, is_store(slots))?;
-    ask(6, !slots.is_empty())
+    ask(2, is_store(slots) && is_store(uses))?;
+    ask(6, !slots.is_empty())?;
+    ask_length(slots, uses)
 }
 
 /// The next `count` wires, unassigned (01: allocate). Questions 1, 2, 5, 6.

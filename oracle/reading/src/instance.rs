@@ -7,6 +7,7 @@ use crate::{
     questions::{
         ask, ask_opened, ask_slots, fits, is_store, is_unit, is_var, is_width, number_of, Asked,
     },
+    uses::ask_length,
     Instance, On, Relation, Value, UNASSIGNED,
 };
 
@@ -18,21 +19,31 @@ pub struct InstanceAnswer {
 }
 
 /// The gate: the assigned wires become the publics, and queries and equations are taken as
-/// held. Questions 1, 2, 11, 10, 16, then 12 to 15. `publics` is written over its whole
+/// held. Questions 1, 2, 11, 10, 16, then 12 to 15, of which 13 and 15 are taken from the use
+/// counts and the stray count, whatever these are (02, R-6). `publics` is written over its whole
 /// length, also by a refusal, and scratch is left all 0.
+#[allow(clippy::too_many_arguments)]
 pub fn compile(
     on: impl Into<On>,
     label: &[u8],
     slots: &[u32],
     queries: &[u32],
     equations: &[u32],
+    uses: &[u32],
     publics: &mut [u32],
     scratch: &mut [u32],
 ) -> InstanceAnswer {
     let on = on.into();
     publics.fill(0);
     scratch.fill(0);
-    match ask_compile(&on, label, slots, queries, equations, publics, scratch) {
+    let lent = Lent {
+        label,
+        slots,
+        queries,
+        equations,
+        uses,
+    };
+    match ask_compile(&on, &lent, publics, scratch) {
         Err(number) => InstanceAnswer {
             number,
             instance: Instance::default(),
@@ -62,20 +73,28 @@ fn without_publics(rel: &Relation) -> Instance {
     }
 }
 
-fn ask_compile(
-    on: &On,
-    label: &[u8],
-    slots: &[u32],
-    queries: &[u32],
-    equations: &[u32],
-    publics: &[u32],
-    scratch: &[u32],
-) -> Result<Parts, u32> {
+/// What a gate only reads.
+struct Lent<'a> {
+    label: &'a [u8],
+    slots: &'a [u32],
+    queries: &'a [u32],
+    equations: &'a [u32],
+    uses: &'a [u32],
+}
+
+fn ask_compile(on: &On, lent: &Lent<'_>, publics: &[u32], scratch: &[u32]) -> Result<Parts, u32> {
     let rel = &on.rel;
     let ins = without_publics(rel);
+    let Lent {
+        label,
+        slots,
+        queries,
+        equations,
+        uses,
+    } = *lent;
     ask_slots(on, slots)?;
     ask_sizes(&ins, label, publics, queries, equations)?;
-    ask(2, is_store(scratch))?;
+    ask(2, is_store(uses) && is_store(scratch))?;
     ask_opened(on)?;
 
     let allocated = &slots[..rel.vars_count as usize];
@@ -90,20 +109,44 @@ fn ask_compile(
         publics: assigned.collect(),
         ..held
     };
+    ask_length(slots, uses)?;
     ask(10, fits(parts.publics.len() as u32, 2, publics))?;
     ask(16, fits(rel.vars_count, 1, scratch))?;
-    ask_validated(rel.vars_count, &parts)?;
+    ask_counted(rel, &parts, uses)?;
     Ok(parts)
 }
 
-/// 12 to 15, in that order but for 14 and 15, which are put term by term. A wire is bound
+/// 12 to 15 of a relation's gate. 12 has no no: its publics are wires of the relation. 13 and 15
+/// are taken from the counts alone: nobody uses a wire that isn't allocated; and a wire is bound
+/// that is public or used.
+fn ask_counted(rel: &Relation, parts: &Parts, uses: &[u32]) -> Asked {
+    let used: BTreeSet<u32> = (0..)
+        .zip(uses)
+        .filter(|&(_, &count)| count > 0)
+        .map(|(var, _)| var)
+        .collect();
+    let beyond = used.range(rel.vars_count..).next();
+    ask(13, rel.stray == 0 && beyond.is_none())?;
+    let publics = parts.publics.iter().map(|&(var, _)| var);
+    ask_terms(
+        rel.vars_count,
+        parts,
+        &used.into_iter().chain(publics).collect(),
+    )
+}
+
+/// 12 to 15 of parts, in that order but for 14 and 15, which are put term by term. A wire is bound
 /// by a public or by a query, whichever; an equation binds none.
 pub fn ask_validated(vars_count: u32, parts: &Parts) -> Asked {
     let publics = parts.publics.iter().map(|&(var, _)| var);
     let cells = parts.queries.iter().flatten().copied();
     ask(12, publics.clone().all(|var| var < vars_count))?;
     ask(13, cells.clone().all(|var| var < vars_count))?;
-    let bound: BTreeSet<u32> = publics.chain(cells).collect();
+    ask_terms(vars_count, parts, &publics.chain(cells).collect())
+}
+
+/// 14 and 15, term by term.
+fn ask_terms(vars_count: u32, parts: &Parts, bound: &BTreeSet<u32>) -> Asked {
     for equation in &parts.equations {
         for term in &equation.terms {
             ask(14, term.var < vars_count)?;

@@ -20,7 +20,9 @@ mod questions;
 mod relation;
 mod shared;
 mod ticket;
+mod uses;
 mod utf8;
+mod withdraw;
 mod witness;
 
 #[cfg(test)]
@@ -37,22 +39,25 @@ pub use inverse::permute_inverse;
 pub use relation::{add_equation, add_permutation, allocate_permutation, scale};
 pub use shared::{
     add_equation_on, add_permutation_on, allocate_permutation_on, allocate_vars_on, compile_on,
-    is_allocated_on, set_tickets_on, set_var_on, set_vars_on, value_on, with_allocator, On, Share,
-    SharedAnswer, SharedRelation, VarAllocator, MAX_RELATIONS,
+    is_allocated_on, set_tickets_on, set_var_on, set_vars_on, value_on, with_allocator,
+    withdraw_equation_on, withdraw_query_on, On, Share, SharedAnswer, SharedRelation, VarAllocator,
+    MAX_RELATIONS,
 };
 pub use ticket::{set_tickets, ticket, TICKET_LINE};
+pub use uses::counted;
 pub use utf8::{is_utf8, scan_utf8, Utf8Scan};
+pub use withdraw::{withdraw_equation, withdraw_query};
 pub use witness::{append_step, evaluate_step, is_witness_valid, permute, Params};
 
 /// The order of the field: a unit is a word below it.
 pub const P: u32 = 2_013_265_921;
 /// The mark of an unassigned wire in its slot (01: F).
 pub const UNASSIGNED: u32 = u32::MAX;
-/// How many wires a relation and how many words a lent store may have; a wire is a word
-/// below it.
+/// How many wires a relation and how many words a lent store may have, and the most that a use
+/// count or a stray count is changed to; a wire is a word below it.
 pub const MAX_COUNT: u32 = 1 << 30;
 
-/// A relation's record: its width and four counts.
+/// A relation's record: its width and five counts.
 #[derive(Clone, Copy, Debug, Default, PartialEq, Eq)]
 pub struct Relation {
     pub width: u32,
@@ -61,6 +66,8 @@ pub struct Relation {
     pub equations: u32,
     /// The used words of the equation store.
     pub words: u32,
+    /// The cells of held queries that name no slot's wire (02, R-6).
+    pub stray: u32,
 }
 
 /// An instance's record: a relation's, and the count of its publics.

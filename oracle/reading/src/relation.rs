@@ -7,6 +7,7 @@ use crate::{
         are_vars, ask, ask_opened, ask_room_for_vars, ask_slots, ask_vars, equations_fit, fits,
         is_list, is_store, is_unit, is_var, is_width, Asked,
     },
+    uses::{ask_length, Cells, Counts},
     On, Relation, RelationAnswer, Weighted, UNASSIGNED,
 };
 
@@ -18,38 +19,65 @@ fn refused(number: u32, relation: Relation) -> RelationAnswer {
     }
 }
 
-/// Stores a query; its wires needn't be allocated (01: record). Questions 1, 2, 9, 3, 10.
+/// Stores a query; its wires needn't be allocated (01: record). Its cells join the counts (02,
+/// Questions 1, 2, 9, 3, 11, 10.
 pub fn add_permutation(
     on: impl Into<On>,
+    slots: &[u32],
     queries: &mut [u32],
+    uses: &mut [u32],
     input: &[u32],
     output: &[u32],
 ) -> RelationAnswer {
     let on @ On { rel, .. } = on.into();
-    if let Err(number) = ask_add_permutation(&on, queries, input, output) {
-        return refused(number, rel);
-    }
+    let counts = match ask_add_permutation(&on, slots, queries, uses, input, output) {
+        Err(number) => return refused(number, rel),
+        Ok(counts) => counts,
+    };
     push_query(&rel, queries, input, output);
     RelationAnswer {
         number: 0,
         first: 0,
         relation: Relation {
             queries: rel.queries + 1,
+            stray: counts.write(uses, rel.stray),
             ..rel
         },
     }
 }
 
-fn ask_add_permutation(on: &On, queries: &[u32], input: &[u32], output: &[u32]) -> Asked {
+fn ask_add_permutation(
+    on: &On,
+    slots: &[u32],
+    queries: &[u32],
+    uses: &[u32],
+    input: &[u32],
+    output: &[u32],
+) -> Result<Counts, u32> {
     let rel = &on.rel;
-    ask(1, is_width(rel.width))?;
-    ask(2, is_store(queries) && is_store(input) && is_store(output))?;
-    ask_vars(on, None)?;
+    ask_slots(on, slots)?;
+    ask(2, is_store(queries) && is_store(uses))?;
+    ask(2, is_store(input) && is_store(output))?;
     ask(2, queries_fit(rel, queries))?;
     ask_opened(on)?;
     ask(9, is_list(rel.width, input) && is_list(rel.width, output))?;
     ask(3, are_vars(input) && are_vars(output))?;
-    ask_room_for_query(rel, queries)
+    ask_counts(on, slots, queries, uses, &[input, output].concat())
+}
+
+/// 11 and 10 of a query that is to be stored: the counts that its cells make, where both say yes.
+fn ask_counts(
+    on: &On,
+    slots: &[u32],
+    queries: &[u32],
+    uses: &[u32],
+    cells: &[u32],
+) -> Result<Counts, u32> {
+    let counts = Counts::after(Cells::Join, cells, slots.len(), uses, on.rel.stray);
+    counts.ask()?;
+    ask_length(slots, uses)?;
+    ask_room_for_query(&on.rel, queries)?;
+    Ok(counts)
 }
 
 fn queries_fit(rel: &Relation, queries: &[u32]) -> bool {
@@ -68,25 +96,28 @@ fn push_query(rel: &Relation, queries: &mut [u32], input: &[u32], output: &[u32]
     queries[place + width..place + 2 * width].copy_from_slice(output);
 }
 
-/// Allocates the outputs and stores the query, or does neither (01: mint). Questions 1, 2,
-/// 9, 3, 5, 6, 10.
+/// Allocates the outputs and stores the query, or does neither (01: mint). Its cells join the
+/// counts (02, R-6). Questions 1, 2, 9, 3, 5, 6, 11, 10.
 pub fn allocate_permutation(
     on: impl Into<On>,
     slots: &mut [u32],
     queries: &mut [u32],
+    uses: &mut [u32],
     input: &[u32],
 ) -> RelationAnswer {
     let on @ On { rel, .. } = on.into();
-    if let Err(number) = ask_allocate_permutation(&on, slots, queries, input) {
-        return refused(number, rel);
-    }
+    let counts = match ask_allocate_permutation(&on, slots, queries, uses, input) {
+        Err(number) => return refused(number, rel),
+        Ok(counts) => counts,
+    };
     let first = rel.vars_count;
     let relation = Relation {
         vars_count: first + rel.width,
         queries: rel.queries + 1,
+        stray: counts.write(uses, rel.stray),
         ..rel
     };
-    let output: Vec<u32> = (first..relation.vars_count).collect();
+    let output: Vec<u32> = outputs(&rel).collect();
     slots[first as usize..relation.vars_count as usize].fill(UNASSIGNED);
     push_query(&rel, queries, input, &output);
     RelationAnswer {
@@ -96,16 +127,28 @@ pub fn allocate_permutation(
     }
 }
 
-fn ask_allocate_permutation(on: &On, slots: &[u32], queries: &[u32], input: &[u32]) -> Asked {
+/// The wires that a mint of this relation allocates.
+fn outputs(rel: &Relation) -> impl Iterator<Item = u32> {
+    rel.vars_count..rel.vars_count + rel.width
+}
+
+fn ask_allocate_permutation(
+    on: &On,
+    slots: &[u32],
+    queries: &[u32],
+    uses: &[u32],
+    input: &[u32],
+) -> Result<Counts, u32> {
     let rel = &on.rel;
     ask_slots(on, slots)?;
-    ask(2, is_store(queries) && is_store(input))?;
-    ask(2, queries_fit(rel, queries))?;
+    ask(2, is_store(queries) && is_store(uses))?;
+    ask(2, is_store(input) && queries_fit(rel, queries))?;
     ask_opened(on)?;
     ask(9, is_list(rel.width, input))?;
     ask(3, are_vars(input))?;
     ask_room_for_vars(on, slots, rel.width)?;
-    ask_room_for_query(rel, queries)
+    let cells: Vec<u32> = input.iter().copied().chain(outputs(rel)).collect();
+    ask_counts(on, slots, queries, uses, &cells)
 }
 
 /// Stores an equation, its terms in order, repeats and zero weights kept (01: equation).

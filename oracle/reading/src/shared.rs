@@ -8,7 +8,9 @@
 use crate::{
     add_equation, add_permutation, allocate_permutation, allocate_vars, compile, is_allocated, new,
     questions::{ask, ask_vars, is_store, is_width, Asked},
-    set_tickets, set_var, set_vars, value, Flag, InstanceAnswer, Relation, RelationAnswer,
+    set_tickets, set_var, set_vars,
+    uses::ask_length,
+    value, withdraw_equation, withdraw_query, Flag, InstanceAnswer, Relation, RelationAnswer,
     SetAnswer, Tally, TicketTally, Value, Weighted,
 };
 
@@ -31,6 +33,8 @@ pub struct SharedRelation {
     pub equations: u32,
     /// The used words of the equation store.
     pub words: u32,
+    /// The cells of held queries that name no slot's wire (02, R-6).
+    pub stray: u32,
     pub quota: u32,
     pub obtained: u32,
 }
@@ -78,6 +82,7 @@ fn on(allocator: VarAllocator, index: u32, rel: SharedRelation) -> On {
             queries: rel.queries,
             equations: rel.equations,
             words: rel.words,
+            stray: rel.stray,
         },
         share: Some(Share {
             index,
@@ -103,6 +108,7 @@ fn shared(allocator: VarAllocator, rel: SharedRelation, answer: RelationAnswer) 
             queries: made.queries,
             equations: made.equations,
             words: made.words,
+            stray: made.stray,
             obtained: rel.obtained + (made.vars_count - allocator.vars_count),
             ..rel
         },
@@ -110,15 +116,16 @@ fn shared(allocator: VarAllocator, rel: SharedRelation, answer: RelationAnswer) 
 }
 
 /// Opens a relation, which is answered by its number: how many were opened before. The first
-/// opening does to slots and count what fresh does, a later one leaves both. Questions 1, 2,
-/// 42, 6.
+/// opening does to slots and count what fresh does, a later one leaves both. Every one fills its
+/// own use store with 0 (02, R-6). Questions 1, 2, 42, 6, 10.
 pub fn with_allocator(
     allocator: VarAllocator,
     width: u32,
     quota: u32,
     slots: &mut [u32],
+    uses: &mut [u32],
 ) -> SharedAnswer {
-    if let Err(number) = ask_with_allocator(allocator, width, slots) {
+    if let Err(number) = ask_with_allocator(allocator, width, slots, uses) {
         return SharedAnswer {
             number,
             first: 0,
@@ -127,9 +134,10 @@ pub fn with_allocator(
         };
     }
     let vars_count = match allocator.opened {
-        0 => new(width, slots).relation.vars_count,
+        0 => new(width, slots, uses).relation.vars_count,
         _ => allocator.vars_count,
     };
+    uses.fill(0);
     SharedAnswer {
         number: 0,
         first: allocator.opened,
@@ -145,12 +153,13 @@ pub fn with_allocator(
     }
 }
 
-fn ask_with_allocator(allocator: VarAllocator, width: u32, slots: &[u32]) -> Asked {
+fn ask_with_allocator(allocator: VarAllocator, width: u32, slots: &[u32], uses: &[u32]) -> Asked {
     ask(1, is_width(width))?;
-    ask(2, is_store(slots))?;
+    ask(2, is_store(slots) && is_store(uses))?;
     ask_vars(&on(allocator, 0, SharedRelation::default()), Some(slots))?;
     ask(42, allocator.opened < MAX_RELATIONS)?;
-    ask(6, !slots.is_empty())
+    ask(6, !slots.is_empty())?;
+    ask_length(slots, uses)
 }
 
 /// Allocate. Questions 1, 2, 42, 5, 43, 6.
@@ -200,29 +209,48 @@ pub fn set_tickets_on(
     set_tickets(on(allocator, index, rel), slots, text)
 }
 
-/// Record. Questions 1, 2, 42, 9, 3, 10.
+/// Record. Questions 1, 2, 42, 9, 3, 11, 10.
+#[allow(clippy::too_many_arguments)]
 pub fn add_permutation_on(
     allocator: VarAllocator,
     index: u32,
     rel: SharedRelation,
+    slots: &[u32],
     queries: &mut [u32],
+    uses: &mut [u32],
     input: &[u32],
     output: &[u32],
 ) -> SharedAnswer {
-    let answer = add_permutation(on(allocator, index, rel), queries, input, output);
+    let on = on(allocator, index, rel);
+    let answer = add_permutation(on, slots, queries, uses, input, output);
     shared(allocator, rel, answer)
 }
 
-/// Mint. Questions 1, 2, 42, 9, 3, 5, 43, 6, 10.
+/// Mint. Questions 1, 2, 42, 9, 3, 5, 43, 6, 11, 10.
 pub fn allocate_permutation_on(
     allocator: VarAllocator,
     index: u32,
     rel: SharedRelation,
     slots: &mut [u32],
     queries: &mut [u32],
+    uses: &mut [u32],
     input: &[u32],
 ) -> SharedAnswer {
-    let answer = allocate_permutation(on(allocator, index, rel), slots, queries, input);
+    let answer = allocate_permutation(on(allocator, index, rel), slots, queries, uses, input);
+    shared(allocator, rel, answer)
+}
+
+/// A query withdrawn. Questions 1, 2, 42, 45, 11, 10.
+pub fn withdraw_query_on(
+    allocator: VarAllocator,
+    index: u32,
+    rel: SharedRelation,
+    slots: &[u32],
+    queries: &mut [u32],
+    uses: &mut [u32],
+    query: u32,
+) -> SharedAnswer {
+    let answer = withdraw_query(on(allocator, index, rel), slots, queries, uses, query);
     shared(allocator, rel, answer)
 }
 
@@ -236,6 +264,18 @@ pub fn add_equation_on(
     image: u32,
 ) -> SharedAnswer {
     let answer = add_equation(on(allocator, index, rel), equations, terms, image);
+    shared(allocator, rel, answer)
+}
+
+/// An equation withdrawn. Questions 1, 2, 42, 45, 11.
+pub fn withdraw_equation_on(
+    allocator: VarAllocator,
+    index: u32,
+    rel: SharedRelation,
+    equations: &mut [u32],
+    equation: u32,
+) -> SharedAnswer {
+    let answer = withdraw_equation(on(allocator, index, rel), equations, equation);
     shared(allocator, rel, answer)
 }
 
@@ -255,8 +295,8 @@ pub fn is_allocated_on(allocator: VarAllocator, index: u32, rel: SharedRelation,
     is_allocated(on(allocator, index, rel), var)
 }
 
-/// The gate: everybody's sets, its own queries and equations. Questions 1, 2, 42, 11, 10, 16,
-/// then 12 to 15.
+/// The gate: everybody's sets, its own queries, equations and counts. Questions 1, 2, 42, 11, 10,
+/// 16, then 12 to 15.
 #[allow(clippy::too_many_arguments)]
 pub fn compile_on(
     allocator: VarAllocator,
@@ -266,9 +306,10 @@ pub fn compile_on(
     slots: &[u32],
     queries: &[u32],
     equations: &[u32],
+    uses: &[u32],
     publics: &mut [u32],
     scratch: &mut [u32],
 ) -> InstanceAnswer {
     let on = on(allocator, index, rel);
-    compile(on, label, slots, queries, equations, publics, scratch)
+    compile(on, label, slots, queries, equations, uses, publics, scratch)
 }

@@ -175,6 +175,13 @@ impl Parts {
 /// but the call. Relations and builders are handles, of which it keeps one.
 pub type Ready<'a, T> = Box<dyn Fn() -> T + 'a>;
 
+/// An item of a relation by its number, from 0.
+#[derive(Clone, Copy, Debug, PartialEq, Eq)]
+pub enum Item {
+    Query(u32),
+    Equation(u32),
+}
+
 pub trait Relation {
     fn vars_count(&self) -> u32;
     /// A word per wire, F where it is unassigned.
@@ -202,6 +209,10 @@ pub trait Relation {
     fn value(&self, var: u32) -> Option<u32>;
     fn is_allocated(&self, var: u32) -> bool;
     fn compile(&self) -> Result<Box<dyn Instance>, String>;
+    /// A relation built afresh of what remains without this item: the sources have no call that
+    /// withdraws it. It shares the allocator of this one or, where it stands alone, has a new one
+    /// with as many wires and the same values. `None` where there is no such item.
+    fn without(&self, item: Item, alone: bool) -> Option<Box<dyn Relation>>;
 }
 
 pub trait Instance {
@@ -445,6 +456,37 @@ impl<const W: usize> Relation for PermutationRelation<BabyBearUnit, W> {
             Ok(instance) => Ok(Box::new(instance)),
             Err(error) => Err(message(&error)),
         }
+    }
+
+    fn without(&self, item: Item, alone: bool) -> Option<Box<dyn Relation>> {
+        let (mut queries, mut equations) = (self.queries(), self.equations());
+        match item {
+            Item::Query(i) if (i as usize) < queries.len() => drop(queries.remove(i as usize)),
+            Item::Equation(i) if (i as usize) < equations.len() => {
+                drop(equations.remove(i as usize));
+            }
+            _ => return None,
+        }
+        let afresh = call(|| {
+            let afresh = if alone {
+                let afresh = Self::labeled(self.label());
+                afresh.allocate_vars_vec(self.allocator().vars_count() - 1);
+                for (var, value) in self.public_vars() {
+                    afresh.set_var(var, value);
+                }
+                afresh
+            } else {
+                Self::with_allocator(self.allocator().clone())
+            };
+            for query in queries {
+                afresh.add_permutation(query.input, query.output);
+            }
+            for equation in equations {
+                afresh.add_equation(equation.terms, equation.image);
+            }
+            afresh
+        })?;
+        Some(Box::new(afresh))
     }
 }
 

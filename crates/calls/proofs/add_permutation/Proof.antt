@@ -12,11 +12,15 @@ add-permutation-requires c κs = search needs
 same-length : tie.Need-same-length
 same-length c = search needs
 
+same-length-2 : tie.Need-same-length-2
+same-length-2 c = search needs
+
 returns : tie.Need-returns
 returns c =
-    let a = c .before .before .before .before .before .before .before .args in
-    let made = c .before .before .add-permutation .ensures in
-    recorded (a .rel) (now (a .queries)) (now (a .input)) (now (a .output)) _ _ (made .answer) (made .queries)
+    let done = c .before .before .before .before in
+    let a = done .before .before .before .before .before .before .before .before .args in
+    let made = done .add-permutation .ensures in
+    recorded (a .rel) (now (a .slots)) (now (a .queries)) (now (a .uses)) (now (a .input)) (now (a .output)) _ _ _ (made .answer) (made .queries) (made .uses)
 
 pub add-permutation-spec : {M : Type 1} → statement M
-add-permutation-spec = tie.close (tie.spec add-permutation-requires same-length returns)
+add-permutation-spec = tie.close (tie.spec add-permutation-requires same-length same-length-2 returns)

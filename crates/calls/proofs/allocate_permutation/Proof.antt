@@ -15,12 +15,16 @@ same-length c = search needs
 same-length-2 : tie.Need-same-length-2
 same-length-2 c = search needs
 
+same-length-3 : tie.Need-same-length-3
+same-length-3 c = search needs
+
 returns : tie.Need-returns
 returns c =
-    let a = c .before .before .before .before .before .before .before .before .before .before .args in
-    let made = c .before .before .before .before .allocate-permutation .ensures in
-    minted (a .rel) (now (a .slots)) (now (a .queries)) (now (a .input)) _ _ _ (made .answer) (made .slots) (made .queries)
+    let done = c .before .before .before .before .before .before in
+    let a = done .before .before .before .before .before .before .before .before .args in
+    let made = done .allocate-permutation .ensures in
+    minted (a .rel) (now (a .slots)) (now (a .queries)) (now (a .uses)) (now (a .input)) _ _ _ _ (made .answer) (made .slots) (made .queries) (made .uses)
 
 pub allocate-permutation-spec : {M : Type 1} → statement M
 allocate-permutation-spec =
-    tie.close (tie.spec allocate-permutation-requires same-length same-length-2 returns)
+    tie.close (tie.spec allocate-permutation-requires same-length same-length-2 same-length-3 returns)

@@ -1,4 +1,4 @@
--- `prepared` meets its contract: the three calls put the three parts of the list of questions.
+-- `prepared` meets its contract: the four calls put the four parts of the list of questions.
 -- Assumes nothing.
 use borrow.Author.Needs.{needs}
 use denote.Ref.{now}
@@ -13,15 +13,20 @@ asked-relation-requires c κs = search needs
 asked-stores-requires : tie.Need-asked-stores-requires
 asked-stores-requires c κs = search needs
 
+asked-store-requires : tie.Need-asked-store-requires
+asked-store-requires c κs = search needs
+
 asked-sound-requires : tie.Need-asked-sound-requires
 asked-sound-requires c κs = search needs
 
 returns : tie.Need-returns
 returns c =
-    let a = c .before .before .before .before .before .before .before .args in
-    prepared-by (gateLent (a .rel) (now (a .label)) (now (a .slots)) (now (a .queries)) (now (a .equations)) (a .publics) (a .scratch)) _ _ _
-    (c .before .before .asked-relation .ensures) (c .before .asked-stores .ensures) (c .asked-sound .ensures)
+    let s = c .before .before in
+    let a = s .before .before .before .before .before .before .before .args in
+    prepared-by
+    (gateLent (a .rel) (now (a .label)) (now (a .slots)) (now (a .queries)) (now (a .equations)) (now (a .uses)) (a .publics) (a .scratch)) _ _ _ _
+    (s .before .asked-relation .ensures) (s .asked-stores .ensures) (c .before .asked-store .ensures) (c .asked-sound .ensures)
 
 pub prepared-spec : {M : Type 1} → statement M
 prepared-spec =
-    tie.close (tie.spec asked-relation-requires asked-stores-requires asked-sound-requires returns)
+    tie.close (tie.spec asked-relation-requires asked-stores-requires asked-store-requires asked-sound-requires returns)

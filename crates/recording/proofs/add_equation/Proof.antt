@@ -60,10 +60,10 @@ use Rattle.permutation.proofs.PermutationRelation as P
 use Rattle.permutation.proofs.PermutationRelation.Laws as P′
 use Rattle.permutation.proofs.Recorded as S
 use Rattle.permutation.proofs.Recorded.Laws as S′
-use Rattle.recording.proofs.add_equation_sizes as add-equation-sizes
-use Rattle.recording.proofs.add_equation_sizes.Symbol as add-equation-sizes-def
-use Rattle.recording.proofs.add_equation_sizes.Symbol.{name as #recording·add-equation-sizes}
-use Rattle.recording.proofs.add_equation_sizes.Met as add-equation-sizes-thm
+use Rattle.recording.proofs.asked_equations as asked-equations
+use Rattle.recording.proofs.asked_equations.Symbol as asked-equations-def
+use Rattle.recording.proofs.asked_equations.Symbol.{name as #recording·asked-equations}
+use Rattle.recording.proofs.asked_equations.Met as asked-equations-thm
 use Rattle.expr.proofs.asked_terms as asked-terms
 use Rattle.expr.proofs.asked_terms.Symbol as asked-terms-def
 use Rattle.expr.proofs.asked_terms.Symbol.{name as #expr·asked-terms}
@@ -97,7 +97,7 @@ unit-vals = LL.vals U.the-type U′.the-laws
 -- the contracts that the proof cites
 module _ {M : Type 1} (𝓤 : URA M) (H : Heap 𝓤) (A : Atoms 𝓤) (mem : Memory → SProp 𝓤) (run : Routine → Fun 𝓤) where
   abbrev Sized : Contract 𝓤
-  Sized = tripleOf 𝓤 H A add-equation-sizes.signature (add-equation-sizes.spec 𝓤 H A mem run)
+  Sized = tripleOf 𝓤 H A asked-equations.signature (asked-equations.spec 𝓤 H A mem run)
 
   abbrev Asked : Contract 𝓤
   Asked = tripleOf 𝓤 H A asked-terms.signature (asked-terms.spec 𝓤 H A mem run)
@@ -191,8 +191,8 @@ module _ {M : Type 1} (𝓤 : URA M) (H : Heap 𝓤) (A : Atoms 𝓤) (W : Given
     abbrev SizesSay : ℕ → Type 0
     SizesSay k = k ≡ firstNo (addEquationSizes rel (length out))
 
-    said-sized : (k : ℕ) → ent 𝓤 (ensured 𝓤 H A add-equation-sizes.ended (add-equation-sizes.clauses 𝓤 H A at-mem run) tt sized tt k) (fact 𝓤 (SizesSay k))
-    said-sized k = exE 𝓤 _ (λ ws. snd∗ 𝓤 (sem 𝓤 H A (lasts add-equation-sizes.ended tt sized ws)) (fact 𝓤 (SizesSay k)))
+    said-sized : (k : ℕ) → ent 𝓤 (ensured 𝓤 H A asked-equations.ended (asked-equations.clauses 𝓤 H A at-mem run) tt sized tt k) (fact 𝓤 (SizesSay k))
+    said-sized k = exE 𝓤 _ (λ ws. snd∗ 𝓤 (sem 𝓤 H A (lasts asked-equations.ended tt sized ws)) (fact 𝓤 (SizesSay k)))
 
     -- after the number k
     module _ (k : ℕ) (v : Val) (k-is : Is u32 k (v ∷ [])) where
@@ -273,7 +273,7 @@ module _ {M : Type 1} (𝓤 : URA M) (H : Heap 𝓤) (A : Atoms 𝓤) (W : Given
     abbrev new : List ℕ
     new = fitEquation (rel .words) (equation (termsOf ts) (image .0)) out
 
-    module _ (C : Calls 𝓤 H) (Λ : Loops 𝓤 H) (fm : FmC 𝓤 H (W .laws) C) (known-sized : Triple 𝓤 (C #recording·add-equation-sizes) (Sized 𝓤 H A at-mem run)) (known-asked : Triple 𝓤 (C #expr·asked-terms) (Asked 𝓤 H A at-mem run))
+    module _ (C : Calls 𝓤 H) (Λ : Loops 𝓤 H) (fm : FmC 𝓤 H (W .laws) C) (known-sized : Triple 𝓤 (C #recording·asked-equations) (Sized 𝓤 H A at-mem run)) (known-asked : Triple 𝓤 (C #expr·asked-terms) (Asked 𝓤 H A at-mem run))
         (known-numbered : Triple 𝓤 (C #recording·add-equation-no) (Numbered 𝓤 H A at-mem run)) (known-noted : Triple 𝓤 (C #recording·equation-recorded) (Noted 𝓤 H A at-mem run)) (known-put : Triple 𝓤 (C #expr·put-equation) (Put 𝓤 H A at-mem run)) where
       walk : ent 𝓤 (onEntry 𝓤 H A add-equation.signature (κ, (κ′, tt)) (q, (q′, tt)) a vs) (WpFn 𝓤 H C Λ code.function (only (rel-vals rel) ∷ u ∷ s ∷ unit-vals image) Post)
       walk =
@@ -288,7 +288,7 @@ module _ {M : Type 1} (𝓤 : URA M) (H : Heap 𝓤) (A : Atoms 𝓤) (W : Given
           assigns ! (of-opd ! (load ! (from ! (fld ! refl (stop !))) (look-in ! 26 (sub ! 1 refl (whole !))))) (from ! (stop !)) (init ! 12 refl (tt, record { fits = room .0 })) $
           use0 W (raw (Sized 𝓤 H A at-mem run .pre to-sized)) goes-sized $
           calls-at ! fm (Sized 𝓤 H A at-mem run) known-sized to-sized (and-then ! (load ! (from ! (stop !)) (look ! 29 refl)) (and-then ! (load ! (from ! (stop !)) (look ! 13 refl)) (no-more !))) (λ v₁.
-          use1 W (later (some (λ (k : ℕ). (‵ ftrue ⊛ ‵ (u32 .own k (v₁ ∷ []))) ⊛ raw (ensured 𝓤 H A add-equation-sizes.ended (add-equation-sizes.clauses 𝓤 H A at-mem run) tt sized tt k)))) (id⊢ 𝓤 _) $ await ! tt $ pick ! (λ k₁.
+          use1 W (later (some (λ (k : ℕ). (‵ ftrue ⊛ ‵ (u32 .own k (v₁ ∷ []))) ⊛ raw (ensured 𝓤 H A asked-equations.ended (asked-equations.clauses 𝓤 H A at-mem run) tt sized tt k)))) (id⊢ 𝓤 _) $ await ! tt $ pick ! (λ k₁.
           split ! $ move ! (1 ∷ []) $ use1 W (raw (fact 𝓤 (SizesSay k₁))) (said-sized k₁) $ heard ! (SizesSay k₁) (λ e₁. split ! $ forgo ! $
           -- [the result; _15 at 1; …; _5 at 21; …]
           peeks ! u32 (Is u32) (shows 𝓤 H A u32) k₁ (v₁ ∷ []) (λ is₁.
@@ -351,13 +351,13 @@ module _ {M : Type 1} (𝓤 : URA M) (H : Heap 𝓤) (A : Atoms 𝓤) (W : Given
           keep ! (1 ∷ 2 ∷ 4 ∷ []) $ by ! (exits r v₄ (zs .0) l (equated-stored rel out ts (image .0) k₁ k₂ k e₁ e₂ e₃ r e₄ (is-none k h) (zs .0) e₅) r-is))))))))))))))))))))))))))))))))))))))))
 
 module _ {M : Type 1} (𝓤 : URA M) (H : Heap 𝓤) (A : Atoms 𝓤) (W : Given 𝓤 H A) (mem : Memory → SProp 𝓤) (run : Routine → Fun 𝓤) where
-  add-equation-walks : (C : Calls 𝓤 H) (Λ : Loops 𝓤 H) → FmC 𝓤 H (W .laws) C → Triple 𝓤 (C #recording·add-equation-sizes) (Sized 𝓤 H A mem run) → Triple 𝓤 (C #expr·asked-terms) (Asked 𝓤 H A mem run) → Triple 𝓤 (C #recording·add-equation-no) (Numbered 𝓤 H A mem run) → Triple 𝓤 (C #recording·equation-recorded) (Noted 𝓤 H A mem run) → Triple 𝓤 (C #expr·put-equation) (Put 𝓤 H A mem run)
+  add-equation-walks : (C : Calls 𝓤 H) (Λ : Loops 𝓤 H) → FmC 𝓤 H (W .laws) C → Triple 𝓤 (C #recording·asked-equations) (Sized 𝓤 H A mem run) → Triple 𝓤 (C #expr·asked-terms) (Asked 𝓤 H A mem run) → Triple 𝓤 (C #recording·add-equation-no) (Numbered 𝓤 H A mem run) → Triple 𝓤 (C #recording·equation-recorded) (Noted 𝓤 H A mem run) → Triple 𝓤 (C #expr·put-equation) (Put 𝓤 H A mem run)
       → Walks 𝓤 H A add-equation.ended stayed (WpFn 𝓤 H C Λ code.function) (add-equation.clauses 𝓤 H A mem run)
   add-equation-walks C Λ fm known-sized known-asked known-numbered known-noted known-put = walked 𝓤 H A add-equation.ended stayed (add-equation.clauses 𝓤 H A mem run) (WpFn 𝓤 H C Λ code.function)
       (λ κs. (rel-vals, (slice-vals, (slice-vals, (unit-vals, tt))))) (λ κs. (LL.tells P.the-type P′.the-laws, (mut-slice-tells (named 0) (κs .0) u32, (shr-slice-tells (named 1) (κs .1 .0) T.the-row, (LL.tells U.the-type U′.the-laws, tt)))))
       (λ κs qs bounds a g are. via 𝓤 _ (fst∗ 𝓤 _ (emp 𝓤)) (walk 𝓤 H A W mem run (κs .0) (κs .1 .0) (qs .0) (qs .1 .0) (a .1 .0 .ptr .0) (a .1 .0 .ptr .1) (a .1 .0 .name) (a .1 .1 .0 .ptr .0) (a .1 .1 .0 .ptr .1) (a .1 .1 .0 .name) (a .0) (a .1 .0 .now) (a .1 .1 .0 .now) (a .1 .1 .1 .0) (are .0) (are .1 .1 .1 .0) (are .1 .0 .0 .1) (are .1 .1 .0 .0 .1) C Λ fm known-sized known-asked known-numbered known-noted known-put))
 
-add-equation-meets : {M : Type 1} (𝓤 : URA M) (H : Heap 𝓤) (A : Atoms 𝓤) (W : Given 𝓤 H A) (mem : Memory → SProp 𝓤) (run : Routine → Fun 𝓤) (𝓣 : Tables 𝓤 H) → Triple 𝓤 (𝓣 .C #recording·add-equation-sizes) (Sized 𝓤 H A mem run) → Triple 𝓤 (𝓣 .C #expr·asked-terms) (Asked 𝓤 H A mem run) → Triple 𝓤 (𝓣 .C #recording·add-equation-no) (Numbered 𝓤 H A mem run)
+add-equation-meets : {M : Type 1} (𝓤 : URA M) (H : Heap 𝓤) (A : Atoms 𝓤) (W : Given 𝓤 H A) (mem : Memory → SProp 𝓤) (run : Routine → Fun 𝓤) (𝓣 : Tables 𝓤 H) → Triple 𝓤 (𝓣 .C #recording·asked-equations) (Sized 𝓤 H A mem run) → Triple 𝓤 (𝓣 .C #expr·asked-terms) (Asked 𝓤 H A mem run) → Triple 𝓤 (𝓣 .C #recording·add-equation-no) (Numbered 𝓤 H A mem run)
     → Triple 𝓤 (𝓣 .C #recording·equation-recorded) (Noted 𝓤 H A mem run) → Triple 𝓤 (𝓣 .C #expr·put-equation) (Put 𝓤 H A mem run) → Meets 𝓤 H A add-equation.signature (WpFn 𝓤 H (𝓣 .C) (𝓣 .Λ) code.function) (add-equation.spec 𝓤 H A mem run)
 add-equation-meets 𝓤 H A W mem run 𝓣 known-sized known-asked known-numbered known-noted known-put =
     walk-meets 𝓤 H A add-equation.ended stayed W (goes-none 𝓤 H A W 2 (λ _. P.the-row) yes (λ κs x f. refl), (goes-gave-slice 𝓤 H A W 2 0 tt (plain (λ _. u32)), (goes-none-slice 𝓤 H A W 2 (1 ∷ []) tt (plain (λ _. T.the-row)) yes, (goes-none 𝓤 H A W 2 (λ _. U.the-row) yes (λ κs x f. refl), tt)))) (add-equation.clauses 𝓤 H A mem run)
@@ -369,7 +369,7 @@ add-equation-spec 𝓤 H 𝓜 𝓖 𝓡 =
     entered 𝓤 H (tripleOf 𝓤 H (𝓖 .A) add-equation.signature (add-equation.spec 𝓤 H (𝓖 .A) (𝓜 .mem) (𝓡 .run)))
     (tables 𝓤 H 𝓜 𝓡 code.env .C) (tables 𝓤 H 𝓜 𝓡 code.env .Λ) #recording·add-equation code.function (code.unfolded 𝓤 H 𝓜 𝓡)
     (add-equation-meets 𝓤 H (𝓖 .A) (givenOf 𝓤 H 𝓜 𝓖) (𝓜 .mem) (𝓡 .run) (tablesOf 𝓤 H 𝓜 (tables 𝓤 H 𝓜 𝓡 code.env))
-    (cited 𝓤 H (Sized 𝓤 H (𝓖 .A) (𝓜 .mem) (𝓡 .run)) 𝓜 𝓡 code.env #recording·add-equation-sizes add-equation-sizes-def.routine code.calls-recording·add-equation-sizes (add-equation-sizes-thm.met 𝓤 H 𝓜 𝓖 𝓡))
+    (cited 𝓤 H (Sized 𝓤 H (𝓖 .A) (𝓜 .mem) (𝓡 .run)) 𝓜 𝓡 code.env #recording·asked-equations asked-equations-def.routine code.calls-recording·asked-equations (asked-equations-thm.met 𝓤 H 𝓜 𝓖 𝓡))
     (cited 𝓤 H (Asked 𝓤 H (𝓖 .A) (𝓜 .mem) (𝓡 .run)) 𝓜 𝓡 code.env #expr·asked-terms asked-terms-def.routine code.calls-expr·asked-terms (asked-terms-thm.met 𝓤 H 𝓜 𝓖 𝓡))
     (cited 𝓤 H (Numbered 𝓤 H (𝓖 .A) (𝓜 .mem) (𝓡 .run)) 𝓜 𝓡 code.env #recording·add-equation-no add-equation-no-def.routine code.calls-recording·add-equation-no (add-equation-no-thm.met 𝓤 H 𝓜 𝓖 𝓡))
     (cited 𝓤 H (Noted 𝓤 H (𝓖 .A) (𝓜 .mem) (𝓡 .run)) 𝓜 𝓡 code.env #recording·equation-recorded equation-recorded-def.routine code.calls-recording·equation-recorded (equation-recorded-thm.met 𝓤 H 𝓜 𝓖 𝓡))

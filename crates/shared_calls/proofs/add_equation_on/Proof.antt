@@ -121,8 +121,8 @@ module _ {M : Type 1} (𝓤 : URA M) (H : Heap 𝓤) (A : Atoms 𝓤) (W : Given
   abbrev Ensures : RecordedOn → List ℕ → Type 0
   Ensures r l = Does asIs (addEquationOn al num rel out (termsOf ts) (image .0)) (addEquationOnEquations al num rel out (termsOf ts) (image .0)) r l
 
-  performed : (r : RecordedOn) (l : List ℕ) → Ensures r l → (slots queries : List ℕ)
-      → OnRelation num (Equate ts (image .0)) (ofOutcome (r .outcome)) al rel slots queries out al (r .relation) slots queries l
+  performed : (r : RecordedOn) (l : List ℕ) → Ensures r l → (slots queries uses : List ℕ)
+      → OnRelation num (Equate ts (image .0)) (ofOutcome (r .outcome)) al rel slots queries out uses al (r .relation) slots queries l uses
   performed r l e = equated al num rel out ts (image .0) r l (e .answers) (e .leaves)
 
   exits : (r : RecordedOn) (v : Val) (l : List ℕ) → length l ≡ length out → Ensures r l → Is On.the-row r (v ∷ [])

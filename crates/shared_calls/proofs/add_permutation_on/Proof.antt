@@ -12,11 +12,16 @@ add-permutation-on-requires c κs = search needs
 same-length : tie.Need-same-length
 same-length c = search needs
 
+same-length-2 : tie.Need-same-length-2
+same-length-2 c = search needs
+
 returns : tie.Need-returns
 returns c =
-    let a = c .before .before .before .before .before .before .before .args in
-    let made = c .before .before .add-permutation-on .ensures in
-    recorded (a .allocator) (a .index) (a .rel) (now (a .queries)) (now (a .input)) (now (a .output)) _ _ (made .answers) (made .leaves)
+    let done = c .before .before .before .before in
+    let a = done .before .before .before .before .before .before .before .before .args in
+    let made = done .add-permutation-on .ensures in
+    recorded (a .allocator) (a .index) (a .rel) (now (a .slots)) (now (a .queries)) (now (a .uses)) (now (a .input)) (now (a .output)) _ _ _
+    (made .answers) (made .leaves) (made .leaves-too)
 
 pub add-permutation-on-spec : {M : Type 1} → statement M
-add-permutation-on-spec = tie.close (tie.spec add-permutation-on-requires same-length returns)
+add-permutation-on-spec = tie.close (tie.spec add-permutation-on-requires same-length same-length-2 returns)

@@ -34,9 +34,9 @@ returns : tie.Need-returns
 unfolding compileOn compilePublicsOn
 returns c =
     let b = c .before .before .before .before .before .before .before .before .before in
-    let a = b .before .before .before .before .before .before .before .before .args in
+    let a = b .before .before .before .before .before .before .before .before .before .args in
     let x = onAllocator (a .allocator) (a .rel) in
-    let l = gateLent x (now (a .label)) (now (a .slots)) (now (a .queries)) (now (a .equations)) (length (now (a .publics))) (length (now (a .scratch))) in
+    let l = gateLent x (now (a .label)) (now (a .slots)) (now (a .queries)) (now (a .equations)) (now (a .uses)) (length (now (a .publics))) (length (now (a .scratch))) in
     let n = compileOnNo (shares (a .allocator) (a .index) (a .rel)) l in
     let e = b .before .compile-on-no .ensures in
     record {
@@ -61,10 +61,10 @@ returns-2 : tie.Need-returns-2
 unfolding compileOn compilePublicsOn
 returns-2 c =
     let b = c .before .before .before .before .before .before .before .before in
-    let a = b .before .before .before .before .before .before .before .before .args in
+    let a = b .before .before .before .before .before .before .before .before .before .args in
     let x = onAllocator (a .allocator) (a .rel) in
-    let l = gateLent x (now (a .label)) (now (a .slots)) (now (a .queries)) (now (a .equations)) (length (now (a .publics))) (length (now (a .scratch))) in
-    let lent : PermutationRelation → GateLent = λ x. gateLent x (now (a .label)) (now (a .slots)) (now (a .queries)) (now (a .equations)) (length (now (a .publics))) (length (now (a .scratch))) in
+    let l = gateLent x (now (a .label)) (now (a .slots)) (now (a .queries)) (now (a .equations)) (now (a .uses)) (length (now (a .publics))) (length (now (a .scratch))) in
+    let lent : PermutationRelation → GateLent = λ x. gateLent x (now (a .label)) (now (a .slots)) (now (a .queries)) (now (a .equations)) (now (a .uses)) (length (now (a .publics))) (length (now (a .scratch))) in
     let n = compileOnNo (shares (a .allocator) (a .index) (a .rel)) l in
     let e = b .before .compile-on-no .ensures in
     let d = c .before .before .before .before .compile .ensures in

@@ -26,25 +26,31 @@ asked-slots-on-requires c κs = search needs
 asked-stores-requires : tie.Need-asked-stores-requires
 asked-stores-requires c κs = search needs
 
+asked-store-requires : tie.Need-asked-store-requires
+asked-store-requires c κs = search needs
+
 asked-opened-requires : tie.Need-asked-opened-requires
 asked-opened-requires c κs = search needs
 
 returns : tie.Need-returns
 unfolding compileOnNo
 returns c =
-    let a = c .before .before .before .before .before .before .before .before .before .args in
+    let w = c .before .before .before .before in
+    let a = w .before .before .before .before .before .before .before .args in
     let s = length (now (a .slots)) in
     rw (
       c .asked-opened .ensures,
-      c .before .asked-stores .ensures,
-      c .before .before .asked-slots-on .ensures,
-      c .before .before .before .asked-width .ensures,
-      c .before .before .before .before .on-allocator .ensures,
+      c .before .asked-store .ensures,
+      c .before .before .asked-stores .ensures,
+      c .before .before .before .asked-slots-on .ensures,
+      w .asked-width .ensures,
+      w .before .on-allocator .ensures,
     )
     (chain-all
     (widthAsks (a .rel .width)
     ∷ (storeAsks s ++ pick (anyOpened (a .allocator)) (fitAsks (a .allocator .vars) s) [])
     ∷ storesAsks (onAllocator (a .allocator) (a .rel)) (length (now (a .label))) (length (now (a .queries))) (length (now (a .equations))) (a .publics) (a .scratch)
+    ∷ storeAsks (length (now (a .uses)))
     ∷ openedAsks (a .allocator) (a .index)
     ∷ []))
 
@@ -56,5 +62,6 @@ compile-on-no-spec =
     asked-width-requires
     asked-slots-on-requires
     asked-stores-requires
+    asked-store-requires
     asked-opened-requires
     returns)

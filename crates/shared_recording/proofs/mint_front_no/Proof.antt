@@ -43,11 +43,11 @@ returns-2 c =
     let over = mint-over (leb (a .rel .obtained + a .rel .width) (a .rel .quota)) _ _ _ (sym (b .before .within-quota .ensures) ∙ b .if1 .left) in
     over
     (rw (c .asked-quota .ensures, c .before .asked-half .ensures, b .before .before .mint-sizes-on .ensures)
-    (chain-from (mintSizes (shares (a .allocator) (a .index) (a .rel)) (onAllocator (a .allocator) (a .rel)) (a .slots) (a .room) (now (a .input)))
+    (chain-from (mintSizes (shares (a .allocator) (a .index) (a .rel)) (onAllocator (a .allocator) (a .rel)) (a .slots) (a .room) (a .uses) (now (a .input)))
     (halfAsks (a .rel .width) 3 maxCount (now (a .input))
     ∷ (mostAsks (a .allocator .vars) (a .rel .width) ++ quotaAsks (a .rel .quota) (a .rel .obtained) (a .rel .width))
     ∷ [])
-    ∙ firstNo-append (mintSizes (shares (a .allocator) (a .index) (a .rel)) (onAllocator (a .allocator) (a .rel)) (a .slots) (a .room) (now (a .input)))
+    ∙ firstNo-append (mintSizes (shares (a .allocator) (a .index) (a .rel)) (onAllocator (a .allocator) (a .rel)) (a .slots) (a .room) (a .uses) (now (a .input)))
     (mintAsks (onAllocator (a .allocator) (a .rel)) (now (a .input)) ++ quotaAsks (a .rel .quota) (a .rel .obtained) (a .rel .width))))
 
 pub mint-front-no-spec : {M : Type 1} → statement M

@@ -1,26 +1,19 @@
 -- `shared_recording::mint_sizes_on` meets its contract: its questions in a row.
 -- Assumes nothing.
 use denote.Ref.{now}
-use mathlib.Core.List.{[], _∷_, _++_}
+use mathlib.Core.Path.{sym, _∙_}
+use mathlib.Core.List.{[], _∷_}
 use lib.ListN.{length}
-use Rattle.limits.specs.Questions.{pick}
-use Rattle.limits.specs.Asks.{widthAsks, storeAsks}
-use Rattle.limits.proofs.Questions.{chain-all}
-use Rattle.words.specs.Pieces.{heldAsks}
-use Rattle.allocator.specs.Slots.{fitAsks}
-use Rattle.sharing.specs.Shares.{anyOpened, openedAsks}
+use Rattle.limits.specs.Asks.{storeAsks}
+use Rattle.limits.proofs.Questions.{chain-from}
+use Rattle.permutation.specs.Relation.{relationAsksWith, queriesAsks}
+use Rattle.sharing.specs.Shares.{onAllocator, shares, openedAsks}
 use borrow.Author.Needs.{needs}
 use Rattle.shared_recording.proofs.mint_sizes_on.Statement.{statement}
 use Rattle.shared_recording.proofs.mint_sizes_on.Tie as tie
 
-asked-width-requires : tie.Need-asked-width-requires
-asked-width-requires c κs = search needs
-
-asked-slots-on-requires : tie.Need-asked-slots-on-requires
-asked-slots-on-requires c κs = search needs
-
-asked-held-requires : tie.Need-asked-held-requires
-asked-held-requires c κs = search needs
+asked-queries-on-requires : tie.Need-asked-queries-on-requires
+asked-queries-on-requires c κs = search needs
 
 asked-store-requires : tie.Need-asked-store-requires
 asked-store-requires c κs = search needs
@@ -30,29 +23,21 @@ asked-opened-requires c κs = search needs
 
 returns : tie.Need-returns
 returns c =
-    let a = c .before .before .before .before .before .before .args in
+    let a = c .before .before .before .before .args in
+    let x = onAllocator (a .allocator) (a .rel) in
+    let first = relationAsksWith (shares (a .allocator) 0 (a .rel)) x (a .slots) in
     rw (
       c .asked-opened .ensures,
       c .before .asked-store .ensures,
-      c .before .before .asked-held .ensures,
-      c .before .before .before .asked-slots-on .ensures,
-      c .before .before .before .before .asked-width .ensures,
+      c .before .before .asked-queries-on .ensures ∙ sym (chain-from first (queriesAsks x (a .room) ∷ storeAsks (a .uses) ∷ [])),
     )
-    (chain-all
-    (widthAsks (a .rel .width)
-    ∷ (storeAsks (a .slots) ++ pick (anyOpened (a .allocator)) (fitAsks (a .allocator .vars) (a .slots)) [])
-    ∷ heldAsks (a .rel .width) (a .rel .queries) (a .room)
+    (chain-from first
+    (queriesAsks x (a .room)
+    ∷ storeAsks (a .uses)
     ∷ storeAsks (length (now (a .input)))
     ∷ openedAsks (a .allocator) (a .index)
     ∷ []))
 
 pub mint-sizes-on-spec : {M : Type 1} → statement M
 mint-sizes-on-spec =
-    tie.close
-    (tie.spec
-    asked-width-requires
-    asked-slots-on-requires
-    asked-held-requires
-    asked-store-requires
-    asked-opened-requires
-    returns)
+    tie.close (tie.spec asked-queries-on-requires asked-store-requires asked-opened-requires returns)

@@ -9,6 +9,9 @@ use Rattle.sharing.proofs.with_allocator_no.Tie as tie
 asked-width-requires : tie.Need-asked-width-requires
 asked-width-requires c κs = search needs
 
+asked-store-requires : tie.Need-asked-store-requires
+asked-store-requires c κs = search needs
+
 asked-slots-on-requires : tie.Need-asked-slots-on-requires
 asked-slots-on-requires c κs = search needs
 
@@ -21,15 +24,20 @@ asked-requires-2 c κs = search needs
 asked-requires-3 : tie.Need-asked-requires-3
 asked-requires-3 c κs = search needs
 
+asked-requires-4 : tie.Need-asked-requires-4
+asked-requires-4 c κs = search needs
+
 returns : tie.Need-returns
 unfolding withAllocatorNo
 returns c =
     rw (
-      c .asked3 .ensures,
-      c .before .asked2 .ensures,
-      c .before .before .asked .ensures,
-      c .before .before .before .asked-slots-on .ensures,
-      c .before .before .before .before .asked-width .ensures,
+      c .asked4 .ensures,
+      c .before .asked3 .ensures,
+      c .before .before .asked2 .ensures,
+      c .before .before .before .asked .ensures,
+      c .before .before .before .before .asked-slots-on .ensures,
+      c .before .before .before .before .before .asked-store .ensures,
+      c .before .before .before .before .before .before .asked-width .ensures,
     )
     (simp (firstNo-append, ▸-assoc, zero-▸, ▸-zero))
 
@@ -38,8 +46,10 @@ with-allocator-no-spec =
     tie.close
     (tie.spec
     asked-width-requires
+    asked-store-requires
     asked-slots-on-requires
     asked-requires
     asked-requires-2
     asked-requires-3
+    asked-requires-4
     returns)

@@ -2,21 +2,21 @@
 -- Assumes nothing.
 use borrow.Author.Needs.{needs}
 use denote.Ref.{now}
-use Prim.Native.Nat.{ℕ, _≤_, _<_, _-_, _+_}
+use Prim.Native.Nat.{_+_, _≤_, _<_}
 use mathlib.Core.Path.{_≡_, refl, sym, ap, _∙_}
 use mathlib.Core.Logic.{⊎-elim}
 use lib.ListN.{getD}
-use Rattle.validated.specs.Marks.{isMarked}
-use Rattle.validated.proofs.Marks.{mark-read, none-read}
+use borrow.Author.Tests.{not-true, not-false}
 use Rattle.validated.proofs.Terms.{termsNo, terms-done, terms-beyond, terms-lacking, terms-unbound, terms-zero, terms-bound}
+use Rattle.validated.specs.Validated.{boundBy}
 use Rattle.validated.proofs.asked_terms.Statement.{statement}
 use Rattle.validated.proofs.asked_terms.Tie as tie
 
 abbrev Inv-loop : tie.InvT-loop
-Inv-loop vars marks s at t i₀ left₀ i left = termsNo vars (isMarked marks) left i s ≡ termsNo vars (isMarked marks) t at s
+Inv-loop vars slots uses s at t i₀ left₀ i left = termsNo vars (boundBy slots uses) left i s ≡ termsNo vars (boundBy slots uses) t at s
 
 abbrev μ-loop : tie.MeasureT-loop
-μ-loop vars marks s at t i₀ left₀ i left = left
+μ-loop vars slots uses s at t i₀ left₀ i left = left
 
 loop-holds : tie.Need-loop-holds Inv-loop μ-loop
 loop-holds c = refl
@@ -29,20 +29,22 @@ unfolding termsNo
 returns c =
     let t = c .before .before in
     let l = t .before .loop in
-    let a = t .before .before .before .before .args in
+    let a = t .before .before .before .before .before .args in
     let s = now (a .s) in
+    let f = boundBy (now (a .slots)) (now (a .uses)) in
     let h : a .vars ≤ getD s (l .i) 0 = rw (c .before .word-at .ensures) at (c .if1 .taken) in
-    terms-beyond (a .vars) (isMarked (now (a .marks))) s (l .i) (l .left) _ (l .inv) (t .loop-test .taken) h
+    terms-beyond (a .vars) f s (l .i) (l .left) _ (l .inv) (t .loop-test .taken) h
 
 returns-2 : tie.Need-returns-2 Inv-loop μ-loop
 unfolding termsNo
 returns-2 c =
     let t = c .before .before .before in
     let l = t .before .loop in
-    let a = t .before .before .before .before .args in
+    let a = t .before .before .before .before .before .args in
     let s = now (a .s) in
+    let f = boundBy (now (a .slots)) (now (a .uses)) in
     let h : getD s (l .i) 0 < a .vars = rw (c .before .before .word-at .ensures) at (c .before .if1 .left) in
-    terms-lacking (a .vars) (isMarked (now (a .marks))) s (l .i) (l .left) _ (l .inv) (t .loop-test .taken) h (c .if2 .taken)
+    terms-lacking (a .vars) f s (l .i) (l .left) _ (l .inv) (t .loop-test .taken) h (c .if2 .taken)
 
 add-word-at : tie.Need-add-word-at Inv-loop μ-loop
 add-word-at c = search needs
@@ -50,14 +52,8 @@ add-word-at c = search needs
 word-at-requires-2 : tie.Need-word-at-requires-2 Inv-loop μ-loop
 word-at-requires-2 c κs = search needs
 
-cast-if4 : tie.Need-cast-if4 Inv-loop μ-loop
-cast-if4 c = search needs
-
-mul-if4 : tie.Need-mul-if4 Inv-loop μ-loop
-mul-if4 c = search needs
-
-shared-slice-read-if4 : tie.Need-shared-slice-read-if4 Inv-loop μ-loop
-shared-slice-read-if4 c = search needs
+is-bound-requires : tie.Need-is-bound-requires Inv-loop μ-loop
+is-bound-requires c κs = search needs
 
 returns-3 : tie.Need-returns-3 Inv-loop μ-loop
 unfolding termsNo
@@ -65,14 +61,14 @@ returns-3 c =
     let d = c .before .before .before in
     let t = d .before .before .before .before in
     let l = t .before .loop in
-    let a = t .before .before .before .before .args in
+    let a = t .before .before .before .before .before .args in
     let s = now (a .s) in
-    let m = now (a .marks) in
+    let f = boundBy (now (a .slots)) (now (a .uses)) in
     let e = d .before .before .before .word-at .ensures in
     let h : getD s (l .i) 0 < a .vars = rw e at (d .before .before .if1 .left) in
     let w : getD s (l .i + 1) 0 ≡ 0 → ⊥ = λ z. c .before .before .if3 .taken (d .word-at2 .ensures ∙ z) in
-    let b : getD m (getD s (l .i) 0) 0 ≡ 0 = rw e at (c .if4 .taken) in
-    terms-unbound (a .vars) (isMarked m) s (l .i) (l .left) _ (l .inv) (t .loop-test .taken) h w (none-read m (getD s (l .i) 0) b)
+    let b = ap f (sym e) ∙ sym (c .before .is-bound .ensures) ∙ not-true _ (c .if4 .taken) in
+    terms-unbound (a .vars) f s (l .i) (l .left) _ (l .inv) (t .loop-test .taken) h w b
 
 add-i : tie.Need-add-i Inv-loop μ-loop
 add-i c = search needs
@@ -88,23 +84,22 @@ loop-again c =
     let d = c .before in
     let t = d .before .before .before .before in
     let l = t .before .loop in
-    let a = t .before .before .before .before .args in
+    let a = t .before .before .before .before .before .args in
     let s = now (a .s) in
-    let m = now (a .marks) in
+    let f = boundBy (now (a .slots)) (now (a .uses)) in
     let e = d .before .before .before .word-at .ensures in
     let h : getD s (l .i) 0 < a .vars = rw e at (d .before .before .if1 .left) in
     ⊎-elim
-    (λ w. terms-bound (a .vars) (isMarked m) s (l .i) (l .left) _ (l .inv) (t .loop-test .taken) h
-    (mark-read m (getD s (l .i) 0) (λ z. w .2 .left (ap (λ (k : ℕ). getD m k 0) e ∙ z))))
-    (λ w. terms-zero (a .vars) (isMarked m) s (l .i) (l .left) _ (l .inv) (t .loop-test .taken) h (sym (d .word-at2 .ensures) ∙ w .left))
+    (λ w. terms-bound (a .vars) f s (l .i) (l .left) _ (l .inv) (t .loop-test .taken) h (ap f (sym e) ∙ sym (w .1 .ensures) ∙ not-false _ (w .2 .left)))
+    (λ w. terms-zero (a .vars) f s (l .i) (l .left) _ (l .inv) (t .loop-test .taken) h (sym (d .word-at2 .ensures) ∙ w .left))
     (c .if3 .came)
 
 returns-4 : tie.Need-returns-4 Inv-loop μ-loop
 unfolding termsNo
 returns-4 c =
     let l = c .before .loop in
-    let a = c .before .before .before .before .args in
-    terms-done (a .vars) (isMarked (now (a .marks))) (now (a .s)) (l .i) (l .left) _ (l .inv) (c .loop-test .left)
+    let a = c .before .before .before .before .before .args in
+    terms-done (a .vars) (boundBy (now (a .slots)) (now (a .uses))) (now (a .s)) (l .i) (l .left) _ (l .inv) (c .loop-test .left)
 
 pub asked-terms-spec : {M : Type 1} → statement M
 asked-terms-spec =
@@ -118,9 +113,7 @@ asked-terms-spec =
     returns-2
     add-word-at
     word-at-requires-2
-    cast-if4
-    mul-if4
-    shared-slice-read-if4
+    is-bound-requires
     returns-3
     add-i
     sub-left

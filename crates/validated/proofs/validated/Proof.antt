@@ -79,6 +79,9 @@ returns-3 c =
     gate-13 (parts (start e)) _ (e .if1 .left) _ (start e .pre) (publics-marked p) (not-false _ (q .before .before .before .if2 .left)) (queries-marked q)
     (not-true _ (c .if3 .taken))
 
+slice-aggregate-asked-equations : tie.Need-slice-aggregate-asked-equations
+slice-aggregate-asked-equations c = search needs
+
 cast-held-words-2 : tie.Need-cast-held-words-2
 cast-held-words-2 c = search needs
 
@@ -94,12 +97,12 @@ same-length-3 c = search needs
 returns-4 : tie.Need-returns-4
 unfolding partsOf
 returns-4 c =
-    let q = c .before .before .before .before .before .before in
+    let q = c .before .before .before .before .before .before .before in
     let p = q .before .before .before .before .before .before in
     let e = p .before .before .before in
     (rw (c .before .held-words2 .ensures) at (c .asked-equations .ensures))
     ∙ gate-terms (parts (start e)) _ (e .if1 .left) _ (start e .pre) (publics-marked p) (not-false _ (q .before .before .before .if2 .left)) (queries-marked q)
-    (not-false _ (c .before .before .before .if3 .left))
+    (not-false _ (c .before .before .before .before .if3 .left))
 
 pub validated-spec : {M : Type 1} → statement M
 validated-spec =
@@ -117,6 +120,7 @@ validated-spec =
     mark-queries-requires
     same-length-2
     returns-3
+    slice-aggregate-asked-equations
     cast-held-words-2
     held-words-requires-2
     asked-equations-requires

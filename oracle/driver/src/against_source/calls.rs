@@ -1,7 +1,7 @@
 //! The calls on a relation, put to the sources after the second reading has answered.
 
 use reading::{MAX_COUNT, P, TICKET_LINE};
-use source::Relation;
+use source::{Item, Relation};
 
 use super::Run;
 use crate::{
@@ -36,9 +36,12 @@ pub fn untyped(call: &Call, width: u32) -> Option<u32> {
             let units = are_units(&weights) && are_units(&[*image]);
             (true, are_vars(&vars), units)
         }
-        Call::Allocate(_) | Call::AllocateWith(_) | Call::SetList(..) | Call::Tickets(_) => {
-            (true, true, true)
-        }
+        Call::Allocate(_)
+        | Call::AllocateWith(_)
+        | Call::SetList(..)
+        | Call::Tickets(_)
+        | Call::WithdrawQuery(_)
+        | Call::WithdrawEquation(_) => (true, true, true),
     };
     match (lists, vars, units) {
         (false, ..) => Some(9),
@@ -49,15 +52,28 @@ pub fn untyped(call: &Call, width: u32) -> Option<u32> {
 }
 
 /// Compares a call's answer; whether the sources could be asked. They don't say what was fresh: it
-/// is compared with whether their wires had a value just before.
+/// is compared with whether their wires had a value just before. After a withdrawal, which they
+/// have no call for, their relation is one built afresh from what remains: alone or, where it
+/// shares its allocator, on that one.
 pub fn compare(
     call: &Call,
     answer: &Answer,
     width: u32,
-    relation: &dyn Relation,
+    relation: &mut Box<dyn Relation>,
+    alone: bool,
     spelling: usize,
 ) -> Outcome<bool> {
     let number = answer.number;
+    if let Some(item) = withdrawn(call) {
+        let afresh = relation.without(item, alone);
+        let expected = if afresh.is_some() { 0 } else { 45 };
+        same("number", ("given", number), ("source", expected))?;
+        if let Some(afresh) = afresh {
+            *relation = afresh;
+        }
+        return Ok(true);
+    }
+    let relation = &**relation;
     if let Some(expected) = untyped(call, width) {
         let given = (number, answer.fresh);
         same("number", ("given", given), ("types", (expected, 0)))?;
@@ -99,8 +115,18 @@ pub fn compare(
             let yes = relation.is_allocated(*var);
             same("is allocated", ("given", answer.yes), ("source", yes))
         }
+        Call::WithdrawQuery(_) | Call::WithdrawEquation(_) => Ok(()),
     }?;
     Ok(true)
+}
+
+/// What a call withdraws.
+const fn withdrawn(call: &Call) -> Option<Item> {
+    match call {
+        Call::WithdrawQuery(index) => Some(Item::Query(*index)),
+        Call::WithdrawEquation(index) => Some(Item::Equation(*index)),
+        _ => None,
+    }
 }
 
 /// Where the sources panic, any refusal will do.
@@ -201,9 +227,22 @@ fn tickets(answer: &Answer, text: &[u8], relation: &dyn Relation) -> Compared {
     same("number and tally", given, ("source", (0, tally, fresh)))
 }
 
-/// Counts and held words on both sides.
+/// Counts and held words on both sides; and use counts and the stray count as they are counted
+/// afresh from the sources' queries, which have 2w cells each.
 pub fn compare_states(state: &State, relation: &dyn Relation) -> Compared {
     let (slots, queries, equations) = state.held();
+    let counts = (state.uses.clone(), state.rel.stray);
+    let afresh = reading::counted(state.slots.len(), &relation.queries());
+    same("use counts", ("given", &counts), ("afresh", &afresh))?;
+    let sum = counts.0.iter().map(|&count| u64::from(count)).sum::<u64>();
+    same(
+        "sum of the counts",
+        ("given", sum + u64::from(counts.1)),
+        (
+            "expected",
+            2 * u64::from(state.rel.width) * u64::from(state.rel.queries),
+        ),
+    )?;
     let vars_count = relation.vars_count();
     same(
         "wires",

@@ -18,11 +18,12 @@ impl Run<'_> {
     /// The gate, in ample or in tight stores; the instances where it accepts.
     pub fn gate(
         &mut self,
-        rng: &mut Rng,
+        generator: &mut Generator,
         state: &State,
         label: &str,
         relation: &dyn Relation,
     ) -> Outcome<Option<Both>> {
+        let (rng, struck) = (&mut generator.rng, generator.struck);
         let mut room = Room::AMPLE;
         if rng.once_in(20) {
             room.publics = rng.below(8);
@@ -30,7 +31,7 @@ impl Run<'_> {
         }
         self.log.say(|| format!("Gate, {room:?}"));
         let (number, held) = held::gate(state, label, room);
-        self.seen.answered("gate", number);
+        self.seen.gated(number, struck);
         if number == 10 || number == 16 {
             self.apart.room += 1;
             return Ok(None);

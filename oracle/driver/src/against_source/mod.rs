@@ -79,7 +79,7 @@ impl Run<'_> {
             format!("width {width}, {mood:?}, label {label:?}, stores {lens:?}")
         });
 
-        let relation = source::relation(width, &label);
+        let mut relation = source::relation(width, &label);
         let number = state.new_relation(width);
         self.seen.answered("fresh", number);
         same("fresh", ("reading", number), ("source", 0))?;
@@ -90,12 +90,12 @@ impl Run<'_> {
             let answer = state.run(&call);
             self.seen.called(&call, &answer);
             let spelling = generator.rng.below(3);
-            let compared = calls::compare(&call, &answer, width, &*relation, spelling)?;
+            let compared = calls::compare(&call, &answer, width, &mut relation, true, spelling)?;
             self.apart.room += u64::from(!compared);
             calls::compare_states(&state, &*relation)?;
             generator.note(&call, &answer);
             if generator.rng.once_in(30) {
-                self.gate(&mut generator.rng, &state, &label, &*relation)?;
+                self.gate(&mut generator, &state, &label, &*relation)?;
             }
         }
         self.scaling(&mut generator.rng)?;
@@ -112,7 +112,7 @@ impl Run<'_> {
         label: &str,
         relation: &dyn Relation,
     ) -> Compared {
-        let Some((held, instance)) = self.gate(&mut generator.rng, state, label, relation)? else {
+        let Some((held, instance)) = self.gate(generator, state, label, relation)? else {
             return Ok(());
         };
         let trace = self.builder(generator, &held)?;
@@ -121,7 +121,7 @@ impl Run<'_> {
             same(
                 "an honest list's check",
                 ("reading", number),
-                ("expected", 0),
+                ("expected", held.honest_number()),
             )?;
         }
         self.instance(generator, &held, &*instance, &trace)

@@ -1,23 +1,17 @@
 //! Inputs of so many items, and the tables of all calls but evaluation.
 
-use reading::{Relation, Share};
 use source::{Params, Parts};
 
 use super::{best, evaluate, table, timed, Line};
-use crate::{
-    calls::State,
-    held::Held,
-    library::{instance::to_library, side},
-    rng::Rng,
-};
+use crate::{held::Held, library::instance::to_library, rng::Rng};
 
 pub const WIDTH: u32 = 8;
 const W: usize = WIDTH as usize;
 pub const LABEL: &str = "poseidon2-babybear-8";
 /// What lies in a store before its first run.
-const OLD: u32 = 7;
-/// As many items as checks with rounds and evaluations are timed with.
-const FEWER: usize = 100_000;
+pub const OLD: u32 = 7;
+/// As many items as calls are timed with whose items are large.
+pub const FEWER: usize = 100_000;
 
 /// An honest instance of `items` publics, queries and equations of three terms each, and its
 /// trace. A query's outputs are wires of its own; its inputs are four outputs of the query
@@ -93,11 +87,20 @@ impl Honest {
         Held::from_parts(WIDTH, &self.parts)
     }
 
+    /// The use counts of its queries.
+    fn uses(&self) -> Vec<u32> {
+        let mut uses = vec![0; self.slots.len()];
+        for &var in &self.parts.queries {
+            uses[var as usize] += 1;
+        }
+        uses
+    }
+
     /// The source's relation, alone or on an allocator for several, where it has no label.
-    fn relation(&self, share: Option<Share>) -> Box<dyn source::Relation> {
-        let relation = match share {
-            None => source::relation(WIDTH, LABEL),
-            Some(_) => source::with_allocator(WIDTH, &source::Allocator::default()),
+    fn relation(&self, shared: bool) -> Box<dyn source::Relation> {
+        let relation = match shared {
+            false => source::relation(WIDTH, LABEL),
+            true => source::with_allocator(WIDTH, &source::Allocator::default()),
         };
         relation.allocate_vars(self.parts.vars_count - 1);
         let publics = &self.parts.publics;
@@ -185,9 +188,9 @@ pub fn tables(last: usize) {
         "gate",
         "An item is a public, a query and an equation; 9 wires each. The source's `compile` makes copies of its \
          values, queries and equations under locks before it asks, and lists the publics; the library reads the \
-         stores where they lie.",
+         stores where they lie, and is lent the use counts.",
         last,
-        |items| gate(items, None),
+        |items| gate(items, false),
     );
     table(
         "check, no rounds",
@@ -358,31 +361,50 @@ fn write_trace(items: usize) -> Line {
     }
 }
 
-/// The gate of a relation alone, or of one with this share.
-pub fn gate(items: usize, share: Option<Share>) -> Line {
+/// The gate of a relation alone, or of the last of eight on one allocator.
+pub fn gate(items: usize, shared: bool) -> Line {
     let honest = Honest::new(items, 0);
     let held = honest.held();
-    let relation = honest.relation(share);
-    let state = State {
-        rel: Relation {
-            width: WIDTH,
-            vars_count: held.ins.vars_count,
-            queries: held.ins.queries,
-            equations: held.ins.equations,
-            words: held.ins.words,
-        },
-        share,
-        slots: honest.slots,
-        queries: held.queries,
-        equations: held.equations,
-    };
-    let label = if share.is_none() { LABEL } else { "" };
+    let relation = honest.relation(shared);
+    let (slots, uses) = (&honest.slots, &honest.uses());
+    let (ins, queries, equations) = (held.ins, &held.queries, &held.equations);
     let mut publics = vec![OLD; held.publics.len()];
-    let mut scratch = vec![OLD; state.slots.len()];
+    let mut scratch = vec![OLD; slots.len()];
     let library = timed(
         || (),
         |()| {
-            let answer = side::compile(&state, label.as_bytes(), &mut publics, &mut scratch);
+            let (publics, scratch) = (&mut publics, &mut scratch);
+            let answer = if shared {
+                let allocator = sfr::VarAllocator {
+                    vars_count: ins.vars_count,
+                    opened: sfr::MAX_RELATIONS,
+                };
+                let rel = sfr::SharedRelation {
+                    width: WIDTH,
+                    queries: ins.queries,
+                    equations: ins.equations,
+                    words: ins.words,
+                    quota: u32::MAX,
+                    ..sfr::SharedRelation::default()
+                };
+                let index = sfr::MAX_RELATIONS - 1;
+                sfr::compile_on(
+                    allocator, index, rel, b"", slots, queries, equations, uses, publics, scratch,
+                )
+            } else {
+                let rel = sfr::Relation {
+                    width: WIDTH,
+                    vars_count: ins.vars_count,
+                    queries: ins.queries,
+                    equations: ins.equations,
+                    words: ins.words,
+                    stray: 0,
+                };
+                let label = LABEL.as_bytes();
+                sfr::compile(
+                    rel, label, slots, queries, equations, uses, publics, scratch,
+                )
+            };
             assert_eq!(answer.number, 0);
             answer
         },
@@ -397,7 +419,7 @@ pub fn gate(items: usize, share: Option<Share>) -> Line {
     );
     let [library, source] = best([library, source]);
     assert_eq!(publics, held.publics);
-    let words = state.slots.len() + state.queries.len() + state.equations.len() + publics.len();
+    let words = 2 * slots.len() + queries.len() + equations.len() + publics.len();
     Line {
         items,
         bytes: 4 * words,

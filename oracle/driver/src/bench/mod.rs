@@ -8,8 +8,10 @@ mod forms;
 mod input;
 mod inverse;
 mod labels;
+mod recording;
 mod shared;
 mod tickets;
+mod withdraw;
 
 use std::{env, fs, hint::black_box, time::Duration};
 
@@ -183,6 +185,8 @@ pub fn run(options: &Options) -> bool {
     );
     input::tables(last);
     tickets::tables(last);
+    recording::tables(last);
+    withdraw::tables(last);
     shared::tables(last);
     if asked_for("labels") {
         labels::tables(last);

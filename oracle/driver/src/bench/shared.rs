@@ -1,7 +1,6 @@
 //! The calls of eight relations on one allocator, one call for each item, beside the sources'
 //! `with_allocator`. Each relation makes an eighth of the calls, one relation after the other.
 
-use reading::Share;
 use sfr::{SharedAnswer, SharedRelation, VarAllocator, Weighted};
 use source::{Allocator, Ready, Relation};
 
@@ -25,17 +24,11 @@ pub fn tables(last: usize) {
         "The source keeps the sum that it is given: one is made for each call, within the time.";
     let equation_note = format!("{} {kept}", note("an equation of three terms"));
     table("shared equation", &equation_note, last, equation);
-    let share = Share {
-        index: 7,
-        opened: 8,
-        quota: u32::MAX,
-        obtained: 0,
-    };
     table(
         "shared gate",
         "As for the gate, of one of eight relations on one allocator.",
         last,
-        |items| input::gate(items, Some(share)),
+        |items| input::gate(items, true),
     );
 }
 
@@ -43,7 +36,21 @@ pub fn tables(last: usize) {
 struct Plant {
     allocator: VarAllocator,
     slots: Vec<u32>,
-    mixers: Vec<(SharedRelation, Vec<u32>)>,
+    mixers: Vec<Mixer>,
+}
+
+/// One relation, its queries or equations, and its use counts.
+struct Mixer {
+    rel: SharedRelation,
+    own: Vec<u32>,
+    uses: Vec<u32>,
+}
+
+/// What a call of one relation is lent.
+struct Lent<'a> {
+    slots: &'a mut [u32],
+    own: &'a mut [u32],
+    uses: &'a mut [u32],
 }
 
 impl Plant {
@@ -54,11 +61,12 @@ impl Plant {
             mixers: Vec::new(),
         };
         for _ in 0..RELATIONS {
-            let (allocator, slots) = (plant.allocator, &mut plant.slots);
-            let opened = sfr::with_allocator(allocator, WIDTH, u32::MAX, slots).accepted();
-            let rel;
-            (plant.allocator, rel) = opened.expect("eight may be opened");
-            plant.mixers.push((rel, vec![0; own]));
+            let (allocator, slots, mut uses) = (plant.allocator, &mut plant.slots, vec![0; slots]);
+            let opened = sfr::with_allocator(allocator, WIDTH, u32::MAX, slots, &mut uses);
+            let (allocator, rel) = opened.accepted().expect("eight may be opened");
+            plant.allocator = allocator;
+            let own = vec![0; own];
+            plant.mixers.push(Mixer { rel, own, uses });
         }
         plant
     }
@@ -67,8 +75,8 @@ impl Plant {
     fn allocated(slots: usize, own: usize) -> Self {
         let mut plant = Self::new(slots, own);
         let count = slots as u32 - 1;
-        plant.each(0, 1, |allocator, index, rel, slots, _, _| {
-            sfr::allocate_vars_on(allocator, index, rel, slots, count)
+        plant.each(0, 1, |allocator, index, rel, lent, _| {
+            sfr::allocate_vars_on(allocator, index, rel, lent.slots, count)
         });
         plant
     }
@@ -78,11 +86,13 @@ impl Plant {
         &mut self,
         index: usize,
         calls: usize,
-        call: impl Fn(VarAllocator, u32, SharedRelation, &mut [u32], &mut [u32], usize) -> SharedAnswer,
+        call: impl Fn(VarAllocator, u32, SharedRelation, Lent, usize) -> SharedAnswer,
     ) {
-        let (rel, own) = &mut self.mixers[index];
+        let Mixer { rel, own, uses } = &mut self.mixers[index];
         for i in 0..calls {
-            let answer = call(self.allocator, index as u32, *rel, &mut self.slots, own, i);
+            let slots = &mut self.slots;
+            let lent = Lent { slots, own, uses };
+            let answer = call(self.allocator, index as u32, *rel, lent, i);
             assert_eq!(answer.number, 0);
             (self.allocator, *rel) = (answer.allocator, answer.relation);
         }
@@ -145,8 +155,8 @@ fn allocate(items: usize) -> Line {
         4 * items,
         || Plant::new(1 + items, 0),
         |plant, index| {
-            plant.each(index, own, |allocator, index, rel, slots, _, _| {
-                sfr::allocate_vars_on(allocator, index, rel, slots, 1)
+            plant.each(index, own, |allocator, index, rel, lent, _| {
+                sfr::allocate_vars_on(allocator, index, rel, lent.slots, 1)
             });
         },
         0,
@@ -165,10 +175,10 @@ fn set(items: usize) -> Line {
         12 * items,
         || Plant::allocated(1 + items, 0),
         |plant, index| {
-            let (allocator, (rel, _)) = (plant.allocator, &plant.mixers[index]);
+            let (allocator, rel) = (plant.allocator, plant.mixers[index].rel);
             for i in part(index) {
                 let (slots, var, value) = (&mut plant.slots, vars[i], values[i]);
-                let answer = sfr::set_var_on(allocator, index as u32, *rel, slots, var, value);
+                let answer = sfr::set_var_on(allocator, index as u32, rel, slots, var, value);
                 assert_eq!((answer.number, answer.fresh), (0, true));
             }
         },
@@ -184,13 +194,13 @@ fn mint(items: usize) -> Line {
     let part = |index: usize| &inputs[index * own * W..(index + 1) * own * W];
     line(
         items,
-        4 * items * 4 * W,
+        4 * items * 6 * W,
         || Plant::new(1 + items * W, 2 * W * own),
         |plant, index| {
             let part = part(index);
-            plant.each(index, own, |allocator, index, rel, slots, queries, i| {
-                let input = &part[i * W..(i + 1) * W];
-                sfr::allocate_permutation_on(allocator, index, rel, slots, queries, input)
+            plant.each(index, own, |allocator, index, rel, lent, i| {
+                let (input, Lent { slots, own, uses }) = (&part[i * W..(i + 1) * W], lent);
+                sfr::allocate_permutation_on(allocator, index, rel, slots, own, uses, input)
             });
         },
         0,
@@ -220,9 +230,9 @@ fn equation(items: usize) -> Line {
         || Plant::new(1, 8 * own),
         |plant, index| {
             let first = index * own;
-            plant.each(index, own, |allocator, index, rel, _, store, i| {
+            plant.each(index, own, |allocator, index, rel, lent, i| {
                 let (terms, image) = (&lists[first + i], equations[first + i].1);
-                sfr::add_equation_on(allocator, index, rel, store, terms, image)
+                sfr::add_equation_on(allocator, index, rel, lent.own, terms, image)
             });
         },
         0,

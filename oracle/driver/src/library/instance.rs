@@ -49,27 +49,36 @@ fn list(seed: u64, seen: &mut Seen, log: &Log) -> Compared {
     let label = generate::label(rng).into_bytes();
     for _ in 0..8 {
         let (mut other, mut text) = (state.clone(), label.clone());
-        if rng.once_in(2) {
-            astray::state(rng, &mut other);
-            text = astray::label(rng, &label);
-        }
-        let held = match gate(rng, &other, &text, seen, log)? {
-            Some(held) => held,
-            None => Held::from_parts(generator.width, &generate::ungated(rng, generator.width)),
+        let struck = match rng.below(4) {
+            0 | 1 => {
+                astray::state(rng, &mut other);
+                text = astray::label(rng, &label);
+                false
+            }
+            2 => {
+                astray::miscount(rng, &mut other);
+                false
+            }
+            _ => generator.struck,
+        };
+        let held = match gate(rng, &other, &text, struck, seen, log)? {
+            (0, held) => held,
+            _ => Held::from_parts(generator.width, &generate::ungated(rng, generator.width)),
         };
         instance(rng, &held, seen, log)?;
     }
     Ok(())
 }
 
-/// The gate; the instance where it accepts.
+/// The gate: its number, and the instance where it accepts.
 pub fn gate(
     rng: &mut Rng,
     state: &State,
     label: &[u8],
+    struck: bool,
     seen: &mut Seen,
     log: &Log,
-) -> Outcome<Option<Held>> {
+) -> Outcome<(u32, Held)> {
     let assigned = state.slots.iter().filter(|&&slot| slot != u32::MAX).count();
     let (mut publics, mut scratch) = (Room::AMPLE.publics / 8, Room::AMPLE.scratch / 8);
     if rng.once_in(3) {
@@ -81,7 +90,7 @@ pub fn gate(
     let mut expected = given.clone();
     let library = side::compile(state, label, &mut given.0, &mut given.1);
     let reading = held::compile(state, label, &mut expected.0, &mut expected.1);
-    seen.answered("gate", reading.number);
+    seen.gated(reading.number, struck);
     let library = (library.number, from_library(library.instance), given);
     let answer = (reading.number, reading.instance, expected);
     same("gate", ("library", &library), ("reading", &answer))?;
@@ -92,7 +101,7 @@ pub fn gate(
         queries: state.queries.clone(),
         equations: state.equations.clone(),
     };
-    Ok((reading.number == 0).then_some(held))
+    Ok((reading.number, held))
 }
 
 /// Values, a write, and reads of what was written, whole and damaged.

@@ -2,7 +2,7 @@
 //! set by one call than half a word counts.
 //!
 //! Zeroed pages take no memory until somebody writes to them, so such a store costs little;
-//! only the words at its two ends are compared.
+//! only the words at its two ends are compared. A use store that is filled with 0 is not among them.
 
 use reading::{Relation, Share, MAX_COUNT, P, UNASSIGNED};
 
@@ -15,10 +15,11 @@ use crate::{
 
 const LIMIT: usize = MAX_COUNT as usize;
 
-/// A call on a relation of width 1 with zeroed stores of these lengths.
+/// A call on a relation of width 1 with zeroed stores of these lengths: slots, queries, equations
+/// and use counts.
 struct Case {
     rel: Relation,
-    lens: [usize; 3],
+    lens: [usize; 4],
     call: Call,
 }
 
@@ -29,6 +30,7 @@ const REL: Relation = Relation {
     queries: 0,
     equations: 0,
     words: 0,
+    stray: 0,
 };
 const FEW: usize = 8;
 /// More than half a word counts, in stores of no such size.
@@ -37,22 +39,26 @@ const MANY: u32 = 70_000;
 /// The calls of a relation with each of these shares, or alone.
 pub fn compare(shares: &[Option<Share>]) -> Compared {
     for &share in shares {
-        for cases in [slots(), queries(), equations(), lists()] {
+        for cases in [slots(), queries(), equations(), uses(), lists()] {
             for case in cases {
                 compare_case(case, share)?;
             }
         }
-        for len in [LIMIT, LIMIT + 1] {
-            compare_fresh(len, share)?;
+        for long in [LIMIT, LIMIT + 1] {
+            for lens in [(long, FEW), (FEW, long), (0, long), (long, 0)] {
+                compare_fresh(lens, share)?;
+            }
         }
         compare_many(share)?;
     }
     Ok(())
 }
 
-/// A new relation, or an opening.
-fn compare_fresh(len: usize, share: Option<Share>) -> Compared {
-    let (mut library, mut reading) = (zeroed([len, 0, 0], share), zeroed([len, 0, 0], share));
+/// A new relation, or an opening, over so many slots and use counts: never as many.
+fn compare_fresh(lens: (usize, usize), share: Option<Share>) -> Compared {
+    let (slots, uses) = lens;
+    let lens = [slots, 0, 0, uses];
+    let (mut library, mut reading) = (zeroed(lens, share), zeroed(lens, share));
     let (given, expected) = match share {
         None => {
             let answer = side::new_relation(&mut library, 1);
@@ -63,9 +69,10 @@ fn compare_fresh(len: usize, share: Option<Share>) -> Compared {
             (answer.number, reading.with_allocator(1, 5).number)
         }
     };
-    let what = format!("fresh over {len} slots, {share:?}");
+    let what = format!("fresh over {slots} slots and {uses} counts, {share:?}");
     same(&what, ("library", given), ("reading", expected))?;
-    compare_records(&what, &library, &reading)
+    compare_records(&what, &library, &reading)?;
+    compare_ends(&what, &library, &reading)
 }
 
 /// Wire 0, and many wires by one list and by one text, whole and with a last one that is refused,
@@ -91,7 +98,7 @@ fn compare_many(share: Option<Share>) -> Compared {
 }
 
 fn compare_twice(call: &Call, share: Option<Share>) -> Compared {
-    let mut library = zeroed([MANY as usize, 0, 0], share);
+    let mut library = zeroed([MANY as usize, 0, 0, 0], share);
     library.rel.vars_count = MANY;
     library.slots.fill(UNASSIGNED);
     let mut reading = library.clone();
@@ -114,14 +121,15 @@ fn compare_records(what: &str, library: &State, reading: &State) -> Compared {
     )
 }
 
-fn zeroed(lens: [usize; 3], share: Option<Share>) -> State {
-    let [slots, queries, equations] = lens.map(|len| vec![0; len]);
+fn zeroed(lens: [usize; 4], share: Option<Share>) -> State {
+    let [slots, queries, equations, uses] = lens.map(|len| vec![0; len]);
     State {
         rel: REL,
         share,
         slots,
         queries,
         equations,
+        uses,
     }
 }
 
@@ -142,12 +150,53 @@ fn slots() -> Vec<Case> {
             Call::Mint(vec![0]),
             Call::Value(all - 1),
             Call::IsAllocated(all - 1),
+            Call::Record(vec![0], vec![all - 1]),
+            Call::Record(vec![all - 1], vec![all]),
+            Call::WithdrawQuery(0),
         ];
-        cases.extend(calls.map(|call| Case {
-            rel: Relation { vars_count, ..REL },
-            lens: [len, FEW, FEW],
-            call,
-        }));
+        // With as many use counts, and with a few.
+        for uses in [len, FEW] {
+            cases.extend(calls.iter().cloned().map(|call| Case {
+                rel: Relation { vars_count, ..REL },
+                lens: [len, FEW, FEW, uses],
+                call,
+            }));
+        }
+    }
+    cases
+}
+
+/// A use store that is too long, or the longest that may be, beside few slots; counts of 0 that a
+/// withdrawal of a query would make less; and as many as the slots, of which the last is used.
+fn uses() -> Vec<Case> {
+    let mut cases = Vec::new();
+    let all = LIMIT as u32;
+    let calls = [
+        Call::Record(vec![0], vec![0]),
+        Call::Record(vec![9], vec![9]),
+        Call::Mint(vec![0]),
+        Call::WithdrawQuery(0),
+        Call::WithdrawQuery(1),
+        Call::WithdrawQuery(u32::MAX),
+    ];
+    for (slots, uses) in [
+        (FEW, LIMIT + 1),
+        (FEW, LIMIT),
+        (LIMIT, LIMIT),
+        (LIMIT, LIMIT - 1),
+        (LIMIT - 1, LIMIT),
+    ] {
+        for (queries, stray) in [(1, 0), (1, all), (0, u32::MAX)] {
+            cases.extend(calls.iter().cloned().map(|call| Case {
+                rel: Relation {
+                    queries,
+                    stray,
+                    ..REL
+                },
+                lens: [slots, FEW, FEW, uses],
+                call,
+            }));
+        }
     }
     cases
 }
@@ -161,10 +210,16 @@ fn queries() -> Vec<Case> {
         (LIMIT, all),
         (LIMIT, all - 1),
     ] {
-        let calls = [Call::Record(vec![3], vec![4]), Call::Mint(vec![5])];
+        // Held queries are of wire 0, which no count says; all of them are gone over by none.
+        let calls = [
+            Call::Record(vec![3], vec![4]),
+            Call::Mint(vec![5]),
+            Call::WithdrawQuery(0),
+            Call::WithdrawQuery(all),
+        ];
         cases.extend(calls.map(|call| Case {
             rel: Relation { queries, ..REL },
-            lens: [FEW, len, FEW],
+            lens: [FEW, len, FEW, FEW],
             call,
         }));
     }
@@ -184,14 +239,20 @@ fn equations() -> Vec<Case> {
         (LIMIT, 0, all - 4),
     ];
     for (len, equations, words) in counts {
-        let calls = [Call::Equation(vec![], 7), Call::Equation(vec![(3, 4)], 7)];
+        // No withdrawal is accepted: the equations end before the used words, or after them.
+        let calls = [
+            Call::Equation(vec![], 7),
+            Call::Equation(vec![(3, 4)], 7),
+            Call::WithdrawEquation(0),
+            Call::WithdrawEquation(all / 2),
+        ];
         cases.extend(calls.map(|call| Case {
             rel: Relation {
                 equations,
                 words,
                 ..REL
             },
-            lens: [FEW, FEW, len],
+            lens: [FEW, FEW, len, FEW],
             call,
         }));
     }
@@ -210,7 +271,7 @@ fn lists() -> Vec<Case> {
     ];
     let cases = calls.into_iter().map(|call| Case {
         rel: REL,
-        lens: [FEW; 3],
+        lens: [FEW; 4],
         call,
     });
     cases.collect()
@@ -227,17 +288,18 @@ fn compare_case(case: Case, share: Option<Share>) -> Compared {
     let what = format!("{name} on {rel:?} {share:?} with stores of {lens:?} words");
     same(&what, ("library", given), ("reading", expected))?;
     compare_records(&what, &library, &reading)?;
+    compare_ends(&what, &library, &reading)
+}
+
+fn compare_ends(what: &str, library: &State, reading: &State) -> Compared {
     let stores = [
         (&library.slots, &reading.slots),
         (&library.queries, &reading.queries),
         (&library.equations, &reading.equations),
+        (&library.uses, &reading.uses),
     ];
     for (library, reading) in stores {
-        same(
-            &what,
-            ("library", ends(library)),
-            ("reading", ends(reading)),
-        )?;
+        same(what, ("library", ends(library)), ("reading", ends(reading)))?;
     }
     Ok(())
 }

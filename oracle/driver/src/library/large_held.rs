@@ -1,5 +1,6 @@
 //! `large`: stores of 2^30 words and of one more, and labels of 2^32 bytes, lent to the calls
-//! on traces and instances; such a label scanned; and a ticket text of more bytes than that.
+//! on traces and instances; use stores of that many words filled by fresh and by openings; such a
+//! label scanned; and a ticket text of more bytes than that.
 //!
 //! Zeroed pages take no memory until somebody writes to them; a store that a call clears
 //! takes 4 GiB, one such store at a time, and the text takes as much.
@@ -22,6 +23,7 @@ const REL: Relation = Relation {
     queries: 0,
     equations: 0,
     words: 0,
+    stray: 0,
 };
 const UNOPENED: Share = Share {
     index: 1,
@@ -88,6 +90,7 @@ struct Lent<'a> {
     publics: &'a [u32],
     queries: &'a [u32],
     equations: &'a [u32],
+    uses: &'a [u32],
     trace: &'a [u32],
     params: &'a [u32],
     label: &'a [u8],
@@ -99,6 +102,7 @@ fn read_only(cases: &mut usize) -> Compared {
     let text = vec![0u8; 1 << 32];
     let few = Lent {
         slots: &[0],
+        uses: &[0],
         params: &PARAMS,
         ..Lent::default()
     };
@@ -110,6 +114,13 @@ fn read_only(cases: &mut usize) -> Compared {
         lent.extend([
             Lent {
                 slots: store,
+                ..few
+            },
+            Lent { uses: store, ..few },
+            // Each count from the first wire on is looked at.
+            Lent {
+                slots: store,
+                uses: store,
                 ..few
             },
             Lent {
@@ -175,15 +186,19 @@ fn gate_on(on: On, lent: Lent, publics: &mut [u32], scratch: &mut [u32]) -> Comp
         slots,
         queries,
         equations,
+        uses,
         label,
         ..
     } = lent;
-    let library: sfr::InstanceAnswer =
-        called!(sfr, on, compile, compile_on, label, slots, queries, equations, publics, scratch);
+    let library: sfr::InstanceAnswer = called!(
+        sfr, on, compile, compile_on, label, slots, queries, equations, uses, publics, scratch
+    );
     let given = (library.number, ends(publics), ends(scratch));
     dirty(publics);
     dirty(scratch);
-    let reading = reading::compile(on, label, slots, queries, equations, publics, scratch);
+    let reading = reading::compile(
+        on, label, slots, queries, equations, uses, publics, scratch,
+    );
     let expected = (reading.number, ends(publics), ends(scratch));
     same("large, gate", ("library", given), ("reading", expected))
 }
@@ -282,6 +297,7 @@ fn cleared(cases: &mut usize) -> Compared {
     let mut long = vec![0u32; LIMIT + 1];
     let lent = Lent {
         slots: &[0],
+        uses: &[0],
         params: &PARAMS,
         ..Lent::default()
     };
@@ -290,8 +306,10 @@ fn cleared(cases: &mut usize) -> Compared {
         .copied()
         .chain(file(&[1, 4, 0, 1, 0, 0, 0]))
         .collect();
+    let mut slots = vec![0u32; LIMIT + 1];
     for len in [LIMIT, LIMIT + 1] {
         let store = &mut long[..len];
+        fresh(&mut slots[..len], store)?;
         gate(lent, store, &mut [7; 2])?;
         gate(lent, &mut [7; 2], store)?;
         check(lent, store)?;
@@ -300,7 +318,36 @@ fn cleared(cases: &mut usize) -> Compared {
         for place in 0..4 {
             read(&bytes, store, place)?;
         }
-        *cases += 9;
+        *cases += 11;
+    }
+    Ok(())
+}
+
+/// A new relation, and openings of the first and of a later one, over as many slots as use counts:
+/// all of these become 0, and of the slots the first alone is written.
+fn fresh(slots: &mut [u32], uses: &mut [u32]) -> Compared {
+    for opened in [None, Some(0), Some(7)] {
+        let mut answers = Vec::new();
+        for library in [true, false] {
+            dirty(slots);
+            dirty(uses);
+            let vars_count = 1;
+            let number = match (opened, library) {
+                (None, true) => sfr::new_relation(1, slots, uses).number,
+                (None, false) => reading::new(1, slots, uses).number,
+                (Some(opened), true) => {
+                    let allocator = sfr::VarAllocator { vars_count, opened };
+                    sfr::with_allocator(allocator, 1, 5, slots, uses).number
+                }
+                (Some(opened), false) => {
+                    let allocator = reading::VarAllocator { vars_count, opened };
+                    reading::with_allocator(allocator, 1, 5, slots, uses).number
+                }
+            };
+            answers.push((number, ends(slots), ends(uses)));
+        }
+        let what = format!("large, fresh or opened, {opened:?}");
+        same(&what, ("library", &answers[0]), ("reading", &answers[1]))?;
     }
     Ok(())
 }

@@ -2,14 +2,14 @@
 //! beside the compiled sources for as long as calls alone have made the record.
 //!
 //! After every call the answers, the records and every word of every store are compared,
-//! held or not. Now and then a list goes astray for some calls: with a record, stores or
-//! held words that no list of calls makes.
+//! held or not, and at the end of a list its gate. Now and then a list goes astray for some calls:
+//! with a record, stores, counts or held words that no list of calls makes.
 
 use source::Relation;
 
-use super::{large, side};
+use super::{instance, large, side};
 use crate::{
-    against_source::calls,
+    against_source::{calls, instances::both},
     astray,
     calls::{Answer, Call, State},
     compared::{same, Compared, Log, Outcome, Seen},
@@ -82,6 +82,11 @@ impl Pair {
             "equations",
             ("library", &library.equations),
             ("reading", &reading.equations),
+        )?;
+        same(
+            "uses",
+            ("library", &library.uses),
+            ("reading", &reading.uses),
         )
     }
 
@@ -94,6 +99,38 @@ impl Pair {
         self.library = changed.clone();
         self.reading = changed;
     }
+
+    /// Calls on what lies beside a sound state, and a gate.
+    pub fn astray(mut self, generator: &mut Generator, seen: &mut Seen, log: &Log) -> Compared {
+        if generator.rng.once_in(2) {
+            self.change(&mut generator.rng);
+        }
+        let rng = &mut generator.rng;
+        let gate = rng.once_in(4);
+        for _ in 0..rng.between(1, 3) {
+            let call = match generator.rng.below(8) {
+                0..=2 => {
+                    let (call, cells) = generator.counted_call(&self.reading);
+                    astray::counts(&mut generator.rng, &mut self.reading, &cells);
+                    call
+                }
+                3 => {
+                    let equations = self.reading.rel.equations.max(1);
+                    astray::equations(&mut generator.rng, &mut self.reading);
+                    Call::WithdrawEquation(generator.index(equations))
+                }
+                _ => generator.wild_call(&self.reading),
+            };
+            self.library = self.reading.clone();
+            self.call(&call, seen, log)?;
+        }
+        if gate {
+            let rng = &mut generator.rng;
+            let label = astray::label(rng, b"a");
+            instance::gate(rng, &self.reading, &label, false, seen, log)?;
+        }
+        Ok(())
+    }
 }
 
 /// One list of calls.
@@ -102,22 +139,17 @@ fn list(seed: u64, seen: &mut Seen, log: &Log) -> Compared {
     let mut pair = Pair::new(generator.state());
     fresh_astray(&mut generator.rng, &pair, seen, log)?;
     fresh(&mut pair, generator.width, seen, log)?;
-    let relation = source::relation(generator.width, "");
+    let mut relation = source::relation(generator.width, "");
     for _ in 0..generator.rng.between(1, 60) {
         if generator.rng.once_in(4) {
-            let mut other = pair.clone();
-            other.change(&mut generator.rng);
-            for _ in 0..generator.rng.between(1, 3) {
-                let call = generator.wild_call(&other.reading);
-                other.call(&call, seen, log)?;
-            }
+            pair.clone().astray(&mut generator, seen, log)?;
         }
         let call = generator.call(&pair.reading);
         let answer = pair.call(&call, seen, log)?;
-        compare_source(&mut generator, &call, &answer, &pair.reading, &*relation)?;
+        compare_source(&mut generator, &call, &answer, &pair.reading, &mut relation)?;
         generator.note(&call, &answer);
     }
-    Ok(())
+    gate(&mut generator, &pair.reading, &*relation, seen, log)
 }
 
 fn compare_source(
@@ -125,11 +157,27 @@ fn compare_source(
     call: &Call,
     answer: &Answer,
     state: &State,
-    relation: &dyn Relation,
+    relation: &mut Box<dyn Relation>,
 ) -> Compared {
     let spelling = generator.rng.below(3);
-    calls::compare(call, answer, generator.width, relation, spelling)?;
-    calls::compare_states(state, relation)
+    calls::compare(call, answer, generator.width, relation, true, spelling)?;
+    calls::compare_states(state, &**relation)
+}
+
+/// The gate of what the list left, on all sides. Room has no counterpart in the source.
+fn gate(
+    generator: &mut Generator,
+    state: &State,
+    relation: &dyn Relation,
+    seen: &mut Seen,
+    log: &Log,
+) -> Compared {
+    let struck = generator.struck;
+    let (number, held) = instance::gate(&mut generator.rng, state, b"", struck, seen, log)?;
+    match number {
+        10 | 16 => Ok(()),
+        _ => both(number, held, relation.compile()).map(|_| ()),
+    }
 }
 
 /// A new relation on both sides.
@@ -155,9 +203,15 @@ fn fresh_astray(rng: &mut Rng, pair: &Pair, seen: &mut Seen, log: &Log) -> Compa
     } else {
         rng.width()
     };
-    if rng.once_in(4) {
-        other.library.slots.clear();
-        other.reading.slots.clear();
+    match rng.below(8) {
+        0 => other.reading.slots.clear(),
+        1 => other.reading.uses.clear(),
+        2 => {
+            let len = astray::near_len(rng, other.reading.slots.len());
+            other.reading.uses.resize(len, rng.edge());
+        }
+        _ => {}
     }
+    other.library = other.reading.clone();
     fresh(&mut other, width, seen, log)
 }

@@ -4,7 +4,7 @@
 //! After every opening and call the answers, both records and every word of every store are
 //! compared; at random places of a list the gate of a relation, its bytes both ways and checks.
 //! Now and then calls go astray: with an allocator, a number, a record, a quota or stores that no
-//! list makes.
+//! list makes, or with counts that are wrong.
 
 use reading::Share;
 use source::Relation;
@@ -14,7 +14,7 @@ use crate::{
     astray,
     calls::{Answer, Call, State},
     compared::{same, Compared, Log, Outcome, Seen},
-    generate::{self, Generator},
+    generate::Generator,
     lists,
     options::Options,
     plant,
@@ -73,10 +73,15 @@ impl Run<'_> {
     fn opening_astray(&mut self, rng: &mut Rng, state: &State) -> Compared {
         let mut pair = Pair::new(state.clone());
         pair.change(rng);
-        if rng.once_in(4) {
-            pair.library.slots.clear();
-            pair.reading.slots.clear();
+        match rng.below(8) {
+            0 | 1 => pair.reading.slots.clear(),
+            2 => {
+                let len = astray::near_len(rng, pair.reading.slots.len());
+                pair.reading.uses.resize(len, rng.edge());
+            }
+            _ => {}
         }
+        pair.library = pair.reading.clone();
         let (width, quota) = (astray::width(rng), rng.edge());
         self.log
             .say(|| format!("Open({width}, {quota}) on {:?}", pair.reading));
@@ -109,7 +114,8 @@ impl plant::Side for Run<'_> {
         state: &State,
         relation: &dyn Relation,
     ) -> Compared {
-        instance::gate(&mut generator.rng, state, b"", self.seen, self.log)?;
+        let struck = generator.struck;
+        instance::gate(&mut generator.rng, state, b"", struck, self.seen, self.log)?;
         let (seen, log) = (&mut *self.seen, self.log);
         whole::Run { seen, log }.judged(generator, state, "", relation)
     }
@@ -119,15 +125,6 @@ impl plant::Side for Run<'_> {
             return Ok(());
         }
         self.opening_astray(&mut generator.rng, state)?;
-        let mut pair = Pair::new(state.clone());
-        pair.change(&mut generator.rng);
-        for _ in 0..generator.rng.between(1, 3) {
-            let call = generator.wild_call(&pair.reading);
-            pair.call(&call, self.seen, self.log)?;
-        }
-        let rng = &mut generator.rng;
-        let label = generate::label(rng).into_bytes();
-        let label = astray::label(rng, &label);
-        instance::gate(rng, &pair.reading, &label, self.seen, self.log).map(|_| ())
+        Pair::new(state.clone()).astray(generator, self.seen, self.log)
     }
 }

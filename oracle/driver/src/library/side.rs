@@ -6,13 +6,15 @@ made!(sfr);
 
 /// A new relation over these stores.
 pub fn new_relation(state: &mut State, width: u32) -> Answer {
-    let answer = sfr::new_relation(width, &mut state.slots);
+    let answer = sfr::new_relation(width, &mut state.slots, &mut state.uses);
     state.keep(answer.into())
 }
 
 /// Opens a relation on the allocator.
 pub fn with_allocator(state: &mut State, width: u32, quota: u32) -> Answer {
-    let answer = sfr::with_allocator(allocator!(sfr, state), width, quota, &mut state.slots);
+    let allocator = allocator!(sfr, state);
+    let (slots, uses) = (&mut state.slots, &mut state.uses);
+    let answer = sfr::with_allocator(allocator, width, quota, slots, uses);
     state.keep(answer.into())
 }
 
@@ -23,13 +25,16 @@ pub fn compile(
     publics: &mut [u32],
     scratch: &mut [u32],
 ) -> sfr::InstanceAnswer {
-    let (slots, queries, equations) = (&state.slots, &state.queries, &state.equations);
-    called!(sfr, state, compile, compile_on, label, slots, queries, equations, publics, scratch)
+    let (slots, queries) = (&state.slots, &state.queries);
+    let (equations, uses) = (&state.equations, &state.uses);
+    called!(
+        sfr, state, compile, compile_on, label, slots, queries, equations, uses, publics, scratch
+    )
 }
 
 /// Runs a call and keeps the record that it gives back.
 pub fn run(state: &mut State, call: &Call) -> Answer {
-    let (slots, queries) = (&mut state.slots, &mut state.queries);
+    let (slots, queries, uses) = (&mut state.slots, &mut state.queries, &mut state.uses);
     match call {
         Call::Allocate(count) => {
             let made = called!(sfr, state, allocate_vars, allocate_vars_on, slots, *count);
@@ -70,7 +75,9 @@ pub fn run(state: &mut State, call: &Call) -> Answer {
                 state,
                 add_permutation,
                 add_permutation_on,
+                slots,
                 queries,
+                uses,
                 input,
                 output
             );
@@ -84,7 +91,21 @@ pub fn run(state: &mut State, call: &Call) -> Answer {
                 allocate_permutation_on,
                 slots,
                 queries,
+                uses,
                 input
+            );
+            state.keep(made)
+        }
+        Call::WithdrawQuery(index) => {
+            let made = called!(
+                sfr,
+                state,
+                withdraw_query,
+                withdraw_query_on,
+                slots,
+                queries,
+                uses,
+                *index
             );
             state.keep(made)
         }
@@ -98,6 +119,18 @@ pub fn run(state: &mut State, call: &Call) -> Answer {
                 equations,
                 &terms,
                 *image
+            );
+            state.keep(made)
+        }
+        Call::WithdrawEquation(index) => {
+            let equations = &mut state.equations;
+            let made = called!(
+                sfr,
+                state,
+                withdraw_equation,
+                withdraw_equation_on,
+                equations,
+                *index
             );
             state.keep(made)
         }

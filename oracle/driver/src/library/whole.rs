@@ -75,7 +75,7 @@ impl Run<'_> {
         self.log
             .say(|| format!("width {width}, {:?}, label {label:?}", generator.mood));
 
-        let relation = source::relation(width, &label);
+        let mut relation = source::relation(width, &label);
         let number = side::new_relation(&mut state, width).number;
         self.seen.answered("fresh", number);
         same("fresh", ("library", number), ("source", 0))?;
@@ -85,7 +85,7 @@ impl Run<'_> {
             let answer = side::run(&mut state, &call);
             self.seen.called(&call, &answer);
             let spelling = generator.rng.below(3);
-            calls::compare(&call, &answer, width, &*relation, spelling)?;
+            calls::compare(&call, &answer, width, &mut relation, true, spelling)?;
             calls::compare_states(&state, &*relation)?;
             generator.note(&call, &answer);
         }
@@ -111,7 +111,7 @@ impl Run<'_> {
         label: &str,
         relation: &dyn Relation,
     ) -> Compared {
-        let (number, held) = self.gate(state, label);
+        let (number, held) = self.gate(state, label, generator.struck);
         let Some((held, instance)) = both(number, held, relation.compile())? else {
             return Ok(());
         };
@@ -121,19 +121,19 @@ impl Run<'_> {
             same(
                 "an honest list's check",
                 ("library", number),
-                ("expected", 0),
+                ("expected", held.honest_number()),
             )?;
         }
         self.instance(generator, &held, &*instance, &trace)
     }
 
     /// The gate, in ample stores.
-    fn gate(&mut self, state: &State, label: &str) -> (u32, Held) {
+    fn gate(&mut self, state: &State, label: &str, struck: bool) -> (u32, Held) {
         self.log.say(|| "Gate".to_owned());
         let mut publics = vec![DIRT; Room::AMPLE.publics];
         let scratch = &mut vec![DIRT; Room::AMPLE.scratch];
         let answer = side::compile(state, label.as_bytes(), &mut publics, scratch);
-        self.seen.answered("gate", answer.number);
+        self.seen.gated(answer.number, struck);
         let held = Held {
             ins: from_library(answer.instance),
             label: label.as_bytes().to_vec(),

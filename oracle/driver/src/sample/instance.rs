@@ -2,7 +2,7 @@
 //! value in publics, the heading and the check, with all that is lent to the call and with what
 //! the second reading says of it.
 
-use reading::Instance;
+use reading::{Instance, Share, MAX_COUNT};
 use source::Params;
 
 use super::{
@@ -16,7 +16,7 @@ use super::{
 };
 use crate::{
     astray,
-    calls::{State, DIRT},
+    calls::{Call, State, DIRT},
     generate::{self, Generator},
     held::{self, Held, Room},
     rng::Rng,
@@ -39,18 +39,57 @@ fn given(arguments: [u32; 2], ins: Instance) -> [u32; 8] {
 impl Sample {
     fn gate(&mut self, state: &State, label: &[u8], publics: usize, scratch: usize) {
         let (mut publics, mut scratch) = (vec![DIRT; publics], vec![DIRT; scratch]);
-        let (slots, queries, equations) = (&state.slots, &state.queries, &state.equations);
         let case = relation::case_of(31, [0, 0], state)
             .bytes(TEXT, label)
             .list(FIRST, &publics)
-            .list(ONE, slots)
-            .list(TWO, queries)
-            .list(THREE, equations)
+            .list(ONE, &state.slots)
+            .list(TWO, &state.queries)
+            .list(THREE, &state.equations)
+            .list(FOUR, &state.uses)
             .list(SECOND, &scratch);
         let answer = held::compile(state, label, &mut publics, &mut scratch);
         let case = case.answer(&given([answer.number, 0], answer.instance));
         self.push(case.list(FIRST_AFTER, &publics));
         assert!(scratch.iter().all(|&word| word == 0), "scratch is all 0");
+    }
+
+    /// The gates that every sample has, of a relation alone and of one that shares its allocator:
+    /// with right counts and with wrong ones, by which 13 and 15 go, and with too few or too many.
+    pub fn fixed_gates(&mut self) {
+        let mut state = relation::fresh(4);
+        state.queries.truncate(2);
+        state.run(&Call::Allocate(2));
+        state.run(&Call::Record(vec![1], vec![1]));
+        state.equations = vec![1, 1, 3, 4];
+        (state.rel.equations, state.rel.words) = (1, 4);
+        let share = Share {
+            index: 1,
+            opened: 2,
+            quota: 0,
+            obtained: 0,
+        };
+        let counts: [(&[u32], u32); 12] = [
+            (&[0, 2, 0, 0], 0),
+            (&[0, 0, 0, 0], 0),
+            (&[0, 0, 2, 0], 0),
+            (&[1, 1, 1, 0], 0),
+            (&[0, u32::MAX, 0, 0], 0),
+            (&[0, 2, 0, 1], 0),
+            (&[0, 0, 0, MAX_COUNT + 1], 0),
+            (&[0, 2, 0, 0], 1),
+            (&[0, 0, 0, 0], u32::MAX),
+            (&[0, 2, 0], 0),
+            (&[0, 2, 0, 0, 0], 0),
+            (&[], 0),
+        ];
+        for share in [None, Some(share)] {
+            for (uses, stray) in counts {
+                let mut state = state.clone();
+                state.share = share;
+                (state.uses, state.rel.stray) = (uses.to_vec(), stray);
+                self.gate(&state, b"", 2, 3);
+            }
+        }
     }
 
     fn write_instance(&mut self, held: &Held, room: usize) {
@@ -176,9 +215,13 @@ impl Sample {
 
     pub fn random_gate(&mut self, rng: &mut Rng, state: &State, label: &[u8]) {
         let (mut state, mut label) = (state.clone(), label.to_vec());
-        if rng.once_in(2) {
-            astray::state(rng, &mut state);
-            label = astray::label(rng, &label);
+        match rng.below(8) {
+            0..=3 => {
+                astray::state(rng, &mut state);
+                label = astray::label(rng, &label);
+            }
+            4 | 5 => astray::miscount(rng, &mut state),
+            _ => {}
         }
         let vars = (state.rel.vars_count as usize).min(state.slots.len());
         let assigned = state.slots[..vars].iter().filter(|&&slot| slot != u32::MAX);

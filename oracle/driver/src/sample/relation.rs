@@ -1,5 +1,5 @@
-//! Operations 10 to 20 of a sample: one call on a relation each, with all that is lent to it
-//! and with what the second reading says of it.
+//! Operations 10 to 20, 27 and 28 of a sample: one call on a relation each, with all that is lent
+//! to it and with what the second reading says of it.
 //!
 //! A random case starts as a call that most likely is accepted, over stores that end where
 //! its room does or a little later. Up to two faults are then put into record, stores and
@@ -9,10 +9,13 @@
 use reading::{Relation, Share, MAX_COUNT, P, UNASSIGNED};
 
 use super::{
-    case::{Case, FIRST, FIRST_AFTER, ONE, SECOND, SECOND_AFTER, TEXT, TWO},
+    case::{
+        Case, FIRST, FIRST_AFTER, ONE, SECOND, SECOND_AFTER, TEXT, THIRD, THIRD_AFTER, THREE, TWO,
+    },
     Sample,
 };
 use crate::{
+    astray,
     calls::{weighted, Call, State, DIRT},
     rng::{Rng, EDGES},
 };
@@ -23,7 +26,7 @@ const NO_VARS: [u32; 4] = [MAX_COUNT, MAX_COUNT + 1, DIRT, u32::MAX];
 const NO_UNITS: [u32; 4] = [P, P + 1, DIRT, UNASSIGNED];
 
 /// The words of a record behind two arguments.
-pub fn given(arguments: [u32; 2], rel: Relation) -> [u32; 7] {
+pub fn given(arguments: [u32; 2], rel: Relation) -> [u32; 8] {
     let [x, y] = arguments;
     let Relation {
         width,
@@ -31,8 +34,24 @@ pub fn given(arguments: [u32; 2], rel: Relation) -> [u32; 7] {
         queries,
         equations,
         words,
+        stray,
     } = rel;
-    [x, y, width, vars_count, queries, equations, words]
+    [x, y, width, vars_count, queries, equations, words, stray]
+}
+
+/// Where the stores lie that a call may write, and what is left in them.
+const STORES: [(usize, usize); 3] = [
+    (FIRST, FIRST_AFTER),
+    (SECOND, SECOND_AFTER),
+    (THIRD, THIRD_AFTER),
+];
+
+/// Widths of calls that are lent queries, most of them small: such a case has the use counts too.
+fn query_width(rng: &mut Rng) -> u32 {
+    match rng.below(6) {
+        0 => rng.width(),
+        _ => rng.between(1, 5) as u32,
+    }
 }
 
 /// A case of a call with its numbers: that of its operation or, where the relation shares an
@@ -48,7 +67,7 @@ pub fn case_of(operation: u32, arguments: [u32; 2], state: &State) -> Case {
         quota,
         obtained,
     } = share;
-    numbers.extend([0, index, opened, quota, obtained, operation]);
+    numbers.extend([index, opened, quota, obtained, operation]);
     Case::new(30).given(&numbers)
 }
 
@@ -56,19 +75,24 @@ pub fn case_of(operation: u32, arguments: [u32; 2], state: &State) -> Case {
 pub fn answered(number: u32, first: u32, state: &State) -> Vec<u32> {
     let mut words = given([number, first], state.rel).to_vec();
     if let Some(share) = state.share {
-        words.extend([0, 0, share.opened, share.quota, share.obtained]);
+        words.extend([0, share.opened, share.quota, share.obtained]);
     }
     words
 }
 
 impl Sample {
-    fn new_relation(&mut self, width: u32, slots: Vec<u32>) {
-        let case = Case::new(11).given(&[0, 0, width]).list(FIRST, &slots);
+    fn new_relation(&mut self, width: u32, slots: Vec<u32>, uses: Vec<u32>) {
+        let case = Case::new(11)
+            .given(&[0, 0, width])
+            .list(FIRST, &slots)
+            .list(SECOND, &uses);
         let mut state = State::sized(0, 0, 0);
-        state.slots = slots;
+        (state.slots, state.uses) = (slots, uses);
         let number = state.new_relation(width);
-        let case = case.answer(&given([number, 0], state.rel));
-        self.push(case.list(FIRST_AFTER, &state.slots));
+        let case = case
+            .answer(&given([number, 0], state.rel))
+            .list(FIRST_AFTER, &state.slots);
+        self.push(case.list(SECOND_AFTER, &state.uses));
     }
 
     /// A call, put to the second reading.
@@ -91,12 +115,8 @@ impl Sample {
             Call::IsAllocated(_) => case.answer(&[number, u32::from(answer.yes)]),
             _ => case.answer(&answered(number, answer.first, &state)),
         };
-        let case = match stores(&state, call)[..] {
-            [_] if matches!(call, Call::Value(_)) => case,
-            [first] => case.list(FIRST_AFTER, first),
-            [first, second] => case.list(FIRST_AFTER, first).list(SECOND_AFTER, second),
-            _ => case,
-        };
+        let stores = stores(&state, call).into_iter().zip(STORES);
+        let case = stores.fold(case, |case, (store, (_, after))| case.list(after, store));
         self.push(case);
     }
 
@@ -184,12 +204,67 @@ impl Sample {
             (state.rel.equations, state.rel.words) = (equations, words);
             self.call(state, &Call::Equation(vec![], 0));
         }
+        self.fixed_withdrawals();
+    }
+
+    /// Queries and equations withdrawn by any number; counts at their limits, with a wire that
+    /// stands twice in the query, once, not at all or beyond the slots; use stores of other
+    /// lengths; and equations that don't end at the used words.
+    fn fixed_withdrawals(&mut self) {
+        for index in [0, 1, 2, 3, MAX_COUNT, u32::MAX] {
+            let mut state = some_queries();
+            self.call(state.clone(), &Call::WithdrawQuery(index));
+            self.call(state.clone(), &Call::WithdrawEquation(index));
+            state.rel.vars_count = 0;
+            self.call(state.clone(), &Call::WithdrawQuery(index));
+            self.call(state, &Call::WithdrawEquation(index));
+        }
+        // 02's order: 11 by the counts that are there, then 10.
+        for uses in [&[0, 2][..], &[0, 1], &[0, 1, 0], &[0, 2, 0], &[0], &[0; 4]] {
+            let mut state = fresh(3);
+            state.run(&Call::Record(vec![1], vec![1]));
+            state.uses = uses.to_vec();
+            self.call(state, &Call::WithdrawQuery(0));
+        }
+        let cells = [(1, 1), (0, 1), (2, 3), (9, 9)];
+        let counts = [
+            0,
+            1,
+            2,
+            MAX_COUNT - 2,
+            MAX_COUNT - 1,
+            MAX_COUNT,
+            MAX_COUNT + 1,
+            MAX_COUNT + 2,
+            MAX_COUNT + 3,
+            u32::MAX,
+        ];
+        for (input, output) in cells {
+            for count in counts {
+                let mut state = fresh(3);
+                state.run(&Call::Record(vec![input], vec![output]));
+                (state.uses, state.rel.stray) = (vec![2, count, 2], count);
+                self.call(state.clone(), &Call::WithdrawQuery(0));
+                state.rel.queries = 0;
+                self.call(state, &Call::Record(vec![input], vec![output]));
+            }
+        }
+        for (equations, words) in [(2, 6), (2, 5), (2, 7), (1, 6), (1, 4), (3, 6), (0, 6)] {
+            let mut state = some_queries();
+            (state.rel.equations, state.rel.words) = (equations, words);
+            self.call(state, &Call::WithdrawEquation(0));
+        }
+        for terms in [0, 2, 1 << 31, u32::MAX] {
+            let mut state = some_queries();
+            state.equations[0] = terms;
+            self.call(state, &Call::WithdrawEquation(1));
+        }
     }
 
     /// The word as a width, as a count of the record and as an argument.
     fn edge(&mut self, word: u32) {
-        for slots in [0, 1, 3] {
-            self.new_relation(word, vec![DIRT; slots]);
+        for (slots, uses) in [(0, 0), (1, 1), (3, 3)] {
+            self.new_relation(word, vec![DIRT; slots], vec![DIRT; uses]);
         }
         let calls = [
             Call::Allocate(word),
@@ -209,12 +284,13 @@ impl Sample {
         for call in calls {
             self.call(fresh(4), &call);
         }
-        let counts: [(fn(&mut Relation) -> &mut u32, Call); 7] = [
+        let counts: [(fn(&mut Relation) -> &mut u32, Call); 8] = [
             (|rel| &mut rel.width, Call::IsAllocated(0)),
             (|rel| &mut rel.width, Call::Value(0)),
             (|rel| &mut rel.vars_count, Call::IsAllocated(0)),
             (|rel| &mut rel.vars_count, Call::Value(0)),
             (|rel| &mut rel.queries, Call::Record(vec![0], vec![0])),
+            (|rel| &mut rel.stray, Call::Record(vec![0], vec![9])),
             (|rel| &mut rel.equations, Call::Equation(vec![], 0)),
             (|rel| &mut rel.words, Call::Equation(vec![], 0)),
         ];
@@ -233,7 +309,12 @@ impl Sample {
             };
             let len = *rng.pick(&[0, 1, 2, 7, 12]);
             let slots = (0..len).map(|_| rng.edge()).collect();
-            return self.new_relation(width, slots);
+            let len = match rng.below(3) {
+                0 => astray::near_len(rng, len),
+                _ => len,
+            };
+            let uses = (0..len).map(|_| rng.edge()).collect();
+            return self.new_relation(width, slots, uses);
         }
         let mut state = State::sized(0, 0, 0);
         state.rel.width = rng.width();
@@ -249,27 +330,32 @@ impl Sample {
 /// The operation, the record, the stores that are lent and the arguments.
 fn handed_in(state: &State, call: &Call) -> Case {
     let arguments = match call {
-        Call::Allocate(word) | Call::Value(word) | Call::IsAllocated(word) => [*word, 0],
+        Call::Allocate(word)
+        | Call::Value(word)
+        | Call::IsAllocated(word)
+        | Call::WithdrawQuery(word)
+        | Call::WithdrawEquation(word) => [*word, 0],
         Call::Set(var, value) => [*var, *value],
         _ => [0, 0],
     };
     let case = case_of(operation(call), arguments, state);
     let case = match call {
-        Call::Allocate(_) | Call::Value(_) | Call::IsAllocated(_) | Call::Set(..) => case,
-        Call::SetList(one, other) | Call::Record(one, other) => {
-            case.list(ONE, one).list(TWO, other)
+        Call::Allocate(_) | Call::IsAllocated(_) | Call::Set(..) | Call::WithdrawEquation(_) => {
+            case
+        }
+        Call::Value(_) | Call::WithdrawQuery(_) => case.list(ONE, &state.slots),
+        Call::SetList(one, other) => case.list(ONE, one).list(TWO, other),
+        Call::Record(one, other) => {
+            let case = case.list(ONE, one).list(TWO, other);
+            case.list(THREE, &state.slots)
         }
         Call::Tickets(text) => case.bytes(TEXT, &text.0),
         Call::Mint(input) => case.list(ONE, input),
         Call::Equation(..) => unreachable!("it has a function of its own"),
         Call::AllocateWith(_) => unreachable!("it is two calls"),
     };
-    match stores(state, call)[..] {
-        [slots] if matches!(call, Call::Value(_)) => case.list(ONE, slots),
-        [first] => case.list(FIRST, first),
-        [first, second] => case.list(FIRST, first).list(SECOND, second),
-        _ => case,
-    }
+    let stores = stores(state, call).into_iter().zip(STORES);
+    stores.fold(case, |case, (store, (before, _))| case.list(before, store))
 }
 
 const fn operation(call: &Call) -> u32 {
@@ -283,16 +369,18 @@ const fn operation(call: &Call) -> u32 {
         Call::Equation(..) => 17,
         Call::Value(_) => 18,
         Call::IsAllocated(_) => 19,
+        Call::WithdrawQuery(_) => 27,
+        Call::WithdrawEquation(_) => 28,
     }
 }
 
-/// The stores that a call is lent.
+/// The stores that a call may write.
 fn stores<'a>(state: &'a State, call: &Call) -> Vec<&'a [u32]> {
     match call {
-        Call::IsAllocated(_) => vec![],
-        Call::Record(..) => vec![&state.queries],
-        Call::Mint(_) => vec![&state.slots, &state.queries],
-        Call::Equation(..) => vec![&state.equations],
+        Call::IsAllocated(_) | Call::Value(_) => vec![],
+        Call::Record(..) | Call::WithdrawQuery(_) => vec![&state.queries, &state.uses],
+        Call::Mint(_) => vec![&state.slots, &state.queries, &state.uses],
+        Call::Equation(..) | Call::WithdrawEquation(_) => vec![&state.equations],
         _ => vec![&state.slots],
     }
 }
@@ -309,6 +397,20 @@ pub fn some_set() -> State {
     let mut state = fresh(5);
     state.run(&Call::Allocate(3));
     state.run(&Call::Set(1, 7));
+    state
+}
+
+/// A relation of one wire with three queries, of wires that are allocated, that aren't and that
+/// have no slot, and with two equations, in stores with room.
+pub fn some_queries() -> State {
+    let mut state = fresh(9);
+    state.slots.truncate(3);
+    state.uses.truncate(3);
+    for (input, output) in [(0, 1), (2, 2), (7, 1)] {
+        state.run(&Call::Record(vec![input], vec![output]));
+    }
+    state.run(&Call::Equation(vec![(2, 5)], 6));
+    state.run(&Call::Equation(vec![], 7));
     state
 }
 
@@ -356,13 +458,42 @@ pub fn lend_slots(rng: &mut Rng, state: &mut State, more: usize) {
     state.slots.extend(dirty(rng, behind));
 }
 
-/// Some held queries with room for one more.
-fn lend_queries(rng: &mut Rng, state: &mut State) {
+/// Some held queries with room for more of them, and small use counts, no less than they make.
+fn lend_queries(rng: &mut Rng, state: &mut State, least: usize, more: usize) {
     let size = 2 * state.rel.width as usize;
-    let held = rng.below((100 / size).min(5));
+    let held = least + rng.below((48 / size).min(3) + 1);
     state.rel.queries = held as u32;
-    let len = size * (held + 1) + spare(rng);
-    state.queries = dirty(rng, len);
+    let vars_count = state.rel.vars_count;
+    state.queries = (0..size * held)
+        .map(|_| match rng.below(12) {
+            0 => rng.edge(),
+            _ => any_var(rng, vars_count),
+        })
+        .collect();
+    let (uses, stray) = reading::counted(state.slots.len(), &state.queries);
+    state.rel.stray = stray + rng.below(2) as u32;
+    state.uses = uses;
+    for count in &mut state.uses {
+        *count += *rng.pick(&[0, 0, 0, 1, 2]);
+    }
+    let behind = size * more + spare(rng);
+    state.queries.extend(dirty(rng, behind));
+}
+
+/// Some held equations as they lie in a store, with anything behind them.
+fn lend_held_equations(rng: &mut Rng, state: &mut State) {
+    let held = rng.between(1, 4);
+    state.rel.equations = held as u32;
+    let mut words = Vec::new();
+    for _ in 0..held {
+        let terms = rng.below(4);
+        words.push(terms as u32);
+        words.extend((0..2 * terms + 1).map(|_| rng.edge()));
+    }
+    state.rel.words = words.len() as u32;
+    let behind = spare(rng);
+    words.extend(dirty(rng, behind));
+    state.equations = words;
 }
 
 /// Some held equations with room for one more, of so many terms.
@@ -422,14 +553,14 @@ pub fn any_counts(rng: &mut Rng, state: &mut State) {
         state.rel.queries = rng.edge();
         state.rel.equations = rng.edge();
         state.rel.words = rng.edge();
+        state.rel.stray = rng.edge();
     }
 }
 
 /// A call that most likely is accepted, and the stores that are lent to it.
 pub fn accepted_call(rng: &mut Rng, state: &mut State) -> Call {
     any_counts(rng, state);
-    let width = state.rel.width as usize;
-    match rng.below(24) {
+    match rng.below(29) {
         0..=2 => {
             let more = rng.below(9);
             lend_slots(rng, state, more);
@@ -446,14 +577,28 @@ pub fn accepted_call(rng: &mut Rng, state: &mut State) -> Call {
             Call::SetList(vars, values)
         }
         10..=12 => {
-            state.rel.vars_count = rng.between(1, 40) as u32;
-            lend_queries(rng, state);
+            state.rel.width = query_width(rng);
+            lend_slots(rng, state, 0);
+            lend_queries(rng, state, 0, 1);
             Call::Record(any_vars(rng, state), any_vars(rng, state))
         }
         13..=16 => {
+            state.rel.width = query_width(rng);
+            let width = state.rel.width as usize;
             lend_slots(rng, state, width);
-            lend_queries(rng, state);
+            lend_queries(rng, state, 0, 1);
             Call::Mint(any_vars(rng, state))
+        }
+        24..=26 => {
+            state.rel.width = query_width(rng);
+            lend_slots(rng, state, 0);
+            lend_queries(rng, state, 1, 0);
+            Call::WithdrawQuery(rng.below(state.rel.queries as usize) as u32)
+        }
+        27 | 28 => {
+            state.rel.vars_count = rng.between(1, 40) as u32;
+            lend_held_equations(rng, state);
+            Call::WithdrawEquation(rng.below(state.rel.equations as usize) as u32)
         }
         17..=20 => equation(rng, state),
         21 | 22 => {
@@ -481,13 +626,29 @@ fn equation(rng: &mut Rng, state: &mut State) -> Call {
 
 /// Something that a question may say no to, whether the call asks it or not.
 pub fn fault(rng: &mut Rng, state: &mut State, call: &mut Call) {
-    match rng.below(14) {
+    let cells = cells(state, call);
+    match rng.below(if cells.is_empty() { 14 } else { 18 }) {
         0 => state.rel.width = *rng.pick(&NO_WIDTHS),
         1 | 2 => count_astray(rng, state, call),
         3 | 4 => shorter(rng, state, call),
+        14.. => astray::counts(rng, state, &cells),
         5..=7 => length_astray(rng, state, call),
         8..=10 => var_astray(rng, state.rel.vars_count, call),
         _ => unit_astray(rng, state, call),
+    }
+}
+
+/// The cells of the query that a call is about; those of a mint without its outputs.
+fn cells(state: &State, call: &Call) -> Vec<u32> {
+    let size = 2 * state.rel.width.clamp(1, 24) as usize;
+    match call {
+        Call::Record(input, output) => [&input[..], output].concat(),
+        Call::Mint(input) => input.clone(),
+        Call::WithdrawQuery(index) => {
+            let held = state.queries.chunks(size).nth(*index as usize);
+            held.unwrap_or(&[]).to_vec()
+        }
+        _ => vec![],
     }
 }
 
@@ -500,12 +661,15 @@ fn count_astray(rng: &mut Rng, state: &mut State, call: &Call) {
     let word = rng.edge();
     let rel = &mut state.rel;
     match (call, rng.below(4)) {
-        (Call::Record(..) | Call::Mint(_), 0) => rel.queries = queries,
-        (Call::Record(..) | Call::Mint(_), 1) => rel.queries = word,
+        (Call::Record(..) | Call::Mint(_) | Call::WithdrawQuery(_), 0) => rel.queries = queries,
+        (Call::Record(..) | Call::Mint(_) | Call::WithdrawQuery(_), 1) => rel.queries = word,
         (Call::Equation(..), 0) => rel.equations = pairs,
         (Call::Equation(..), 1) => rel.words = words,
         (Call::Equation(..), 2) => (rel.equations, rel.words) = (word, rng.edge()),
-        (Call::Record(..) | Call::Equation(..) | Call::IsAllocated(_), _) => {
+        (Call::WithdrawEquation(_), 0) => rel.equations = astray::near(rng, rel.equations),
+        (Call::WithdrawEquation(_), 1) => rel.words = astray::near(rng, rel.words),
+        (Call::WithdrawEquation(_), 2) => astray::word(rng, &mut state.equations),
+        (Call::Equation(..) | Call::WithdrawEquation(_) | Call::IsAllocated(_), _) => {
             rel.vars_count = *rng.pick(&[0, MAX_COUNT + 1, word]);
         }
         _ => rel.vars_count = *rng.pick(&[0, slots, slots, word]),
@@ -522,6 +686,8 @@ fn shorter(rng: &mut Rng, state: &mut State, call: &Call) {
             (&mut state.equations, words + 2 + 2 * terms.len())
         }
         Call::Record(..) => (&mut state.queries, (queries + 1) * size),
+        Call::WithdrawQuery(_) => (&mut state.queries, queries * size),
+        Call::WithdrawEquation(_) => (&mut state.equations, rel.words as usize),
         Call::Mint(_) if rng.once_in(2) => (&mut state.queries, (queries + 1) * size),
         Call::Mint(_) => (&mut state.slots, rel.vars_count as usize + size / 2),
         Call::Allocate(count) => (&mut state.slots, rel.vars_count as usize + *count as usize),
@@ -542,6 +708,10 @@ fn length_astray(rng: &mut Rng, state: &State, call: &mut Call) {
                 2 => rng.edge(),
                 _ => slots.wrapping_sub(vars_count).wrapping_add(1),
             };
+            return;
+        }
+        Call::WithdrawQuery(index) | Call::WithdrawEquation(index) => {
+            *index = *rng.pick(&[0, state.rel.queries, state.rel.equations, u32::MAX]);
             return;
         }
         Call::SetList(one, other) | Call::Record(one, other) => (one, Some(other)),
@@ -568,7 +738,11 @@ fn var_astray(rng: &mut Rng, vars_count: u32, call: &mut Call) {
         _ => *rng.pick(&NO_VARS),
     };
     match call {
-        Call::Set(var, _) | Call::Value(var) | Call::IsAllocated(var) => *var = word,
+        Call::Set(var, _)
+        | Call::Value(var)
+        | Call::IsAllocated(var)
+        | Call::WithdrawQuery(var)
+        | Call::WithdrawEquation(var) => *var = word,
         Call::SetList(vars, _) | Call::Mint(vars) => put(rng, vars, word),
         Call::Record(input, output) => {
             let list = if rng.once_in(2) { input } else { output };

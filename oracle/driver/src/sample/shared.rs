@@ -8,9 +8,11 @@
 use reading::{Relation, Share, MAX_COUNT, MAX_RELATIONS};
 
 use super::{
-    case::{FIRST, FIRST_AFTER},
+    case::{FIRST, FIRST_AFTER, SECOND, SECOND_AFTER},
     instance::small_stores,
-    relation::{accepted_call, answered, case_of, fault, fresh, repeats, some_set, NO_WIDTHS},
+    relation::{
+        accepted_call, answered, case_of, fault, fresh, repeats, some_queries, some_set, NO_WIDTHS,
+    },
     tickets::tickets_call,
     trace::small_width,
     Sample,
@@ -34,7 +36,14 @@ const fn share(index: u32, opened: u32, quota: u32, obtained: u32) -> Option<Sha
 }
 
 impl Sample {
-    fn opening(&mut self, allocator: (u32, u32), width: u32, quota: u32, slots: Vec<u32>) {
+    fn opening(
+        &mut self,
+        allocator: (u32, u32),
+        width: u32,
+        quota: u32,
+        slots: Vec<u32>,
+        uses: Vec<u32>,
+    ) {
         let (vars_count, opened) = allocator;
         let rel = Relation {
             width,
@@ -45,12 +54,17 @@ impl Sample {
             rel,
             share: share(0, opened, 0, 0),
             slots,
+            uses,
             ..State::sized(0, 0, 0)
         };
-        let case = case_of(11, [quota, 0], &state).list(FIRST, &state.slots);
+        let case = case_of(11, [quota, 0], &state)
+            .list(FIRST, &state.slots)
+            .list(SECOND, &state.uses);
         let answer = state.with_allocator(width, quota);
-        let case = case.answer(&answered(answer.number, answer.first, &state));
-        self.push(case.list(FIRST_AFTER, &state.slots));
+        let case = case
+            .answer(&answered(answer.number, answer.first, &state))
+            .list(FIRST_AFTER, &state.slots);
+        self.push(case.list(SECOND_AFTER, &state.uses));
     }
 
     /// The cases that every sample has: every call of a number that is opened, that isn't, and
@@ -66,12 +80,18 @@ impl Sample {
             Call::Mint(vec![0]),
             Call::Value(0),
             Call::IsAllocated(0),
+            Call::WithdrawQuery(0),
+            Call::WithdrawEquation(0),
         ];
         for call in calls {
             for (index, opened, vars_count) in
                 [(7, 8, 1), (3, 3, 1), (0, 0, DIRT), (0, 9, 1), (0, 1, 0)]
             {
-                let mut state = fresh(4);
+                let mut state = if call.is_withdrawal() {
+                    some_queries()
+                } else {
+                    fresh(4)
+                };
                 state.rel.vars_count = vars_count;
                 state.share = share(index, opened, 1, 0);
                 self.call(state, &call);
@@ -132,7 +152,49 @@ impl Sample {
             (1, 3, 3, 2),
             (1, u32::MAX, 0, 2),
         ] {
-            self.opening((vars_count, opened), width, 7, vec![DIRT; slots]);
+            let slots = vec![DIRT; slots];
+            self.opening((vars_count, opened), width, 7, slots.clone(), slots);
+        }
+        for (opened, slots, uses) in [
+            (0, 2, 1),
+            (0, 2, 3),
+            (1, 2, 0),
+            (7, 2, 3),
+            (8, 2, 3),
+            (0, 0, 1),
+        ] {
+            let [slots, uses] = [slots, uses].map(|len| vec![DIRT; len]);
+            self.opening((1, opened), 1, 7, slots, uses);
+        }
+        // Withdrawals by number: of a query with a stray cell, and by numbers that aren't there.
+        for (index, call) in [
+            (1, Call::WithdrawQuery(2)),
+            (1, Call::WithdrawQuery(3)),
+            (2, Call::WithdrawQuery(3)),
+            (1, Call::WithdrawEquation(1)),
+            (1, Call::WithdrawEquation(2)),
+            (2, Call::WithdrawEquation(2)),
+        ] {
+            let mut state = some_queries();
+            state.share = share(index, 2, 3, 1);
+            self.call(state, &call);
+        }
+        // Counts that a call would change to more than 2^30 or less than 0, or that are too few;
+        // and equations that end before the used words.
+        for call in [
+            Call::Record(vec![1], vec![0]),
+            Call::Mint(vec![0]),
+            Call::WithdrawQuery(1),
+            Call::WithdrawEquation(0),
+        ] {
+            let mut state = some_queries();
+            state.share = share(0, 2, 3, 1);
+            state.rel.words += 1;
+            state.uses[2] = 1;
+            state.uses[1] = MAX_COUNT;
+            self.call(state.clone(), &call);
+            (state.uses, state.rel.words) = (vec![2, 2], 6);
+            self.call(state, &call);
         }
     }
 
@@ -168,12 +230,17 @@ impl Sample {
             0 => *rng.pick(&NO_WIDTHS),
             _ => rng.width(),
         };
+        let uses = match rng.below(4) {
+            0 => astray::near_len(rng, len),
+            _ => len,
+        };
+        let uses = (0..uses).map(|_| rng.edge()).collect();
         let vars_count = astray::near(rng, len as u32);
         let opened = match rng.below(3) {
             0 => 0,
             _ => astray::near(rng, MAX_RELATIONS - 1),
         };
-        self.opening((vars_count, opened), width, rng.edge(), slots);
+        self.opening((vars_count, opened), width, rng.edge(), slots, uses);
     }
 
     fn random_shared_gate(&mut self, rng: &mut Rng) {

@@ -10,6 +10,7 @@ mod relation;
 mod shared;
 mod ticket;
 mod utf8;
+mod withdraw;
 
 use crate::*;
 
@@ -25,6 +26,7 @@ struct Stores {
     slots: Vec<u32>,
     queries: Vec<u32>,
     equations: Vec<u32>,
+    uses: Vec<u32>,
 }
 
 impl Stores {
@@ -38,8 +40,9 @@ impl Stores {
             slots: vec![DIRT; slots],
             queries: vec![DIRT; queries],
             equations: vec![DIRT; equations],
+            uses: vec![DIRT; slots],
         };
-        let answer = new(width, &mut stores.slots);
+        let answer = new(width, &mut stores.slots, &mut stores.uses);
         assert_eq!(answer.number, 0);
         stores.rel = answer.relation;
         stores
@@ -77,13 +80,28 @@ impl Stores {
     }
 
     fn record(&mut self, input: &[u32], output: &[u32]) -> u32 {
-        let answer = add_permutation(self.rel, &mut self.queries, input, output);
+        let (queries, uses) = (&mut self.queries, &mut self.uses);
+        let answer = add_permutation(self.rel, &self.slots, queries, uses, input, output);
         self.keep(answer).0
     }
 
     fn mint(&mut self, input: &[u32]) -> (u32, u32) {
-        let answer = allocate_permutation(self.rel, &mut self.slots, &mut self.queries, input);
+        let (slots, queries) = (&mut self.slots, &mut self.queries);
+        let answer = allocate_permutation(self.rel, slots, queries, &mut self.uses, input);
         self.keep(answer)
+    }
+
+    fn withdraw_query(&mut self, index: u32) -> u32 {
+        let (queries, uses) = (&mut self.queries, &mut self.uses);
+        let answer = withdraw_query(self.rel, &self.slots, queries, uses, index);
+        assert_eq!(answer.first, 0);
+        self.keep(answer).0
+    }
+
+    fn withdraw_equation(&mut self, index: u32) -> u32 {
+        let answer = withdraw_equation(self.rel, &mut self.equations, index);
+        assert_eq!(answer.first, 0);
+        self.keep(answer).0
     }
 
     fn equation(&mut self, terms: &[(u32, u32)], image: u32) -> u32 {
@@ -104,6 +122,7 @@ impl Stores {
             &self.slots,
             &self.queries,
             &self.equations,
+            &self.uses,
             &mut publics,
             &mut scratch,
         );

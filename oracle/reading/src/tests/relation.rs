@@ -5,11 +5,12 @@ use super::*;
 #[test]
 fn fresh() {
     for (width, len, number) in [(0, 4, 1), (25, 4, 1), (1, 0, 6), (24, 1, 0), (0, 0, 1)] {
-        let mut slots = vec![DIRT; len];
-        let answer = new(width, &mut slots);
+        let (mut slots, mut uses) = (vec![DIRT; len], vec![DIRT; len]);
+        let answer = new(width, &mut slots, &mut uses);
         assert_eq!(answer.number, number);
         if number == 0 {
             assert_eq!(slots[0], 0);
+            assert!(all_zero(&uses));
             assert_eq!(
                 (answer.relation.width, answer.relation.vars_count),
                 (width, 1)
@@ -17,6 +18,7 @@ fn fresh() {
             slots.remove(0);
         } else {
             assert_eq!(answer.relation, Relation::default());
+            assert!(uses.iter().all(|&count| count == DIRT));
         }
         assert!(slots.iter().all(|&slot| slot == DIRT));
     }
@@ -43,8 +45,8 @@ fn allocate() {
 fn stores_of_more_than_2_to_30_words() {
     // Zeroed pages that nobody touches take no memory.
     let mut slots = vec![0; M as usize + 1];
-    assert_eq!(new(1, &mut slots).number, 2);
-    assert_eq!(new(1, &mut slots[1..]).number, 0);
+    assert_eq!(new(1, &mut slots, &mut []).number, 2);
+    assert_eq!(new(1, &mut slots[1..], &mut []).number, 10);
     let rel = Relation {
         width: 1,
         vars_count: M,
@@ -230,6 +232,8 @@ fn mint() {
     let before = stores.clone();
     assert_eq!(stores.mint(&[0, 0]), (6, 0));
     stores.slots.push(DIRT);
+    assert_eq!(stores.mint(&[0, 0]), (10, 0));
+    stores.uses.push(0);
     assert_eq!(stores.mint(&[0, 0]), (10, 0));
     assert_eq!(stores.slots[..6], before.slots);
     assert_eq!(stores.queries, before.queries);

@@ -16,6 +16,7 @@ struct Mixer {
     rel: SharedRelation,
     queries: Vec<u32>,
     equations: Vec<u32>,
+    uses: Vec<u32>,
 }
 
 impl Plant {
@@ -33,15 +34,19 @@ impl Plant {
     }
 
     fn open(&mut self, width: u32, quota: u32) -> (u32, u32) {
-        let answer = with_allocator(self.allocator, width, quota, &mut self.slots);
+        let mut uses = vec![DIRT; self.slots.len()];
+        let answer = with_allocator(self.allocator, width, quota, &mut self.slots, &mut uses);
         if answer.number == 0 {
+            assert!(all_zero(&uses));
             self.allocator = answer.allocator;
             self.mixers.push(Mixer {
                 rel: answer.relation,
                 queries: vec![DIRT; 32],
                 equations: vec![DIRT; 32],
+                uses,
             });
         } else {
+            assert!(uses.iter().all(|&count| count == DIRT));
             assert_eq!(answer.allocator, self.allocator);
             assert_eq!(answer.relation, SharedRelation::default());
         }
@@ -76,10 +81,51 @@ impl Plant {
 
     fn mint(&mut self, index: u32, input: &[u32]) -> (u32, u32) {
         let mixer = &mut self.mixers[index as usize];
-        let (slots, queries) = (&mut self.slots, &mut mixer.queries);
-        let answer =
-            allocate_permutation_on(self.allocator, index, mixer.rel, slots, queries, input);
+        let answer = allocate_permutation_on(
+            self.allocator,
+            index,
+            mixer.rel,
+            &mut self.slots,
+            &mut mixer.queries,
+            &mut mixer.uses,
+            input,
+        );
         self.keep(index, answer)
+    }
+
+    fn record(&mut self, index: u32, input: &[u32], output: &[u32]) -> u32 {
+        let mixer = &mut self.mixers[index as usize];
+        let answer = add_permutation_on(
+            self.allocator,
+            index,
+            mixer.rel,
+            &self.slots,
+            &mut mixer.queries,
+            &mut mixer.uses,
+            input,
+            output,
+        );
+        self.keep(index, answer).0
+    }
+
+    fn withdraw_query(&mut self, index: u32, query: u32) -> u32 {
+        let mixer = &mut self.mixers[index as usize];
+        let answer = withdraw_query_on(
+            self.allocator,
+            index,
+            mixer.rel,
+            &self.slots,
+            &mut mixer.queries,
+            &mut mixer.uses,
+            query,
+        );
+        self.keep(index, answer).0
+    }
+
+    fn withdraw_equation(&mut self, index: u32, equation: u32) -> u32 {
+        let Mixer { rel, equations, .. } = &mut self.mixers[index as usize];
+        let answer = withdraw_equation_on(self.allocator, index, *rel, equations, equation);
+        self.keep(index, answer).0
     }
 
     fn equation(&mut self, index: u32, terms: &[(u32, u32)], image: u32) -> u32 {
@@ -101,6 +147,7 @@ impl Plant {
             &self.slots,
             &mixer.queries,
             &mixer.equations,
+            &mixer.uses,
             &mut publics,
             &mut scratch,
         );
@@ -129,17 +176,32 @@ impl Plant {
 
 /// The numbers of every call of this relation on these two records and stores of so many words,
 /// in the order allocate, set, set list, tickets, record, mint, equation, value, is allocated,
-/// gate: with arguments that later questions say no to. Nothing lent is changed.
-fn numbers(allocator: VarAllocator, index: u32, rel: SharedRelation, len: usize) -> [u32; 10] {
+/// gate, query withdrawn, equation withdrawn: with arguments that later questions say no to.
+/// Nothing lent is changed.
+fn numbers(allocator: VarAllocator, index: u32, rel: SharedRelation, len: usize) -> [u32; 12] {
     let (mut slots, mut words) = (vec![DIRT; len], vec![DIRT; len]);
+    let uses = &mut vec![DIRT; len + 1];
     let (mut publics, mut scratch) = ([DIRT], [DIRT]);
     let numbers = [
         allocate_vars_on(allocator, index, rel, &mut slots, u32::MAX).number,
         set_var_on(allocator, index, rel, &mut slots, M, P).number,
         set_vars_on(allocator, index, rel, &mut slots, &[M], &[0, 0]).number,
         set_tickets_on(allocator, index, rel, &mut slots, b"no ticket").number,
-        add_permutation_on(allocator, index, rel, &mut words, &[M; 30], &[]).number,
-        allocate_permutation_on(allocator, index, rel, &mut slots, &mut words, &[M; 30]).number,
+        add_permutation_on(
+            allocator,
+            index,
+            rel,
+            &slots,
+            &mut words,
+            uses,
+            &[M; 30],
+            &[],
+        )
+        .number,
+        allocate_permutation_on(
+            allocator, index, rel, &mut slots, &mut words, uses, &[M; 30],
+        )
+        .number,
         add_equation_on(allocator, index, rel, &mut words, &weighted(&[(M, P)]), P).number,
         value_on(allocator, index, rel, &slots, M).number,
         is_allocated_on(allocator, index, rel, M).number,
@@ -151,12 +213,16 @@ fn numbers(allocator: VarAllocator, index: u32, rel: SharedRelation, len: usize)
             &slots,
             &words.clone(),
             &words.clone(),
+            uses,
             &mut publics,
             &mut scratch,
         )
         .number,
+        withdraw_query_on(allocator, index, rel, &slots, &mut words, uses, u32::MAX).number,
+        withdraw_equation_on(allocator, index, rel, &mut words, u32::MAX).number,
     ];
-    assert!(slots.iter().chain(&words).all(|&word| word == DIRT));
+    let lent = slots.iter().chain(&words).chain(uses.iter());
+    assert!(lent.into_iter().all(|&word| word == DIRT));
     assert_eq!((publics, scratch), ([0], [0]));
     numbers
 }
@@ -166,6 +232,7 @@ const REL: SharedRelation = SharedRelation {
     queries: 0,
     equations: 0,
     words: 0,
+    stray: 0,
     quota: 9,
     obtained: 0,
 };
@@ -195,11 +262,13 @@ fn openings_in_turn() {
 fn questions_of_an_opening() {
     let open = |width, vars_count, opened, len| {
         let allocator = VarAllocator { vars_count, opened };
-        let mut slots = vec![DIRT; len];
-        let answer = with_allocator(allocator, width, 7, &mut slots);
+        let (mut slots, mut uses) = (vec![DIRT; len], vec![DIRT; len]);
+        let answer = with_allocator(allocator, width, 7, &mut slots, &mut uses);
         if answer.number != 0 || opened > 0 {
             assert!(slots.iter().all(|&slot| slot == DIRT));
         }
+        let left = if answer.number == 0 { 0 } else { DIRT };
+        assert!(uses.iter().all(|&count| count == left));
         if answer.number != 0 {
             assert_eq!(answer.allocator, allocator);
             assert_eq!(
@@ -226,15 +295,14 @@ fn questions_of_an_opening() {
         assert_eq!(open(24, 1, opened, 4), last);
     }
     assert_eq!(open(1, 1, u32::MAX, 4), 2);
-    let mut slots = vec![0; M as usize + 1];
-    assert_eq!(
-        with_allocator(VarAllocator::default(), 1, 0, &mut slots).number,
-        2
-    );
-    assert_eq!(
-        with_allocator(VarAllocator::default(), 1, 0, &mut slots[1..]).number,
-        0
-    );
+    let mut long = vec![0; M as usize + 1];
+    let none = VarAllocator::default();
+    assert_eq!(with_allocator(none, 1, 0, &mut long, &mut []).number, 2);
+    assert_eq!(with_allocator(none, 1, 0, &mut [], &mut long).number, 2);
+    let most = &mut long[1..];
+    assert_eq!(with_allocator(none, 1, 0, most, &mut []).number, 10);
+    assert_eq!(with_allocator(none, 1, 0, &mut [], most).number, 6);
+    assert_eq!(with_allocator(none, 1, 0, &mut [1], most).number, 10);
 }
 
 #[test]
@@ -250,30 +318,30 @@ fn every_call_by_number() {
         (0, 0),
         (0, 9),
     ] {
-        assert_eq!(numbers(at(1, opened), index, REL, 4), [42; 10]);
+        assert_eq!(numbers(at(1, opened), index, REL, 4), [42; 12]);
     }
-    let later = [5, 3, 3, 40, 9, 9, 3, 3, 3, 11];
+    let later = [5, 3, 3, 40, 9, 9, 3, 3, 3, 11, 45, 45];
     for (opened, index) in [(1, 0), (3, 2), (8, 0), (8, 7)] {
         assert_eq!(numbers(at(1, opened), index, REL, 4), later);
     }
     // Nothing opened: the count isn't asked.
     for vars_count in [0, 5, M + 1, u32::MAX] {
-        assert_eq!(numbers(at(vars_count, 0), 0, REL, 4), [42; 10]);
-        assert_eq!(numbers(at(vars_count, 0), 0, REL, 0), [42; 10]);
+        assert_eq!(numbers(at(vars_count, 0), 0, REL, 4), [42; 12]);
+        assert_eq!(numbers(at(vars_count, 0), 0, REL, 0), [42; 12]);
     }
     for vars_count in [0, M + 1, u32::MAX] {
-        assert_eq!(numbers(at(vars_count, 1), 0, REL, 4), [2; 10]);
+        assert_eq!(numbers(at(vars_count, 1), 0, REL, 4), [2; 12]);
     }
     // More wires than slots: where these are lent.
-    let beyond = [2, 2, 2, 2, 9, 2, 3, 2, 3, 2];
+    let beyond = [2, 2, 2, 2, 2, 2, 3, 2, 3, 2, 2, 45];
     assert_eq!(numbers(at(5, 1), 0, REL, 4), beyond);
     for vars_count in [0, 1, u32::MAX] {
         for opened in [9, 10, u32::MAX] {
-            assert_eq!(numbers(at(vars_count, opened), 0, REL, 4), [2; 10]);
-            assert_eq!(numbers(at(vars_count, opened), 9, REL, 4), [2; 10]);
+            assert_eq!(numbers(at(vars_count, opened), 0, REL, 4), [2; 12]);
+            assert_eq!(numbers(at(vars_count, opened), 9, REL, 4), [2; 12]);
             for width in [0, 25, u32::MAX] {
                 let rel = SharedRelation { width, ..REL };
-                assert_eq!(numbers(at(vars_count, opened), 9, rel, 4), [1; 10]);
+                assert_eq!(numbers(at(vars_count, opened), 9, rel, 4), [1; 12]);
             }
         }
     }
@@ -285,7 +353,7 @@ fn own_counts_before_42() {
     let queries = SharedRelation { queries: 3, ..REL };
     assert_eq!(
         numbers(none, 0, queries, 4),
-        [42, 42, 42, 42, 2, 2, 42, 42, 42, 2]
+        [42, 42, 42, 42, 2, 2, 42, 42, 42, 2, 2, 42]
     );
     for rel in [
         SharedRelation { words: 5, ..REL },
@@ -296,11 +364,12 @@ fn own_counts_before_42() {
     ] {
         assert_eq!(
             numbers(none, 0, rel, 4),
-            [42, 42, 42, 42, 42, 42, 2, 42, 42, 2]
+            [42, 42, 42, 42, 42, 42, 2, 42, 42, 2, 42, 2]
         );
     }
-    // Quota and what was obtained aren't asked before 5.
+    // Quota and what was obtained aren't asked before 5, and a stray count only where it changes.
     let rel = SharedRelation {
+        stray: u32::MAX,
         quota: 0,
         obtained: u32::MAX,
         ..REL
@@ -311,7 +380,7 @@ fn own_counts_before_42() {
     };
     assert_eq!(
         numbers(allocator, 0, rel, 4),
-        [5, 3, 3, 40, 9, 9, 3, 3, 3, 11]
+        [5, 3, 3, 40, 9, 9, 3, 3, 3, 11, 45, 45]
     );
 }
 
@@ -319,17 +388,14 @@ fn own_counts_before_42() {
 fn lists_are_stores_before_42() {
     let long = vec![0; M as usize + 1];
     let (none, slots) = (VarAllocator::default(), &mut [0; 4]);
+    let (queries, uses) = (&mut [0; 4], &mut [0; 4]);
     assert_eq!(set_vars_on(none, 0, REL, slots, &long, &[]).number, 2);
     assert_eq!(set_vars_on(none, 0, REL, slots, &[], &long).number, 2);
-    assert_eq!(
-        add_permutation_on(none, 0, REL, slots, &long, &[]).number,
-        2
-    );
-    assert_eq!(
-        add_permutation_on(none, 0, REL, slots, &[], &long).number,
-        2
-    );
-    let answer = allocate_permutation_on(none, 0, REL, slots, &mut [0; 4], &long);
+    for (input, output) in [(&long[..], &[][..]), (&[], &long)] {
+        let answer = add_permutation_on(none, 0, REL, slots, queries, uses, input, output);
+        assert_eq!(answer.number, 2);
+    }
+    let answer = allocate_permutation_on(none, 0, REL, slots, queries, uses, &long);
     assert_eq!(answer.number, 2);
 }
 
@@ -393,7 +459,11 @@ fn a_refused_mint_takes_nothing() {
     assert_eq!(plant.mixers[0].rel.obtained, 0);
     plant.slots.push(DIRT);
     plant.mixers[0].queries.push(DIRT);
+    // The use store is still of four words.
+    assert_eq!(plant.mint(0, &[0, 0]), (10, 0));
+    plant.mixers[0].uses.truncate(3);
     assert_eq!(plant.mint(0, &[0, 0]), (0, 1));
+    assert_eq!(plant.mixers[0].uses, [2, 1, 1]);
     assert_eq!(plant.mixers[0].rel.obtained, 2);
     assert!(plant.adds_up());
 }
@@ -493,4 +563,102 @@ fn a_reading_set_by_one_and_used_by_the_other() {
     assert_eq!(plant.set(1, 1, 2), 0);
     assert_eq!(held.check(1, &[3, 640], PARAMS), 0);
     assert_eq!(plant.gate(0).1.check(1, &[3, 640], PARAMS), 33);
+}
+
+#[test]
+fn an_opening_clears_its_own_use_store() {
+    let mut plant = Plant::opened(6, &[(1, 4), (1, 4)]);
+    assert_eq!(plant.record(0, &[2], &[9]), 0);
+    assert_eq!(plant.record(1, &[2], &[2]), 0);
+    assert_eq!(plant.open(2, 3), (0, 2));
+    assert_eq!(plant.mixers[0].uses, [0, 0, 1, 0, 0, 0]);
+    assert_eq!(plant.mixers[1].uses, [0, 0, 2, 0, 0, 0]);
+    assert_eq!(plant.mixers[2].uses, [0; 6]);
+    let stray = |index: usize| plant.mixers[index].rel.stray;
+    assert_eq!([stray(0), stray(1), stray(2)], [1, 0, 0]);
+    // 1, 2, 42, 6, 10.
+    let open = |vars_count, opened, slots: usize, uses: usize| {
+        let allocator = VarAllocator { vars_count, opened };
+        let (mut slots, mut uses) = (vec![DIRT; slots], vec![DIRT; uses]);
+        let answer = with_allocator(allocator, 1, 7, &mut slots, &mut uses);
+        let left = if answer.number == 0 { 0 } else { DIRT };
+        assert!(uses.iter().all(|&count| count == left));
+        answer.number
+    };
+    for opened in [0, 1, 7] {
+        assert_eq!(open(1, opened, 3, 3), 0);
+        assert_eq!(open(1, opened, 3, 2), 10);
+        assert_eq!(open(1, opened, 3, 4), 10);
+    }
+    assert_eq!(open(1, 8, 3, 4), 42);
+    assert_eq!(open(4, 1, 3, 4), 2);
+    assert_eq!(open(1, 0, 0, 4), 6);
+}
+
+#[test]
+fn withdrawals_by_number() {
+    let mut plant = Plant::opened(6, &[(1, 4), (2, 4)]);
+    assert_eq!(plant.mint(0, &[5]), (0, 1));
+    assert_eq!(plant.mint(1, &[1, 9]), (0, 2));
+    assert_eq!(plant.equation(1, &[(1, 1)], 0), 0);
+    assert_eq!(plant.withdraw_query(0, 1), 45);
+    assert_eq!(plant.withdraw_equation(0, 0), 45);
+    let before = plant.clone();
+    assert_eq!(plant.withdraw_query(1, 0), 0);
+    assert_eq!(plant.withdraw_equation(1, 0), 0);
+    // What it obtained stays its own, and the other relation has its counts still.
+    let rel = plant.mixers[1].rel;
+    assert_eq!((rel.queries, rel.equations, rel.words), (0, 0, 0));
+    assert_eq!((rel.obtained, rel.stray, plant.count()), (2, 0, 4));
+    assert_eq!(plant.mixers[1].uses, [0; 6]);
+    assert_eq!(plant.mixers[1].queries[..5], [0, 0, 0, 0, DIRT]);
+    assert_eq!(plant.mixers[0].uses, before.mixers[0].uses);
+    assert_eq!(plant.mixers[0].uses, [0, 1, 0, 0, 0, 1]);
+    assert_eq!(plant.slots, before.slots);
+    assert!(plant.adds_up());
+
+    // 42 comes before 45, 11 and 10, and after 2.
+    let (rel, slots) = (before.mixers[1].rel, &before.slots);
+    let mut queries = before.mixers[1].queries.clone();
+    let mut uses = vec![DIRT; 5];
+    for (index, query, number) in [(1, 0, 11), (1, 1, 45), (2, 0, 42), (2, 1, 42)] {
+        let allocator = before.allocator;
+        let answer =
+            withdraw_query_on(allocator, index, rel, slots, &mut queries, &mut uses, query);
+        assert_eq!(answer.number, number);
+        assert_eq!((answer.allocator, answer.relation), (allocator, rel));
+        let none = VarAllocator::default();
+        let answer = withdraw_query_on(none, 0, rel, &[], &mut queries, &mut uses, query);
+        assert_eq!(answer.number, 42);
+        let answer = withdraw_query_on(none, 0, rel, &[], &mut [], &mut uses, query);
+        assert_eq!(answer.number, 2);
+    }
+    assert_eq!(queries, before.mixers[1].queries);
+}
+
+#[test]
+fn another_s_allocation_moves_the_range_of_13() {
+    let mut plant = Plant::opened(6, &[(1, 4), (1, 4)]);
+    assert_eq!(plant.record(0, &[2], &[0]), 0);
+    assert_eq!(plant.gate(0).0, 13);
+    let uses = plant.mixers[0].uses.clone();
+    assert_eq!(plant.allocate(1, 1), (0, 1));
+    assert_eq!(plant.gate(0).0, 13);
+    assert_eq!(plant.allocate(1, 1), (0, 2));
+    assert_eq!(plant.gate(0).0, 0);
+    assert_eq!(plant.mixers[0].uses, uses);
+    // A stray cell stays so, whatever is allocated.
+    assert_eq!(plant.record(0, &[6], &[0]), 0);
+    assert_eq!(plant.allocate(1, 2), (0, 3));
+    assert_eq!(plant.allocate(0, 1), (0, 5));
+    assert_eq!(plant.gate(0).0, 13);
+    assert_eq!(plant.withdraw_query(0, 1), 0);
+    assert_eq!(plant.gate(0).0, 0);
+    // Only its own counts bind: a wire that the other uses is unknown here.
+    assert_eq!(plant.equation(1, &[(2, 1)], 0), 0);
+    assert_eq!(plant.gate(1).0, 15);
+    assert_eq!(plant.record(1, &[2], &[2]), 0);
+    assert_eq!(plant.gate(1).0, 0);
+    assert_eq!(plant.withdraw_query(1, 0), 0);
+    assert_eq!((plant.gate(1).0, plant.gate(0).0), (15, 0));
 }

@@ -18,10 +18,18 @@ same-length c = search needs
 same-length-2 : tie.Need-same-length-2
 same-length-2 c = search needs
 
+same-length-3 : tie.Need-same-length-3
+same-length-3 c = search needs
+
 returns : tie.Need-returns
 returns c =
-    let r = c .before .before .before .before .before .allocate-permutation .ensures in
-    record { answer = c .allocated-answer .ensures ∙ ap allocatedAnswer (r .answer); slots = r .slots; queries = r .queries }
+    let r = c .before .before .before .before .before .before .before .allocate-permutation .ensures in
+    record {
+      answer = c .allocated-answer .ensures ∙ ap allocatedAnswer (r .answer);
+      slots = r .slots;
+      queries = r .queries;
+      uses = r .uses;
+    }
 
 pub sfr-allocate-permutation-spec : {M : Type 1} → statement M
 sfr-allocate-permutation-spec =
@@ -31,4 +39,5 @@ sfr-allocate-permutation-spec =
     allocated-answer-requires
     same-length
     same-length-2
+    same-length-3
     returns)

@@ -15,10 +15,18 @@ recorded-answer-requires c κs = search needs
 same-length : tie.Need-same-length
 same-length c = search needs
 
+same-length-2 : tie.Need-same-length-2
+same-length-2 c = search needs
+
 returns : tie.Need-returns
 returns c =
-    let r = c .before .before .before .new-relation .ensures in
-    record { answer = c .recorded-answer .ensures ∙ ap recordedAnswer (r .answer); slots = r .slots }
+    let r = c .before .before .before .before .before .new-relation .ensures in
+    record {
+      answer = c .recorded-answer .ensures ∙ ap recordedAnswer (r .answer);
+      slots = r .slots;
+      uses = r .uses;
+    }
 
 pub sfr-new-relation-spec : {M : Type 1} → statement M
-sfr-new-relation-spec = tie.close (tie.spec new-relation-requires recorded-answer-requires same-length returns)
+sfr-new-relation-spec =
+    tie.close (tie.spec new-relation-requires recorded-answer-requires same-length same-length-2 returns)

@@ -15,13 +15,25 @@ recorded-on-answer-requires c κs = search needs
 same-length : tie.Need-same-length
 same-length c = search needs
 
+same-length-2 : tie.Need-same-length-2
+same-length-2 c = search needs
+
 returns : tie.Need-returns
 returns c =
-    let a = c .before .before .before .before .before .before .before .before .args in
-    let r = c .before .before .before .add-permutation-on .ensures in
-    record { answers = c .recorded-on-answer .ensures ∙ ap (recordedOnAnswer (a .allocator)) (r .answers); leaves = r .leaves }
+    let a = c .before .before .before .before .before .before .before .before .before .before .before .before .before .args in
+    let r = c .before .before .before .before .before .add-permutation-on .ensures in
+    record {
+      answers = c .recorded-on-answer .ensures ∙ ap (recordedOnAnswer (a .allocator)) (r .answers);
+      leaves = r .leaves;
+      leaves-too = r .leaves-too;
+    }
 
 pub sfr-add-permutation-on-spec : {M : Type 1} → statement M
 sfr-add-permutation-on-spec =
     tie.close
-    (tie.spec add-permutation-on-requires recorded-on-answer-requires same-length returns)
+    (tie.spec
+    add-permutation-on-requires
+    recorded-on-answer-requires
+    same-length
+    same-length-2
+    returns)

@@ -18,13 +18,17 @@ same-length c = search needs
 same-length-2 : tie.Need-same-length-2
 same-length-2 c = search needs
 
+same-length-3 : tie.Need-same-length-3
+same-length-3 c = search needs
+
 returns : tie.Need-returns
 returns c =
-    let r = c .before .before .before .before .before .allocate-permutation-on .ensures in
+    let r = c .before .before .before .before .before .before .before .allocate-permutation-on .ensures in
     record {
       answers = c .allocated-on-answer .ensures ∙ ap allocatedOnAnswer (r .answers);
       leaves = r .leaves;
       leaves-too = r .leaves-too;
+      leaves-last = r .leaves-last;
     }
 
 pub sfr-allocate-permutation-on-spec : {M : Type 1} → statement M
@@ -35,4 +39,5 @@ sfr-allocate-permutation-on-spec =
     allocated-on-answer-requires
     same-length
     same-length-2
+    same-length-3
     returns)

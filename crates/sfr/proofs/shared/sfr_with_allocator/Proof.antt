@@ -15,11 +15,18 @@ opened-answer-requires c κs = search needs
 same-length : tie.Need-same-length
 same-length c = search needs
 
+same-length-2 : tie.Need-same-length-2
+same-length-2 c = search needs
+
 returns : tie.Need-returns
 returns c =
-    let r = c .before .before .before .with-allocator .ensures in
-    record { answers = c .opened-answer .ensures ∙ ap openedAnswer (r .answers); leaves = r .leaves }
+    let r = c .before .before .before .before .before .with-allocator .ensures in
+    record {
+      answers = c .opened-answer .ensures ∙ ap openedAnswer (r .answers);
+      leaves = r .leaves;
+      leaves-too = r .leaves-too;
+    }
 
 pub sfr-with-allocator-spec : {M : Type 1} → statement M
 sfr-with-allocator-spec =
-    tie.close (tie.spec with-allocator-requires opened-answer-requires same-length returns)
+    tie.close (tie.spec with-allocator-requires opened-answer-requires same-length same-length-2 returns)

@@ -1,9 +1,9 @@
--- `recording::add_equation_sizes` meets its contract: questions 1 and 2 in a row.
+-- `recording::asked_equations` meets its contract: questions 1 and 2 in a row.
 -- Assumes nothing.
 use Rattle.limits.proofs.Questions.{▸-assoc, zero-▸, ▸-zero}
 use borrow.Author.Needs.{needs}
-use Rattle.recording.proofs.add_equation_sizes.Statement.{statement}
-use Rattle.recording.proofs.add_equation_sizes.Tie as tie
+use Rattle.recording.proofs.asked_equations.Statement.{statement}
+use Rattle.recording.proofs.asked_equations.Tie as tie
 
 cast-held : tie.Need-cast-held
 cast-held c = search needs
@@ -40,8 +40,8 @@ returns c =
     )
     (simp (▸-assoc, zero-▸, ▸-zero))
 
-pub add-equation-sizes-spec : {M : Type 1} → statement M
-add-equation-sizes-spec =
+pub asked-equations-spec : {M : Type 1} → statement M
+asked-equations-spec =
     tie.close
     (tie.spec
     cast-held

@@ -1,0 +1,130 @@
+-- Withdrawals along a list (document 02's R-6), through the theorem: what is struck is out of the ledger, so a wire can
+-- become unknown again; the use counts are those of the queries that remain, whatever was refused between; and the gate
+-- answers for what remains. Assumes nothing.
+use Prim.Native.Nat.{ℕ, _+_}
+use mathlib.Core.Path.{_≡_, refl}
+use mathlib.Core.Bool.{true, false}
+use mathlib.Core.List.{List, [], _∷_, _++_, map}
+use lib.ListN.{length}
+use Rattle.limits.specs.Questions.{ask, _▸_}
+use Rattle.limits.specs.Outcome.{outcomeOf}
+use Rattle.limits.specs.declared.Outcome.{Outcome}
+use Rattle.limits.specs.declared.Outcome.the-variants.{Accepted, Refused}
+use Rattle.words.specs.Store.{allBelow}
+use Rattle.uses.specs.Uses.{times, strays, usesOf, sum, usesAfter, allFit}
+use Rattle.utf8.specs.Utf8.{follow, isUtf8}
+use Rattle.allocator.specs.Slots.{pair}
+use Rattle.expr.specs.Equation.{equation, sizeAt}
+use Rattle.expr.specs.declared.Weighted.{Weighted}
+use Rattle.permutation.specs.Numbers.{newRelationNo, allocateVarsNo}
+use Rattle.permutation.specs.Answers.{newRelation}
+use Rattle.recording.specs.Numbers.{addPermutationNo, allocatePermutationNo, addEquationNo}
+use Rattle.strike.specs.Strike.{endsRight}
+use Rattle.withdraw.specs.Relation.{withdrawEquationNo, withdrawQueryNo}
+use Rattle.history.specs.Ledger.{known}
+use Rattle.history.specs.Calls.{Call, Allocate, Record, Mint, Equate, WithdrawQuery, WithdrawEquation, Entry, answer, after, ledger, noted, log}
+use Rattle.history.specs.Left.{compileLeft}
+use Rattle.history.specs.Whole.{compiled, begin, last, lastLedger}
+use Rattle.history.proofs.Theorem.{whole}
+
+abbrev slots : List ℕ
+slots = 77 ∷ 78 ∷ 79 ∷ 80 ∷ []
+
+-- room for two queries, and a word
+abbrev queries : List ℕ
+queries = 9 ∷ 9 ∷ 9 ∷ 9 ∷ 9 ∷ []
+
+abbrev equations : List ℕ
+equations = 9 ∷ 9 ∷ 9 ∷ 9 ∷ 9 ∷ 9 ∷ 9 ∷ 9 ∷ 9 ∷ []
+
+abbrev uses : List ℕ
+uses = 3 ∷ 3 ∷ 3 ∷ 3 ∷ []
+
+abbrev publics : List ℕ
+publics = 6 ∷ 6 ∷ []
+
+abbrev scratch : List ℕ
+scratch = 6 ∷ 6 ∷ 6 ∷ []
+
+abbrev weighted : ℕ → ℕ → Weighted
+weighted x k = record { var = record { 0 = x }; weight = record { 0 = k } }
+
+-- two queries, of which the second names wire 9 beyond the slots, a third that finds no room, numbers that aren't there,
+-- and of two equations the first withdrawn
+abbrev first-calls : List Call
+first-calls =
+    Allocate 2
+    ∷ Record (1 ∷ []) (2 ∷ [])
+    ∷ Record (1 ∷ []) (9 ∷ [])
+    ∷ Mint (1 ∷ [])
+    ∷ WithdrawQuery 2
+    ∷ Equate (weighted 1 3 ∷ []) 6
+    ∷ Equate (weighted 2 1 ∷ []) 5
+    ∷ WithdrawEquation 2
+    ∷ WithdrawEquation 0
+    ∷ []
+
+-- then the second query withdrawn, and then the other
+abbrev one-left : List Call
+one-left = first-calls ++ (WithdrawQuery 1 ∷ [])
+
+abbrev none-left : List Call
+none-left = first-calls ++ (WithdrawQuery 1 ∷ WithdrawQuery 0 ∷ [])
+
+fresh-accepted : newRelation 1 slots uses .outcome ≡ Accepted
+unfolding ask _▸_ newRelationNo
+fresh-accepted = refl
+
+-- 10 for the mint, 45 for a number that isn't there
+outcomes : map (λ (e : Entry). e .answered .outcome) (log (begin 1 slots queries equations uses none-left) none-left)
+    ≡ Accepted ∷ Accepted ∷ Accepted ∷ Refused 10 ∷ Refused 45 ∷ Accepted ∷ Accepted ∷ Refused 45 ∷ Accepted ∷ Accepted ∷ Accepted ∷ []
+unfolding ask _▸_ newRelationNo allocateVarsNo addPermutationNo allocatePermutationNo addEquationNo times strays allFit usesAfter allBelow sizeAt endsRight withdrawQueryNo withdrawEquationNo answer after
+outcomes = refl
+
+-- ---- the ledger
+-- one query and one equation are struck from it
+ledger-is : lastLedger 1 slots queries equations uses one-left
+    ≡ ledger 3 (pair 0 0 ∷ []) ((1 ∷ 2 ∷ []) ∷ []) (equation (record { var = 2; weight = 1 } ∷ []) 5 ∷ [])
+unfolding ask _▸_ newRelationNo allocateVarsNo addPermutationNo allocatePermutationNo addEquationNo times strays allFit usesAfter allBelow sizeAt endsRight withdrawQueryNo withdrawEquationNo answer after noted
+ledger-is = refl
+
+-- wire 2 is known by the first query alone: with that struck it is unknown again
+pub known-again : (known (lastLedger 1 slots queries equations uses one-left) 2 ≡ true) × (known (lastLedger 1 slots queries equations uses none-left) 2 ≡ false)
+unfolding ask _▸_ newRelationNo allocateVarsNo addPermutationNo allocatePermutationNo addEquationNo times strays allFit usesAfter allBelow sizeAt endsRight withdrawQueryNo withdrawEquationNo answer after noted
+known-again = (refl, refl)
+
+-- ---- the use counts
+-- those of (1, 2) and (1, 9): nothing of the mint that was refused
+pub counted : last 1 slots queries equations uses first-calls .uses ≡ 0 ∷ 2 ∷ 1 ∷ 0 ∷ []
+unfolding ask _▸_ newRelationNo allocateVarsNo addPermutationNo allocatePermutationNo addEquationNo times strays usesOf allFit usesAfter allBelow sizeAt endsRight withdrawQueryNo withdrawEquationNo answer after noted
+counted = whole 1 slots queries equations uses fresh-accepted first-calls .used .counts .uses-are
+
+pub stray : last 1 slots queries equations uses first-calls .relation .stray ≡ 1
+unfolding ask _▸_ newRelationNo allocateVarsNo addPermutationNo allocatePermutationNo addEquationNo times strays usesOf allFit usesAfter allBelow sizeAt endsRight withdrawQueryNo withdrawEquationNo answer after noted
+stray = whole 1 slots queries equations uses fresh-accepted first-calls .used .counts .stray-is
+
+-- two queries of two cells
+pub total : sum (last 1 slots queries equations uses first-calls .uses) + last 1 slots queries equations uses first-calls .relation .stray ≡ 4
+unfolding ask _▸_ newRelationNo allocateVarsNo addPermutationNo allocatePermutationNo addEquationNo times strays usesOf allFit usesAfter allBelow sizeAt endsRight withdrawQueryNo withdrawEquationNo answer after noted
+total = whole 1 slots queries equations uses fresh-accepted first-calls .used .total
+
+-- none after none
+pub uncounted : last 1 slots queries equations uses none-left .uses ≡ 0 ∷ 0 ∷ 0 ∷ 0 ∷ []
+unfolding ask _▸_ newRelationNo allocateVarsNo addPermutationNo allocatePermutationNo addEquationNo times strays usesOf allFit usesAfter allBelow sizeAt endsRight withdrawQueryNo withdrawEquationNo answer after noted
+uncounted = whole 1 slots queries equations uses fresh-accepted none-left .used .counts .uses-are
+
+-- ---- the gate: 13 by the stray cell, then yes, and with no query 15, since the equation's wire is unknown again
+abbrev gate : List Call → Outcome
+gate calls = compiled (last 1 slots queries equations uses calls) [] publics scratch .outcome
+
+pub beyond : gate first-calls ≡ Refused 13
+unfolding ask _▸_ newRelationNo allocateVarsNo addPermutationNo allocatePermutationNo addEquationNo times strays allFit usesAfter allBelow sizeAt endsRight withdrawQueryNo withdrawEquationNo answer after noted compileLeft follow isUtf8
+beyond = whole 1 slots queries equations uses fresh-accepted first-calls .judged .gates [] publics scratch .by-ledger
+
+pub bound : gate one-left ≡ Accepted
+unfolding ask _▸_ newRelationNo allocateVarsNo addPermutationNo allocatePermutationNo addEquationNo times strays allFit usesAfter allBelow sizeAt endsRight withdrawQueryNo withdrawEquationNo answer after noted compileLeft follow isUtf8
+bound = whole 1 slots queries equations uses fresh-accepted one-left .judged .gates [] publics scratch .by-ledger
+
+pub unbound : gate none-left ≡ Refused 15
+unfolding ask _▸_ newRelationNo allocateVarsNo addPermutationNo allocatePermutationNo addEquationNo times strays allFit usesAfter allBelow sizeAt endsRight withdrawQueryNo withdrawEquationNo answer after noted compileLeft follow isUtf8
+unbound = whole 1 slots queries equations uses fresh-accepted none-left .judged .gates [] publics scratch .by-ledger

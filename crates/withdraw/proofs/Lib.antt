@@ -1,0 +1,9 @@
+pub mod Accepted
+pub mod Walked
+pub mod Cells
+pub mod Tallied
+pub mod Withdrawn
+pub mod Keeps
+pub mod Left
+pub mod Lengths
+pub mod Examples
