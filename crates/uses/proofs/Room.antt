@@ -13,9 +13,9 @@ use lib.ListN.{length, getD, set, take, drop, length-set}
 use lib.Seq.{take-suc, take-all, split-at, set-out, ext-getD}
 use Rattle.limits.specs.Numbers.{maxCount, unassigned, wordEnd}
 use Rattle.limits.specs.Questions.{pick}
-use Rattle.uses.specs.Uses.{times, countAfter, usesAfter}
+use Rattle.uses.specs.Uses.{times, strays, countAfter, usesAfter}
 use Rattle.uses.specs.Moves.{inside, room, Roomy, Crowded, MovesCell, Moves, TakesBack}
-use Rattle.uses.proofs.Counts.{times-append, after-length, after-append, after-at}
+use Rattle.uses.proofs.Counts.{times-append, strays-append, after-length, after-append, after-at}
 
 -- ---- the cells below end
 pub inside-append : (end : ℕ) (a b : List ℕ) → inside end (a ++ b) ≡ inside end a ++ inside end b
@@ -71,6 +71,18 @@ module _ (end : ℕ) (cells : List ℕ) (i : ℕ) (h : i < length cells) where
   pub snoc-out : end ≤ getD cells i 0 → inside end (take (i + 1) cells) ≡ inside end (take i cells)
   unfolding inside
   snoc-out l = snoc ∙ rw (le-ltb (getD cells i 0) end l) (append-nil (inside end (take i cells)))
+
+-- the strays of the first cells
+pub strays-none : (len : ℕ) (cells : List ℕ) → 0 ≡ strays len (take 0 cells)
+unfolding strays
+strays-none len cells = refl
+
+pub strays-more : (len : ℕ) (cells : List ℕ) (i n k : ℕ) → i < length cells → n ≡ strays len (take i cells)
+    → k ≡ pick (ltb (getD cells i 0) len) 0 1 → n + k ≡ strays len (take (i + 1) cells)
+unfolding strays
+strays-more len cells i n k h e f =
+    let s = strays-append len (take i cells) (getD cells i 0 ∷ []) in
+    rw (add-one, take-suc cells i 0 h) (omega arith)
 
 -- ---- a count's room
 pub room-after : (strike : Bool) (most n k : ℕ) → room strike most (countAfter strike n k) ≡ room strike most n - k

@@ -13,7 +13,7 @@ use lib.Seq.{drop-cons}
 use Rattle.limits.specs.Numbers.{maxCount, wordEnd}
 use Rattle.limits.specs.Questions.{pick}
 use Rattle.limits.proofs.Below.{both-true}
-use Rattle.uses.specs.Uses.{strays, countAfter, countFits}
+use Rattle.uses.specs.Uses.{countAfter, countFits}
 use Rattle.uses.specs.Moves.{room, MovesCell, cellAtMost, allAtMost, strayFits}
 
 -- ---- a test turned round
@@ -25,18 +25,20 @@ pub not-no : (b : Bool) → not b ≡ false → b ≡ true
 not-no true e = refl
 not-no false e = sym e
 
--- ---- how many are stray
-module _ (len : ℕ) (l : List ℕ) where
-  pub strays-step : (i n k : ℕ) → i < length l → k ≡ pick (ltb (getD l i 0) len) 0 1 → n + strays len (drop i l) ≡ strays len l
-      → (n + k) + strays len (drop (i + 1) l) ≡ strays len l
-  unfolding strays
-  strays-step i n k h e w =
-      let d : strays len (drop i l) ≡ pick (ltb (getD l i 0) len) 0 1 + strays len (drop (i + 1) l) = rw (drop-cons l i 0 h, add-one) in
-      omega arith
+-- ---- two numbers, both 0 or not
+pub both-zero : (a b : ℕ) → (eqb a 0 && eqb b 0) ≡ true → (a ≡ 0) × (b ≡ 0)
+both-zero a b e = let t = both-true (eqb a 0) (eqb b 0) e in (eqb-true a 0 (t .0), eqb-true b 0 (t .1))
 
-  pub strays-end : (i n : ℕ) → length l ≤ i → n + strays len (drop i l) ≡ strays len l → n ≡ strays len l
-  unfolding strays
-  strays-end i n h w = let d : strays len (drop i l) ≡ 0 = rw (drop-of-length-le l h) in omega arith
+pub not-zero : (a b : ℕ) → (eqb a 0 && eqb b 0) ≡ false → a ≡ 0 → b ≡ 0 → ⊥
+not-zero a b e y z =
+    let t : (eqb a 0 && eqb b 0) ≡ true = rw (eq-eqb a 0 y, eq-eqb b 0 z) in
+    let w : true ≡ false = sym t ∙ e in
+    let n : _≡_ {A = ℕ} 0 1 = cc in
+    omega arith
+
+-- ---- a cell below len is not stray
+pub none-stray : (len x : ℕ) → x < len → _≡_ {A = ℕ} 0 (pick (ltb x len) 0 1)
+none-stray len x h = rw (lt-ltb x len h)
 
 -- ---- a count, changed
 module _ (strike : Bool) (n k : ℕ) where
@@ -159,3 +161,12 @@ module _ (end : ℕ) (uses : List ℕ) where
 
   pub both-most : (a b : List ℕ) (p q : Bool) → p ≡ allAtMost end uses a → q ≡ allAtMost end uses b → allAtMost end uses (a ++ b) ≡ (p && q)
   both-most a b p q e f = sym (rw (e, f) (most-append a b))
+
+  -- which only a strike asks
+  module _ (a b : List ℕ) (strike : Bool) where
+    pub asked-joined : strike ≡ false → true ≡ pick strike (allAtMost end uses (a ++ b)) true
+    asked-joined j = rw j
+
+    pub asked-struck : strike ≡ true → (p q : Bool) → p ≡ allAtMost end uses a → q ≡ allAtMost end uses b
+        → (p && q) ≡ pick strike (allAtMost end uses (a ++ b)) true
+    asked-struck j p q e f = rw j (sym (both-most a b p q e f))

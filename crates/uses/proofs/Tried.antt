@@ -12,12 +12,26 @@ use Rattle.limits.specs.Numbers.{maxCount, wordEnd}
 use Rattle.limits.specs.Questions.{pick}
 use Rattle.limits.proofs.Below.{both-true, true-both}
 use Rattle.uses.specs.Uses.{times, countAfter, usesAfter, countFits}
-use Rattle.uses.specs.Moves.{inside, room, Roomy, Moves, Words, TakesBack, Tries, cellAtMost, allAtMost, Fits}
+use Rattle.uses.specs.Moves.{inside, room, Roomy, Moves, Crowded, Words, TakesBack, cellAtMost, allAtMost}
 use Rattle.uses.proofs.Counts.{times-append, more-times, self-named, after-length, after-append, after-at}
 use Rattle.uses.proofs.Room.{inside-append, inside-times, room-left, roomy-append, roomy-first, roomy-second}
 
 never : {A : Type 0} → true ≡ false → A
 never e = absurd (let z : _≡_ {A = ℕ} 0 1 = cc in omega arith)
+
+-- ---- what is left of the cells tried
+-- all cells are moved, or one had no room and all counts are as they were
+pub record Tries (strike : Bool) (end : ℕ) (uses cells : List ℕ) (r : Bool) (left : List ℕ) : Type 0 where
+  pub left-is : left ≡ pick r (usesAfter strike uses (inside end cells)) uses
+  pub had-room : r ≡ true → Roomy strike maxCount uses (inside end cells)
+  pub had-none : r ≡ false → Crowded strike maxCount end uses cells
+
+-- a wire below end whose count would not be from 0 to 2^30
+pub record Unfit (strike : Bool) (end : ℕ) (uses cells : List ℕ) : Type 0 where
+  pub wire : ℕ
+  pub below : wire < end
+  pub named : 0 < times cells wire
+  pub says : countFits strike (getD uses wire 0) (times cells wire) ≡ false
 
 -- ---- a list of cells
 module _ (strike : Bool) (end : ℕ) (uses cells : List ℕ) where
@@ -39,7 +53,7 @@ module _ (strike : Bool) (end : ℕ) (uses cells : List ℕ) where
   }
 
 -- ---- two lists
-words-after : (strike : Bool) (uses cells : List ℕ) → Words uses → Roomy strike maxCount uses cells → Words (usesAfter strike uses cells)
+pub words-after : (strike : Bool) (uses cells : List ℕ) → Words uses → Roomy strike maxCount uses cells → Words (usesAfter strike uses cells)
 words-after strike uses cells w f x h =
     let l : x < length uses = rw (after-length strike uses cells) at h in
     rw (after-at strike uses cells x l) (go strike (getD uses x 0) (times cells x) (w x l) (f x l))
@@ -148,82 +162,74 @@ module _ (end : ℕ) (uses : List ℕ) where
 
 -- ---- whether each count that is changed fits
 module _ (strike : Bool) (end : ℕ) (uses cells : List ℕ) where
-  pub query-none : (r : Bool) (left : List ℕ) → r ≡ false → Tries strike end uses cells r left → Fits strike end uses cells false left
-  query-none r left e t =
-      let c = t .had-none e in
-      record {
-        left-is = t .left-is ∙ rw e;
-        had-room = λ d. never (sym d);
-        fit = λ d. never (sym d);
-        unfit = λ d. record {
-          wire = c .wire;
-          below = c .below;
-          named = omega arith;
-          says = go strike (getD uses (c .wire) 0) (times cells (c .wire)) (c .more);
-        };
-      }
+  pub crowded-unfit : Crowded strike maxCount end uses cells → Unfit strike end uses cells
+  crowded-unfit c = record {
+    wire = c .wire;
+    below = c .below;
+    named = omega (arith, c .more);
+    says = go strike (getD uses (c .wire) 0) (times cells (c .wire)) (c .more);
+  }
     where
       go : (s : Bool) (n k : ℕ) → room s maxCount n < k → countFits s n k ≡ false
       go true n k h = simp (lt-leb k n h)
       go false n k h = lt-leb (n + k) maxCount (omega arith)
 
-  module _ (r : Bool) (moved : List ℕ) (e : r ≡ true) (t : Tries strike end uses cells r moved) (fits : end ≤ length uses) where
-    moved-is : moved ≡ usesAfter strike uses (inside end cells)
-    moved-is = t .left-is ∙ rw e
-
+  module _ (moved : List ℕ) (t : Tries strike end uses cells true moved) (fits : end ≤ length uses) where
     -- a count that is moved
     count-is : (x : ℕ) → x < end → getD moved x 0 ≡ countAfter strike (getD uses x 0) (times cells x)
     count-is x l =
-        ap (λ (u : List ℕ). getD u x 0) moved-is
+        ap (λ (u : List ℕ). getD u x 0) (t .left-is)
         ∙ after-at strike uses (inside end cells) x (omega arith)
         ∙ ap (countAfter strike (getD uses x 0)) (inside-times end cells x l)
 
     room-for : (x : ℕ) → x < end → times cells x ≤ room strike maxCount (getD uses x 0)
-    room-for x l = rw (inside-times end cells x l) at (t .had-room e x (omega arith))
+    room-for x l = rw (inside-times end cells x l) at (t .had-room refl x (omega arith))
 
-    pub query-joined : strike ≡ false → Fits strike end uses cells true moved
-    query-joined j = record {
-      left-is = moved-is;
-      had-room = λ d. t .had-room e;
-      fit = λ d x l h. rw j (go (getD uses x 0) (times cells x) h (rw j at (room-for x l)));
-      unfit = λ d. never d;
-    }
+    joined-fits : strike ≡ false → (x : ℕ) → x < end → 0 < times cells x → countFits strike (getD uses x 0) (times cells x) ≡ true
+    joined-fits j x l h = rw j (go (getD uses x 0) (times cells x) h (rw j at (room-for x l)))
       where
         go : (n k : ℕ) → 0 < k → k ≤ maxCount - n → leb (n + k) maxCount ≡ true
         go n k h l = le-leb (n + k) maxCount (omega arith)
 
-    pub query-struck : strike ≡ true → allAtMost end moved cells ≡ true → Fits strike end uses cells true moved
-    query-struck j m = record {
-      left-is = moved-is;
-      had-room = λ d. t .had-room e;
-      fit = λ d x l h.
-          rw j (true-both _ _ (le-leb (times cells x) (getD uses x 0) (rw j at (room-for x l)))
-          (le-leb (getD uses x 0 - times cells x) maxCount (low x l h)));
-      unfit = λ d. never d;
-    }
+    struck-fits : strike ≡ true → allAtMost end moved cells ≡ true → (x : ℕ) → x < end → 0 < times cells x
+        → countFits strike (getD uses x 0) (times cells x) ≡ true
+    struck-fits j m x l h =
+        rw j (true-both _ _ (le-leb (times cells x) (getD uses x 0) (rw j at (room-for x l)))
+        (le-leb (getD uses x 0 - times cells x) maxCount low))
       where
-        low : (x : ℕ) → x < end → 0 < times cells x → getD uses x 0 - times cells x ≤ maxCount
-        low x l h =
+        low : getD uses x 0 - times cells x ≤ maxCount
+        low =
             let c : getD moved x 0 ≡ getD uses x 0 - times cells x = rw j at (count-is x l) in
             let p = most-all end moved cells m x l h in
             omega arith
 
-    pub query-over : (left : List ℕ) → strike ≡ true → allAtMost end moved cells ≡ false → Words uses → TakesBack strike end moved cells left
-        → Fits strike end uses cells false left
-    query-over left j m words b =
+    struck-unfit : strike ≡ true → allAtMost end moved cells ≡ false → Unfit strike end uses cells
+    struck-unfit j m =
         let o = most-one end moved cells m in
         let c : getD moved (o .wire) 0 ≡ getD uses (o .wire) 0 - times cells (o .wire) = rw j at (count-is (o .wire) (o .below)) in
         record {
-          left-is = b uses words fits (t .had-room e) moved-is;
-          had-room = λ d. never (sym d);
-          fit = λ d. never (sym d);
-          unfit = λ d. record {
-            wire = o .wire;
-            below = o .below;
-            named = o .named;
-            says = rw j (go (getD uses (o .wire) 0) (times cells (o .wire)) (omega arith));
-          };
+          wire = o .wire;
+          below = o .below;
+          named = o .named;
+          says = rw j (go (getD uses (o .wire) 0) (times cells (o .wire)) (omega (arith, o .above)));
         }
       where
         go : (n k : ℕ) → maxCount < n - k → countFits true n k ≡ false
         go n k h = rw (lt-leb (n - k) maxCount h) (and-false (leb k n))
+
+    -- by what `both_at_most` says
+    pub most-fits : pick strike (allAtMost end moved cells) true ≡ true → (x : ℕ) → x < end → 0 < times cells x
+        → countFits strike (getD uses x 0) (times cells x) ≡ true
+    most-fits e = go strike refl e
+      where
+        go : (s : Bool) → strike ≡ s → pick s (allAtMost end moved cells) true ≡ true → (x : ℕ) → x < end → 0 < times cells x
+            → countFits strike (getD uses x 0) (times cells x) ≡ true
+        go true j m = struck-fits j m
+        go false j m = joined-fits j
+
+    pub most-unfit : pick strike (allAtMost end moved cells) true ≡ false → Unfit strike end uses cells
+    most-unfit e = go strike refl e
+      where
+        go : (s : Bool) → strike ≡ s → pick s (allAtMost end moved cells) true ≡ false → Unfit strike end uses cells
+        go true j m = struck-unfit j m
+        go false j m = never m

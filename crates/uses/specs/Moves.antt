@@ -58,12 +58,6 @@ TakesBack strike end moved cells left =
     (uses : List ℕ) → Words uses → end ≤ length uses → Roomy strike maxCount uses (inside end cells)
     → moved ≡ usesAfter strike uses (inside end cells) → left ≡ uses
 
--- all cells are moved, or one had no room and all counts are as they were
-pub record Tries (strike : Bool) (end : ℕ) (uses cells : List ℕ) (r : Bool) (left : List ℕ) : Type 0 where
-  pub left-is : left ≡ pick r (usesAfter strike uses (inside end cells)) uses
-  pub had-room : r ≡ true → Roomy strike maxCount uses (inside end cells)
-  pub had-none : r ≡ false → Crowded strike maxCount end uses cells
-
 -- the count of a cell's wire, where that is below end, is at most 2^30
 abbrev pub cellAtMost : (end : ℕ) → (uses : List ℕ) → ℕ → Bool
 cellAtMost end uses x = pick (ltb x end) (leb (getD uses x 0) maxCount) true
@@ -72,20 +66,6 @@ cellAtMost end uses x = pick (ltb x end) (leb (getD uses x 0) maxCount) true
 unfoldable pub allAtMost : (end : ℕ) → (uses cells : List ℕ) → Bool
 allAtMost end uses [] = true
 allAtMost end uses (x ∷ cells) = cellAtMost end uses x && allAtMost end uses cells
-
--- a wire below end whose count would not be from 0 to 2^30
-pub record Unfit (strike : Bool) (end : ℕ) (uses cells : List ℕ) : Type 0 where
-  pub wire : ℕ
-  pub below : wire < end
-  pub named : 0 < times cells wire
-  pub says : countFits strike (getD uses wire 0) (times cells wire) ≡ false
-
--- all cells of a query are moved and every count below end that is changed fits; or one does not, and all are as they were
-pub record Fits (strike : Bool) (end : ℕ) (uses cells : List ℕ) (r : Bool) (left : List ℕ) : Type 0 where
-  pub left-is : left ≡ pick r (usesAfter strike uses (inside end cells)) uses
-  pub had-room : r ≡ true → Roomy strike maxCount uses (inside end cells)
-  pub fit : r ≡ true → (x : ℕ) → x < end → 0 < times cells x → countFits strike (getD uses x 0) (times cells x) ≡ true
-  pub unfit : r ≡ false → Unfit strike end uses cells
 
 -- the stray count, which is asked only where a cell is stray
 abbrev pub strayFits : Bool → (stray by : ℕ) → Bool

@@ -1,17 +1,18 @@
 // Use counts: for each slot how many query cells name its wire, and how many cells name wires beyond the slots.
 //
-// A query's cells, lent as inputs a and outputs b, are struck from the counts or joined to them in place, each count
-// by one for each cell, and taken back where they may not stay. So each cell is looked at a few times, and no buffer
-// is needed.
+// A query's cells, lent as inputs a and outputs b, are struck from the counts or joined to them in place, each count by
+// one for each cell, and the stray ones are counted on the way. Then the questions are asked, and where one says no the
+// cells are taken back. So a join that fits looks at each cell once, a strike twice, and no buffer is needed.
 
 ghost use mathlib.Core.Path.{_≡_};
 ghost use mathlib.Core.Bool.{true};
 ghost use mathlib.Core.List.{_++_};
 ghost use Prim.Native.Nat.{ℕ, _≤_, _<_};
-ghost use lib.ListN.{length};
-ghost use Rattle.limits.specs.Questions.{pick, _▸_};
+ghost use lib.Dec.{ltb};
+ghost use lib.ListN.{length, take};
+ghost use Rattle.limits.specs.Questions.{pick};
 ghost use Rattle.uses.specs.Uses.{strays, countFits, countAfter, CountsCells};
-ghost use Rattle.uses.specs.Moves.{MovesCell, Moves, TakesBack, Tries, cellAtMost, allAtMost, Fits, strayFits};
+ghost use Rattle.uses.specs.Moves.{MovesCell, Moves, TakesBack, cellAtMost, allAtMost, strayFits};
 use limits::MAX_COUNT;
 use limits::UNASSIGNED;
 
@@ -29,19 +30,6 @@ fn one_unless(says: bool) -> usize
         return 0;
     }
     1
-}
-
-// How many cells name wires beyond a store of len slots.
-fn strays(len: usize, cells: &[u32]) -> usize
-    ensures { λ r. ⌜ (r ≡ strays len (now (cells .entry))) × (r ≤ length (now (cells .entry))) ⌝ }
-{
-    let mut n: usize = 0;
-    let mut i = 0;
-    while i < cells.len() {
-        n += one_unless((cells[i] as usize) < len);
-        i += 1;
-    }
-    n
 }
 
 // Would a count of n be from 0 to 2^30 after `by` cells are struck, or joined?
@@ -83,44 +71,87 @@ fn stray_after(strike: bool, stray: u32, by: usize) -> u32
     (held + by) as u32
 }
 
-// One cell struck, or joined up to `most`, where its wire is below end. False where its count has no room.
-fn move_cell(strike: bool, most: u32, end: usize, uses: &mut [u32], x: u32) -> bool
-    requires { ⌜ end ≤ length (now uses) ⌝ }
-    ensures { λ r. ⌜ MovesCell strike most end (now (uses .entry)) x r (now (uses .exit)) ⌝ }
+// A cell: whether it is moved, and then 1 where it is stray.
+struct Cell {
+    moved: bool,
+    strays: usize,
+}
+
+// One cell struck, or joined up to `most`, where its wire is below end. Not moved where its count has no room.
+fn move_cell(strike: bool, most: u32, end: usize, len: usize, uses: &mut [u32], x: u32) -> Cell
+    requires { ⌜ (end ≤ length (now uses)) × (end ≤ len) ⌝ }
+    ensures { λ r. ⌜ MovesCell strike most end (now (uses .entry)) x (r .moved) (now (uses .exit)) × (r .moved ≡ true → r .strays ≡ pick (ltb x len) 0 1) × (r .strays ≤ 1) ⌝ }
 {
     let at = x as usize;
     if end <= at {
-        return true;
+        let stray = one_unless(at < len);
+        return Cell {
+            moved: true,
+            strays: stray,
+        };
     }
     let n = uses[at];
     if strike {
         if n == 0 {
-            return false;
+            return Cell {
+                moved: false,
+                strays: 0,
+            };
         }
         uses[at] = n - 1;
-        return true;
+        return Cell {
+            moved: true,
+            strays: 0,
+        };
     }
     if most <= n {
-        return false;
+        return Cell {
+            moved: false,
+            strays: 0,
+        };
     }
     uses[at] = n + 1;
-    true
+    Cell {
+        moved: true,
+        strays: 0,
+    }
 }
 
-// Cells moved from the first on; the answer is how many, before one whose count has no room.
-fn move_cells(strike: bool, most: u32, end: usize, uses: &mut [u32], cells: &[u32]) -> usize
-    requires { ⌜ end ≤ length (now uses) ⌝ }
-    ensures { λ r. ⌜ Moves strike most end (now (uses .entry)) (now (cells .entry)) r (now (uses .exit)) ⌝ }
+// A list's cells: how many are moved, and how many of those are stray.
+struct Moved {
+    n: usize,
+    strays: usize,
+}
+
+// Cells moved from the first on, before one whose count has no room.
+fn move_cells(
+    strike: bool,
+    most: u32,
+    end: usize,
+    len: usize,
+    uses: &mut [u32],
+    cells: &[u32],
+) -> Moved
+    requires { ⌜ (end ≤ length (now uses)) × (end ≤ len) ⌝ }
+    ensures { λ r. ⌜ Moves strike most end (now (uses .entry)) (now (cells .entry)) (r .n) (now (uses .exit)) × (r .strays ≡ strays len (take (r .n) (now (cells .entry)))) × (r .strays ≤ r .n) ⌝ }
 {
+    let mut strays: usize = 0;
     let mut i = 0;
     while i < cells.len() {
-        let moved = move_cell(strike, most, end, uses, cells[i]);
-        if !moved {
-            return i;
+        let cell = move_cell(strike, most, end, len, uses, cells[i]);
+        if !cell.moved {
+            return Moved {
+                n: i,
+                strays: strays,
+            };
         }
+        strays += cell.strays;
         i += 1;
     }
-    i
+    Moved {
+        n: i,
+        strays: strays,
+    }
 }
 
 // Cells that were moved, moved back.
@@ -128,7 +159,7 @@ fn take_back(strike: bool, end: usize, uses: &mut [u32], cells: &[u32])
     requires { ⌜ end ≤ length (now uses) ⌝ }
     ensures { λ _. ⌜ TakesBack strike end (now (uses .entry)) (now (cells .entry)) (now (uses .exit)) ⌝ }
 {
-    move_cells(!strike, UNASSIGNED, end, uses, cells);
+    move_cells(!strike, UNASSIGNED, end, end, uses, cells);
 }
 
 // Both lists of cells, the last first.
@@ -138,36 +169,6 @@ fn take_both_back(strike: bool, end: usize, uses: &mut [u32], a: &[u32], b: &[u3
 {
     take_back(strike, end, uses, b);
     take_back(strike, end, uses, a);
-}
-
-// All cells moved, or none.
-fn try_cells(strike: bool, end: usize, uses: &mut [u32], cells: &[u32]) -> bool
-    requires { ⌜ end ≤ length (now uses) ⌝ }
-    ensures { λ r. ⌜ Tries strike end (now (uses .entry)) (now (cells .entry)) r (now (uses .exit)) ⌝ }
-{
-    let n = move_cells(strike, MAX_COUNT, end, uses, cells);
-    if n < cells.len() {
-        take_back(strike, end, uses, &cells[..n]);
-        return false;
-    }
-    true
-}
-
-// The cells of both lists, or none.
-fn try_both(strike: bool, end: usize, uses: &mut [u32], a: &[u32], b: &[u32]) -> bool
-    requires { ⌜ end ≤ length (now uses) ⌝ }
-    ensures { λ r. ⌜ Tries strike end (now (uses .entry)) (now (a .entry) ++ now (b .entry)) r (now (uses .exit)) ⌝ }
-{
-    let first = try_cells(strike, end, uses, a);
-    if !first {
-        return false;
-    }
-    let second = try_cells(strike, end, uses, b);
-    if !second {
-        take_back(strike, end, uses, a);
-        return false;
-    }
-    true
 }
 
 // Is the count of a cell's wire, where that is below end, at most 2^30?
@@ -196,25 +197,17 @@ fn at_most(end: usize, uses: &[u32], cells: &[u32]) -> bool
     all
 }
 
-// The cells of both lists, where each count below end that they change is then from 0 to 2^30; else none.
-fn fit_both(strike: bool, end: usize, uses: &mut [u32], a: &[u32], b: &[u32]) -> bool
+// Is every count below end that the cells of both lists have changed from 0 to 2^30? A join's is.
+fn both_at_most(strike: bool, end: usize, uses: &[u32], a: &[u32], b: &[u32]) -> bool
     requires { ⌜ end ≤ length (now uses) ⌝ }
-    ensures { λ r. ⌜ Fits strike end (now (uses .entry)) (now (a .entry) ++ now (b .entry)) r (now (uses .exit)) ⌝ }
+    ensures { λ r. ⌜ r ≡ pick strike (allAtMost end (now (uses .entry)) (now (a .entry) ++ now (b .entry))) true ⌝ }
 {
-    let moved = try_both(strike, end, uses, a, b);
-    if !moved {
-        return false;
-    }
     if !strike {
         return true;
     }
     let first = at_most(end, uses, a);
     let second = at_most(end, uses, b);
-    if first & second {
-        return true;
-    }
-    take_both_back(strike, end, uses, a, b);
-    false
+    first & second
 }
 
 // The lesser of two lengths.
@@ -225,16 +218,6 @@ fn lesser(a: usize, b: usize) -> usize
         return a;
     }
     b
-}
-
-// The first no of two.
-fn first_no(no: u32, rest: u32) -> u32
-    ensures { λ r. ⌜ r ≡ no ▸ rest ⌝ }
-{
-    if no != 0 {
-        return no;
-    }
-    rest
 }
 
 // A query's cells, inputs a and outputs b, struck from the counts of a store of len slots or joined to them. Questions
@@ -250,34 +233,40 @@ pub fn count_cells(
 ) -> Tally
     ensures { λ r. ⌜ CountsCells strike len (now (uses .entry)) stray (now (a .entry) ++ now (b .entry)) rest r (now (uses .exit)) ⌝ }
 {
-    let by = strays(len, a) + strays(len, b);
-    let beyond = stray_fits(strike, stray, by);
-    if !beyond {
-        return Tally {
-            number: 11,
-            stray: stray,
-        };
-    }
-    let no = limits::asked(0, uses.len() == len, 10);
-    let late = first_no(no, rest);
     let end = lesser(len, uses.len());
-    let fit = fit_both(strike, end, uses, a, b);
-    if !fit {
+    let first = move_cells(strike, MAX_COUNT, end, len, uses, a);
+    let n = first.n;
+    if n < a.len() {
+        take_back(strike, end, uses, &a[..n]);
         return Tally {
             number: 11,
             stray: stray,
         };
     }
-    if late != 0 {
-        take_both_back(strike, end, uses, a, b);
+    let second = move_cells(strike, MAX_COUNT, end, len, uses, b);
+    let m = second.n;
+    if m < b.len() {
+        take_back(strike, end, uses, &b[..m]);
+        take_back(strike, end, uses, a);
         return Tally {
-            number: late,
+            number: 11,
             stray: stray,
         };
     }
-    let after = stray_after(strike, stray, by);
+    let by = first.strays + second.strays;
+    let fit = stray_fits(strike, stray, by) & both_at_most(strike, end, uses, a, b);
+    let no = limits::asked(0, fit, 11);
+    let no = limits::asked(no, uses.len() == len, 10);
+    if (no == 0) & (rest == 0) {
+        let after = stray_after(strike, stray, by);
+        return Tally {
+            number: 0,
+            stray: after,
+        };
+    }
+    take_both_back(strike, end, uses, a, b);
     Tally {
-        number: 0,
-        stray: after,
+        number: if no != 0 { no } else { rest },
+        stray: stray,
     }
 }

@@ -13,7 +13,7 @@ same-length : tie.Need-same-length
 same-length c = search needs
 
 returns : tie.Need-returns
-returns c = let a = c .before .before .before .before .before .before .args in takes-back (a .strike) (a .end) (now (a .uses)) (now (a .cells)) (c .before .before .move-cells .result) _ (c .before .before .move-cells .ensures)
+returns c = let a = c .before .before .before .before .before .before .args in takes-back (a .strike) (a .end) (now (a .uses)) (now (a .cells)) (c .before .before .move-cells .result .n) _ (c .before .before .move-cells .ensures .0)
 
 pub take-back-spec : {M : Type 1} → statement M
 take-back-spec = tie.close (tie.spec move-cells-requires same-length returns)
