@@ -9,7 +9,7 @@ use Rattle.limits.specs.Questions.{_▸_, Question, firstNo}
 use Rattle.limits.specs.Asks.{storeAsks}
 use Rattle.limits.proofs.Questions.{ask-yes, goes-on, both, firstNo-append}
 use Rattle.words.specs.Pieces.{wordsOf}
-use Rattle.uses.specs.Uses.{lengthAsks, Counted}
+use Rattle.uses.specs.Uses.{lengthAsks, UseCounts}
 use Rattle.uses.proofs.Counts.{uses-length}
 use Rattle.permutation.specs.Relation.{relationAsks}
 use Rattle.permutation.specs.declared.PermutationRelation.{PermutationRelation}
@@ -49,7 +49,7 @@ module _ (l : GateLent) where
   walked-is =
       ap (λ (qs : List Question). firstNo (relation ++ (lentStoresAsks l ++ (lentSoundAsks l ++ (publicsRoom l ++ qs))))) (append-nil walk)
 
-  module _ (c : Counted (length (l .slots)) (take (wordsOf (rel .width) (rel .queries)) (l .queries)) (l .uses) (rel .stray)) where
+  module _ (c : UseCounts (length (l .slots)) (take (wordsOf (rel .width) (rel .queries)) (l .queries)) (l .uses) (rel .stray)) where
     -- the use store has a word per slot
     pub counted-same : length (l .uses) ≡ length (l .slots)
     counted-same = ap length (c .uses-are) ∙ uses-length (length (l .slots)) (take (wordsOf (rel .width) (rel .queries)) (l .queries))

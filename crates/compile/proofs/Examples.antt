@@ -60,6 +60,10 @@ pub record Examples : Type 0 where
   -- a use store that has not a word per slot
   pub short : compileNo (lent 1 2 (0 ∷ 1 ∷ 1 ∷ []) 0) ≡ 10
   pub long : compileNo (lent 1 2 (0 ∷ 1 ∷ 1 ∷ 0 ∷ 0 ∷ []) 0) ≡ 10
+  -- that before 16, 13 and 15; and before it 11, of a held query wire, though the counts are right
+  pub short-first : compileNo (gateLent (a 1) [] (aSlots ++ (unassigned ∷ [])) (1 ∷ 2 ∷ []) (1 ∷ 1 ∷ 3 ∷ 6 ∷ []) (0 ∷ 0 ∷ []) 6 2) ≡ 10
+  pub wire-first : compileNo (lent 1 1073741824 (0 ∷ 1 ∷ 0 ∷ []) 1) ≡ 11
+  pub wire-held : compileNo (lent 1 1073741824 (0 ∷ 1 ∷ 0 ∷ 0 ∷ []) 1) ≡ 11
 
 pub gate-examples : Examples
 unfolding ask _▸_ allBelow isUtf8 follow equationAt sizeAt equationsSound slotsSound publicsOf compiledParts compileNo compilePublics
@@ -80,4 +84,7 @@ gate-examples =
       wrong-yes = refl;
       short = refl;
       long = refl;
+      short-first = refl;
+      wire-first = refl;
+      wire-held = refl;
     }

@@ -28,7 +28,7 @@ use Rattle.compile.specs.Gate.{gateLent, publicsFrom, publicsOf, compiledParts,
 use Rattle.held.proofs.Facts.{facts-allBelow, SoundSlot, facts-slotsSound}
 use Rattle.compile.proofs.Rising.{publicsOf-below}
 use Rattle.compile.proofs.Counts.{walked-is, counted-gate}
-use Rattle.uses.specs.Uses.{Counted}
+use Rattle.uses.specs.Uses.{UseCounts}
 use Rattle.history.specs.Ledger.{Ledger}
 use Rattle.history.specs.Calls.{State, lengthsOf}
 use Rattle.history.specs.Left.{numberOf, publicCount, validatedLeft, compileLeft}
@@ -199,5 +199,5 @@ module _ (w : ℕ) (s : State) (l : Ledger) (i : Agrees w s l) where
         ≡ firstNo (compileLeft (lengthsOf s) l label publicRoom scratch)
     compile-left =
         counted-gate (gateLent rel label (s .slots) (s .queries) (s .equations) (s .uses) publicRoom scratch)
-        (subst (λ (cells : List ℕ). Counted (length (s .slots)) cells (s .uses) (rel .stray)) (sym queries-held) (i .counts))
+        (subst (λ (cells : List ℕ). UseCounts (length (s .slots)) cells (s .uses) (rel .stray)) (sym queries-held) (i .counts))
         ∙ walked-left

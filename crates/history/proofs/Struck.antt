@@ -1,7 +1,7 @@
 -- Withdrawals along a list (document 02's R-6), through the theorem: what is struck is out of the ledger, so a wire can
 -- become unknown again; the use counts are those of the queries that remain, whatever was refused between; and the gate
 -- answers for what remains. Assumes nothing.
-use Prim.Native.Nat.{ℕ, _+_}
+use Prim.Native.Nat.{ℕ, _+_, _<_}
 use mathlib.Core.Path.{_≡_, refl}
 use mathlib.Core.Bool.{true, false}
 use mathlib.Core.List.{List, [], _∷_, _++_, map}
@@ -89,9 +89,9 @@ unfolding ask _▸_ newRelationNo allocateVarsNo addPermutationNo allocatePermut
 ledger-is = refl
 
 -- wire 2 is known by the first query alone: with that struck it is unknown again
-pub known-again : (known (lastLedger 1 slots queries equations uses one-left) 2 ≡ true) × (known (lastLedger 1 slots queries equations uses none-left) 2 ≡ false)
+pub unknown-again : (known (lastLedger 1 slots queries equations uses one-left) 2 ≡ true) × (known (lastLedger 1 slots queries equations uses none-left) 2 ≡ false)
 unfolding ask _▸_ newRelationNo allocateVarsNo addPermutationNo allocatePermutationNo addEquationNo times strays allFit usesAfter allBelow sizeAt endsRight withdrawQueryNo withdrawEquationNo answer after noted
-known-again = (refl, refl)
+unknown-again = (refl, refl)
 
 -- ---- the use counts
 -- those of (1, 2) and (1, 9): nothing of the mint that was refused
@@ -112,6 +112,19 @@ total = whole 1 slots queries equations uses fresh-accepted first-calls .used .t
 pub uncounted : last 1 slots queries equations uses none-left .uses ≡ 0 ∷ 0 ∷ 0 ∷ 0 ∷ []
 unfolding ask _▸_ newRelationNo allocateVarsNo addPermutationNo allocatePermutationNo addEquationNo times strays usesOf allFit usesAfter allBelow sizeAt endsRight withdrawQueryNo withdrawEquationNo answer after noted
 uncounted = whole 1 slots queries equations uses fresh-accepted none-left .used .counts .uses-are
+
+-- ---- 11 of a count
+-- only where the query store has no room: it has five words, and a first query takes two
+abbrev two-wires : List Call
+two-wires = Allocate 2 ∷ []
+
+pub roomy : answer (last 1 slots queries equations uses two-wires) (Record (1 ∷ []) (2 ∷ [])) .outcome ≡ Refused 11 → 5 < 2
+unfolding ask _▸_ newRelationNo allocateVarsNo addPermutationNo allocatePermutationNo addEquationNo times strays usesOf allFit usesAfter allBelow sizeAt endsRight withdrawQueryNo withdrawEquationNo answer after noted
+roomy = whole 1 slots queries equations uses fresh-accepted (two-wires ++ (Record (1 ∷ []) (2 ∷ []) ∷ [])) .told .1 .0 .full refl
+
+pub mint-roomy : answer (last 1 slots queries equations uses two-wires) (Mint (1 ∷ [])) .outcome ≡ Refused 11 → 5 < 2
+unfolding ask _▸_ newRelationNo allocateVarsNo addPermutationNo allocatePermutationNo addEquationNo times strays usesOf allFit usesAfter allBelow sizeAt endsRight withdrawQueryNo withdrawEquationNo answer after noted
+mint-roomy = whole 1 slots queries equations uses fresh-accepted (two-wires ++ (Mint (1 ∷ []) ∷ [])) .told .1 .0 .full refl
 
 -- ---- the gate: 13 by the stray cell, then yes, and with no query 15, since the equation's wire is unknown again
 abbrev gate : List Call → Outcome

@@ -13,7 +13,7 @@ use Rattle.limits.specs.declared.Outcome.{Outcome}
 use Rattle.limits.specs.declared.Outcome.the-variants as outcome
 use Rattle.words.specs.Store.{All}
 use Rattle.words.specs.Pieces.{flat, wordsOf}
-use Rattle.uses.specs.Uses.{Counted, sum}
+use Rattle.uses.specs.Uses.{UseCounts, sum}
 use Rattle.allocator.specs.Values.{Values}
 use Rattle.expr.specs.Equation.{Term, Equation}
 use Rattle.instance.specs.Parts.{Parts, pairVars}
@@ -84,7 +84,7 @@ AllTold w = Along answer after (noted w) (Told w)
 -- each use count and the stray count are those of the cells of the ledger's queries, worked out afresh over so many slots,
 -- and they add up to 2w times the queries
 pub record Used (w slots : ℕ) (l : Ledger) (uses : List ℕ) (stray : ℕ) : Type 0 where
-  pub counts : Counted slots (flat (l .queries)) uses stray
+  pub counts : UseCounts slots (flat (l .queries)) uses stray
   pub total : sum uses + stray ≡ wordsOf w (length (l .queries))
 
 -- ---- the check

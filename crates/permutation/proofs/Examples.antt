@@ -11,7 +11,7 @@ use Rattle.limits.specs.declared.Outcome.the-variants as outcome
 use Rattle.baby_bear.specs.Field.{addUnit, mulUnit}
 use Rattle.allocator.specs.Slots.{pair, pairNo, setItems}
 use Rattle.permutation.specs.Numbers.{newRelationNo, allocateVarsNo, setVarNo, setVarsNo}
-use Rattle.permutation.specs.Answers.{relation, newRelation, newSlots, setVar, setVarsRun, setVars, allocateVars}
+use Rattle.permutation.specs.Answers.{relation, newRelation, newSlots, newUses, setVar, setVarsRun, setVars, allocateVars}
 use Rattle.permutation.specs.declared.PermutationRelation.{PermutationRelation}
 use Rattle.allocator.specs.declared.Set.the-variants as set
 use Rattle.permutation.specs.declared.First.the-variants as first
@@ -38,6 +38,21 @@ pub record Examples : Type 0 where
 pub examples : Examples
 unfolding ask _▸_ addUnit mulUnit newRelationNo setVarNo allocateVarsNo
 examples = record { sum = refl; product = refl; set-zero = refl; set-five = refl; allocate-all = refl; allocate-rest = refl }
+
+-- ---- fresh and its use store (document 02's R-6)
+pub record Fresh : Type 0 where
+  -- 6 before 10; a use store that is short, long, or larger than any store
+  pub no-slot : newRelationNo 1 0 1 ≡ 6
+  pub short : newRelationNo 1 3 2 ≡ 10
+  pub long : newRelationNo 1 3 4 ≡ 10
+  pub too-large : newRelationNo 1 0 1073741825 ≡ 2
+  -- cleared where it is accepted, else as it was
+  pub cleared : newUses 1 (9 ∷ 9 ∷ []) (3 ∷ 3 ∷ []) ≡ 0 ∷ 0 ∷ []
+  pub refused : newUses 1 (9 ∷ 9 ∷ []) (3 ∷ []) ≡ 3 ∷ []
+
+pub fresh : Fresh
+unfolding ask _▸_ newRelationNo
+fresh = record { no-slot = refl; short = refl; long = refl; too-large = refl; cleared = refl; refused = refl }
 
 -- ---- set lists
 -- a list on a relation of this width and count

@@ -16,7 +16,7 @@ use Rattle.limits.specs.Numbers.{maxCount}
 use Rattle.limits.specs.Questions.{ask, _▸_, onYes}
 use Rattle.words.specs.Pieces.{flat, wordsOf}
 use Rattle.words.specs.Store.{allBelow, putWords}
-use Rattle.uses.specs.Uses.{usesAfter, strayAfter, Counted}
+use Rattle.uses.specs.Uses.{usesAfter, strayAfter, UseCounts}
 use Rattle.uses.proofs.Right.{none-counted, joined-counted}
 use Rattle.allocator.specs.Slots.{Pair, pair, pairs, pairNo, withPair, grownSlots, ran, setRun}
 use Rattle.allocator.proofs.Run.{run-length, after-length}
@@ -217,7 +217,7 @@ module _ (width : ℕ) (rel : PermutationRelation) (slots queries equations uses
         inEquations = o .inEquations;
         counts =
             subst
-            (λ (l : List ℕ). Counted (length grown) (flat (asked ++ ((input ++ l) ∷ []))) (usesAfter false uses cells) (strayAfter false (length slots) (rel .stray) cells))
+            (λ (l : List ℕ). UseCounts (length grown) (flat (asked ++ ((input ++ l) ∷ []))) (usesAfter false uses cells) (strayAfter false (length slots) (rel .stray) cells))
             (ap₂ upFrom (o .count) (o .widthIs))
             (rw (grown-length (rel .vars) (rel .width) slots (y .slotRoom))
             (joined-counted (length slots) asked cells uses (rel .stray) (o .counts)));

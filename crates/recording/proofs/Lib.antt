@@ -6,3 +6,4 @@ pub mod Stores
 pub mod Keeps
 pub mod Left
 pub mod Lengths
+pub mod Examples

@@ -8,7 +8,7 @@ use lib.ListN.{length}
 use Rattle.limits.specs.Questions.{_▸_, Question, firstNo, onYes}
 use Rattle.limits.proofs.Questions.{goes-on, stays, zero-▸, firstNo-append, onYes-yes}
 use Rattle.uses.specs.Uses.{usesAsks, usesAfter, strayAfter, CountsCells}
-use Rattle.uses.specs.declared.Tally.{Tally}
+use Rattle.uses.specs.declared.Recount.{Recount}
 use Rattle.allocator.specs.Slots.{roomAsks}
 use Rattle.permutation.specs.Sharing.{alone}
 use Rattle.permutation.specs.declared.PermutationRelation.{PermutationRelation}
@@ -77,12 +77,12 @@ module _ (rel : PermutationRelation) (slots len : ℕ) (uses input : List ℕ) (
 
 -- ---- what the counts leave, by the call's number
 -- the same outputs, in other words
-pub same-output : (len : ℕ) (uses : List ℕ) (stray : ℕ) (input a b : List ℕ) (rest : ℕ) (r : Tally) (left : List ℕ) → a ≡ b
+pub same-output : (len : ℕ) (uses : List ℕ) (stray : ℕ) (input a b : List ℕ) (rest : ℕ) (r : Recount) (left : List ℕ) → a ≡ b
     → CountsCells false len uses stray (input ++ a) rest r left → CountsCells false len uses stray (input ++ b) rest r left
 same-output len uses stray input a b rest r left e t =
     subst (λ (l : List ℕ). CountsCells false len uses stray (input ++ l) rest r left) e t
 
-module _ (len : ℕ) (uses : List ℕ) (stray : ℕ) (cells : List ℕ) (rest : ℕ) (r : Tally) (left : List ℕ)
+module _ (len : ℕ) (uses : List ℕ) (stray : ℕ) (cells : List ℕ) (rest : ℕ) (r : Recount) (left : List ℕ)
     (t : CountsCells false len uses stray cells rest r left) where
   pub uses-left : (k : ℕ) → r .number ≡ k → left ≡ onYes k (usesAfter false uses cells) uses
   uses-left k e = t .uses-are ∙ ap (λ (n : ℕ). onYes n (usesAfter false uses cells) uses) e

@@ -9,7 +9,7 @@ use lib.ListN.{length}
 use Rattle.limits.specs.Numbers.{maxCount, maxWidth}
 use Rattle.words.specs.Store.{allBelow, All, Begins}
 use Rattle.words.specs.Pieces.{flat}
-use Rattle.uses.specs.Uses.{Counted}
+use Rattle.uses.specs.Uses.{UseCounts}
 use Rattle.allocator.specs.Slots.{Pair}
 use Rattle.expr.specs.Equation.{Equation, equationsWords, equationsHeld}
 use Rattle.permutation.specs.declared.PermutationRelation.{PermutationRelation}
@@ -42,4 +42,4 @@ pub record Holds (width : ℕ) (rel : PermutationRelation) (slots queries equati
   pub inQueries : HoldsQueries width (rel .queries) queries asked
   pub inEquations : HoldsEquations (rel .equations) (rel .words) equations stated
   -- each use count is that of the queries' cells, and so is the stray count
-  pub counts : Counted (length slots) (flat asked) uses (rel .stray)
+  pub counts : UseCounts (length slots) (flat asked) uses (rel .stray)

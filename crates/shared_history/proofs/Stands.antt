@@ -11,7 +11,7 @@ use lib.ListN.{length, getD, set}
 use Rattle.limits.specs.Numbers.{maxWidth}
 use Rattle.words.specs.Store.{All}
 use Rattle.words.specs.Pieces.{flat}
-use Rattle.uses.specs.Uses.{Counted as Right}
+use Rattle.uses.specs.Uses.{UseCounts}
 use Rattle.permutation.specs.State.{HoldsSlots}
 use Rattle.recording.specs.State.{HoldsQueries, HoldsEquations}
 use Rattle.sharing.specs.Shares.{maxRelations}
@@ -27,7 +27,7 @@ pub record Own (slots : ℕ) (m : OwnState) (e : OwnLedger) : Type 0 where
   pub widthIs : m .relation .width ≡ e .width
   pub inQueries : HoldsQueries (e .width) (m .relation .queries) (m .queries) (e .queries)
   pub inEquations : HoldsEquations (m .relation .equations) (m .relation .words) (m .equations) (e .equations)
-  pub usesAre : Right slots (flat (e .queries)) (m .uses) (m .relation .stray)
+  pub usesAre : UseCounts slots (flat (e .queries)) (m .uses) (m .relation .stray)
   pub quotaIs : m .relation .quota ≡ e .quota
   pub obtainedIs : m .relation .obtained ≡ e .obtained
   pub within : m .relation .obtained ≤ m .relation .quota

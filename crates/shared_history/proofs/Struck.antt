@@ -1,7 +1,7 @@
 -- Withdrawals and use counts of relations on one allocator, through the theorem: an opening clears its own use store only;
 -- another's allocate moves the range that 13 looks at and touches no count; and a withdrawal strikes from its own
 -- relation's ledger alone. Assumes nothing.
-use Prim.Native.Nat.{ℕ}
+use Prim.Native.Nat.{ℕ, _<_}
 use mathlib.Core.Path.{_≡_, refl}
 use mathlib.Core.List.{List, [], _∷_, _++_, map}
 use native.Mathlib.Omega.{arith}
@@ -82,6 +82,45 @@ unfolding ask _▸_ withAllocatorNo frontAsks frontNo allocateVarsNo addPermutat
 own-cleared =
     let w = shared-whole 77 slots 1 0 queries [] uses recorded (first-accepted recorded) in
     (w .used 0 (omega (arith, opened .0)) handed .counts .uses-are, w .used 1 (omega (arith, opened .0)) handed .counts .uses-are)
+
+-- relation 0 names wire 9, which is beyond the slots; relation 1 has a query of its own, and relation 0 withdraws its
+abbrev strayed : List SharedCall
+strayed = On 0 handed (Record (0 ∷ []) (9 ∷ [])) ∷ Open 1 3 queries [] uses ∷ On 1 handed (Record (0 ∷ []) (0 ∷ [])) ∷ []
+
+abbrev withdrawn : List SharedCall
+withdrawn = strayed ++ (On 0 handed (WithdrawQuery 0) ∷ [])
+
+both-opened : (sharedLast 77 slots 1 0 queries [] uses strayed .allocator .opened ≡ 2)
+    × (sharedLast 77 slots 1 0 queries [] uses withdrawn .allocator .opened ≡ 2)
+unfolding ask _▸_ withAllocatorNo frontAsks frontNo allocateVarsNo addPermutationNo withdrawQueryNo times strays usesOf allFit usesAfter allBelow answer after noted sharedAnswer sharedAfter sharedNoted
+both-opened = (refl, refl)
+
+-- one stray cell in relation 0's record and none in relation 1's; none in either with the query withdrawn
+pub stray : (ownAt (sharedLast 77 slots 1 0 queries [] uses strayed) 0 handed .relation .stray ≡ 1)
+    × (ownAt (sharedLast 77 slots 1 0 queries [] uses strayed) 1 handed .relation .stray ≡ 0)
+    × (ownAt (sharedLast 77 slots 1 0 queries [] uses withdrawn) 0 handed .relation .stray ≡ 0)
+unfolding ask _▸_ withAllocatorNo frontAsks frontNo allocateVarsNo addPermutationNo withdrawQueryNo times strays usesOf allFit usesAfter allBelow answer after noted sharedAnswer sharedAfter sharedNoted
+stray =
+    let v = shared-whole 77 slots 1 0 queries [] uses strayed (first-accepted strayed) in
+    let w = shared-whole 77 slots 1 0 queries [] uses withdrawn (first-accepted withdrawn) in (
+      v .used 0 (omega (arith, both-opened .0)) handed .counts .stray-is,
+      v .used 1 (omega (arith, both-opened .0)) handed .counts .stray-is,
+      w .used 0 (omega (arith, both-opened .1)) handed .counts .stray-is,
+    )
+
+-- relation 1's counts and its part of the ledger stay
+pub other-counted : ownAt (sharedLast 77 slots 1 0 queries [] uses withdrawn) 1 handed .uses ≡ 2 ∷ 0 ∷ 0 ∷ 0 ∷ []
+unfolding ask _▸_ withAllocatorNo frontAsks frontNo allocateVarsNo addPermutationNo withdrawQueryNo times strays usesOf allFit usesAfter allBelow answer after noted sharedAnswer sharedAfter sharedNoted
+other-counted = shared-whole 77 slots 1 0 queries [] uses withdrawn (first-accepted withdrawn) .used 1 (omega (arith, both-opened .1)) handed .counts .uses-are
+
+pub other-kept : ownLedgerAt (sharedLedger 77 slots 1 0 queries [] uses withdrawn) 1 .queries ≡ (0 ∷ 0 ∷ []) ∷ []
+unfolding ask _▸_ withAllocatorNo frontAsks frontNo allocateVarsNo addPermutationNo withdrawQueryNo times strays usesOf allFit usesAfter allBelow answer after noted sharedAnswer sharedAfter sharedNoted
+other-kept = refl
+
+-- 11 of a count only where the query store has no room: it has four words, and a first query takes two
+pub roomy : sharedAnswer (sharedBegin 77 slots 1 0 queries [] uses strayed) (On 0 handed (Record (0 ∷ []) (9 ∷ []))) .outcome ≡ Refused 11 → 4 < 2
+unfolding ask _▸_ withAllocatorNo frontAsks frontNo allocateVarsNo addPermutationNo withdrawQueryNo times strays usesOf allFit usesAfter allBelow answer after noted sharedAnswer sharedAfter sharedNoted
+roomy e = shared-whole 77 slots 1 0 queries [] uses strayed (first-accepted strayed) .told .0 .full e refl (omega arith)
 
 -- ---- the gate of relation 0: 13 at a wire that nobody allocated, then yes by another's allocate, and yes without a query
 abbrev gate-0 : List SharedCall → Outcome

@@ -72,6 +72,7 @@ abbrev pub taken : ℕ → Call → Answer → ℕ
 taken w c a = onAccepted a (wiresOf w c) 0
 
 -- ---- questions in order; a call answers the first that says no
+-- of an opening and of a relation's call, on the state that it gets
 unfoldable pub sharedAsks : SharedState → SharedCall → List Question
 sharedAsks p (Open width quota queries equations uses) = withAllocatorAsks (p .allocator) width (length (p .slots)) (length uses)
 sharedAsks p (On r handed c) = let m = ownAt p r handed in asksWith (sharesOf p r m) (seen p m) c

@@ -19,8 +19,8 @@ abbrev pub allocatorBy : SharedLedger → VarAllocator
 allocatorBy l = record { vars = l .count; opened = length (l .owns) }
 
 -- the number that a call answers, by ledger and lengths; 0 is yes. Of an opening 1, 42, and 2 and 10 of its use store are
--- left; of a relation's call
--- what is left to a relation alone, and 43; of a call on a number that isn't opened all up to its 42
+-- left; of a relation's call what is left to a relation alone, and 43; of a call on a number that isn't opened all up to its
+-- 42
 unfoldable pub sharedLeft : Lengths → SharedLedger → SharedCall → ℕ
 sharedLeft lengths l (Open width quota queries equations uses) =
     firstNo (widthAsks width

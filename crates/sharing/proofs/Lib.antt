@@ -1,3 +1,4 @@
 pub mod Numbers
 pub mod Answered
 pub mod First
+pub mod Examples

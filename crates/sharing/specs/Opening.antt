@@ -55,6 +55,6 @@ abbrev pub withAllocatorSlots : VarAllocator → ℕ → (slots uses : List ℕ)
 withAllocatorSlots a width slots uses =
     onYes (withAllocatorNo a width (length slots) (length uses)) (pick (anyOpened a) slots (freshSlots slots)) slots
 
--- the use store afterwards: the relation's own, which nobody else has counted in
+-- the use store afterwards, which is the relation's own: all 0 where the opening is accepted
 abbrev pub withAllocatorUses : VarAllocator → ℕ → (slots uses : List ℕ) → List ℕ
 withAllocatorUses a width slots uses = onYes (withAllocatorNo a width (length slots) (length uses)) (freshUses uses) uses

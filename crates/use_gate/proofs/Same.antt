@@ -14,7 +14,7 @@ use Rattle.limits.proofs.Questions.{ask-no, ask-yes, stays, goes-on}
 use Rattle.limits.proofs.Below.{below-cons}
 use Rattle.words.specs.Store.{allBelow}
 use Rattle.words.specs.Pieces.{flat}
-use Rattle.uses.specs.Uses.{times, strays, usesFrom, usesOf, Counted}
+use Rattle.uses.specs.Uses.{times, strays, usesFrom, usesOf, UseCounts}
 use Rattle.uses.proofs.Counts.{uses-at, uses-length, from-drop}
 use Rattle.instance.specs.Parts.{Parts, pairVars, has}
 use Rattle.validated.specs.Validated.{boundBy, termwiseAsks, validatedAsks, validatedAsksBy, gateAsks, gateAsksBy}
@@ -150,7 +150,7 @@ thirteen false x y f = refused x ∙ sym (refused y)
     refused rest = ap (λ (n : ℕ). n ▸ rest) (ask-no 13 false refl) ∙ stays 13 rest (λ z. omega arith)
 
 module _ (parts : Parts) (slots uses : List ℕ) (stray : ℕ) where
-  module _ (len : ℕ) (h : parts .vars ≤ len) (c : Counted len (flat (parts .queries)) uses stray)
+  module _ (len : ℕ) (h : parts .vars ≤ len) (c : UseCounts len (flat (parts .queries)) uses stray)
       (publics : (x : ℕ) → has (pairVars (parts .publics)) x ≡ not (eqb (getD slots x unassigned) unassigned)) where
     pub same-validated : firstNo (validatedAsksBy (usesBelow (parts .vars) uses stray) (boundBy slots uses) parts) ≡ firstNo (validatedAsks parts)
     same-validated =

@@ -10,7 +10,7 @@ use Rattle.words.specs.Store.{allBelow}
 use Rattle.expr.specs.Equation.{Equation}
 use Rattle.validated.specs.Validated.{boundBy, termwiseAsks}
 
--- 13: no stray cell, and no count above 0 from the wire count to the slots' end
+-- 13: no stray cell, and no count above 0 from the wire count to the store's end, which 10 asks to be that of the slots
 abbrev pub usesBelow : (vars : ℕ) → (uses : List ℕ) → (stray : ℕ) → Bool
 usesBelow vars uses stray = eqb stray 0 && allBelow 1 (drop vars uses)
 

@@ -57,6 +57,11 @@ pub record Examples : Type 0 where
   pub stray-counts : usesAfter true (one-used 1) beyond ≡ one-used 0
   pub stray-low : struck (one-used 1) 0 beyond ≡ 11
   pub stray-full : joined (one-used 1) 1073741824 beyond ≡ 11
+  -- and up to 2^30 as any other: joined up to it, struck down to it, but not where it stays above
+  pub stray-last : joined (one-used 1) 1073741823 beyond ≡ 0
+  pub stray-joins : strayAfter false 3 1 beyond ≡ 2
+  pub stray-down : struck (one-used 1) 1073741825 beyond ≡ 0
+  pub stray-above : struck (one-used 1) 1073741826 beyond ≡ 11
 
 pub examples : Examples
 unfolding ask _▸_ times strays usesOf usesAfter allFit
@@ -84,4 +89,8 @@ examples =
       stray-counts = refl;
       stray-low = refl;
       stray-full = refl;
+      stray-last = refl;
+      stray-joins = refl;
+      stray-down = refl;
+      stray-above = refl;
     }

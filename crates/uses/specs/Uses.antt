@@ -8,7 +8,7 @@ use lib.Dec.{eqb, ltb, leb}
 use lib.ListN.{length, getD, set}
 use Rattle.limits.specs.Numbers.{maxCount}
 use Rattle.limits.specs.Questions.{pick, _▸_, Question, question, firstNo, onYes}
-use Rattle.uses.specs.declared.Tally.{Tally}
+use Rattle.uses.specs.declared.Recount.{Recount}
 
 -- ---- worked out afresh
 -- how many of the cells name a wire
@@ -31,7 +31,7 @@ unfoldable pub usesOf : ℕ → List ℕ → List ℕ
 usesOf len cells = usesFrom 0 len cells
 
 -- use store and stray count are right for these cells
-pub record Counted (len : ℕ) (cells uses : List ℕ) (stray : ℕ) : Type 0 where
+pub record UseCounts (len : ℕ) (cells uses : List ℕ) (stray : ℕ) : Type 0 where
   pub uses-are : uses ≡ usesOf len cells
   pub stray-is : stray ≡ strays len cells
 
@@ -87,7 +87,7 @@ usesAsks strike len uses stray cells = question 11 (usesFit strike len uses stra
 
 -- what `count_cells` ensures: the first no of 11, 10 and what is asked after them; at 0 the counts with the cells struck
 -- or joined, else as they were
-pub record CountsCells (strike : Bool) (len : ℕ) (uses : List ℕ) (stray : ℕ) (cells : List ℕ) (rest : ℕ) (r : Tally) (left : List ℕ) : Type 0 where
+pub record CountsCells (strike : Bool) (len : ℕ) (uses : List ℕ) (stray : ℕ) (cells : List ℕ) (rest : ℕ) (r : Recount) (left : List ℕ) : Type 0 where
   pub number : r .number ≡ firstNo (usesAsks strike len uses stray cells) ▸ rest
   pub stray-is : r .stray ≡ onYes (r .number) (strayAfter strike len stray cells) stray
   pub uses-are : left ≡ onYes (r .number) (usesAfter strike uses cells) uses

@@ -17,7 +17,7 @@ use limits::MAX_COUNT;
 use limits::UNASSIGNED;
 
 // A query's cells struck from the counts or joined to them: the number, and the stray count afterwards.
-pub struct Tally {
+pub struct Recount {
     pub number: u32,
     pub stray: u32,
 }
@@ -230,7 +230,7 @@ pub fn count_cells(
     a: &[u32],
     b: &[u32],
     rest: u32,
-) -> Tally
+) -> Recount
     ensures { λ r. ⌜ CountsCells strike len (now (uses .entry)) stray (now (a .entry) ++ now (b .entry)) rest r (now (uses .exit)) ⌝ }
 {
     let end = lesser(len, uses.len());
@@ -238,7 +238,7 @@ pub fn count_cells(
     let n = first.n;
     if n < a.len() {
         take_back(strike, end, uses, &a[..n]);
-        return Tally {
+        return Recount {
             number: 11,
             stray: stray,
         };
@@ -248,7 +248,7 @@ pub fn count_cells(
     if m < b.len() {
         take_back(strike, end, uses, &b[..m]);
         take_back(strike, end, uses, a);
-        return Tally {
+        return Recount {
             number: 11,
             stray: stray,
         };
@@ -259,13 +259,13 @@ pub fn count_cells(
     let no = limits::asked(no, uses.len() == len, 10);
     if (no == 0) & (rest == 0) {
         let after = stray_after(strike, stray, by);
-        return Tally {
+        return Recount {
             number: 0,
             stray: after,
         };
     }
     take_both_back(strike, end, uses, a, b);
-    Tally {
+    Recount {
         number: if no != 0 { no } else { rest },
         stray: stray,
     }

@@ -23,6 +23,11 @@ ones stray uses i = withdrawQueryNo (one stray) 3 (1 ∷ 1 ∷ []) uses i
 pub record QueryNumbers : Type 0 where
   pub accepted : ones 0 (0 ∷ 2 ∷ 0 ∷ []) 0 ≡ 0
   pub no-such : ones 0 (0 ∷ 2 ∷ 0 ∷ []) 1 ≡ 45
+  -- 1 and 2 before 45, and 45 before 11 and 10: past the query lie cells on wire 2, which has no count
+  pub width-first : withdrawQueryNo (relation 0 4 1 0 0 0) 3 (1 ∷ 1 ∷ []) [] 1 ≡ 1
+  pub wires-first : withdrawQueryNo (relation 1 4 1 0 0 0) 3 (1 ∷ 1 ∷ []) [] 1 ≡ 2
+  pub no-such-first : withdrawQueryNo (one 0) 3 (1 ∷ 1 ∷ 2 ∷ 2 ∷ []) (0 ∷ 2 ∷ 0 ∷ []) 1 ≡ 45
+  pub no-such-short : withdrawQueryNo (one 0) 3 (1 ∷ 1 ∷ 2 ∷ 2 ∷ []) [] 1 ≡ 45
   -- a use store of the wrong length: 10, but 11 first where a count that it has would fall below 0
   pub short : ones 0 (0 ∷ 2 ∷ []) 0 ≡ 10
   pub short-and-low : ones 0 (0 ∷ 1 ∷ []) 0 ≡ 11
@@ -42,6 +47,10 @@ unfolding ask _▸_ withdrawQueryNo allFit times strays
 query-numbers = record {
   accepted = refl;
   no-such = refl;
+  width-first = refl;
+  wires-first = refl;
+  no-such-first = refl;
+  no-such-short = refl;
   short = refl;
   short-and-low = refl;
   short-of-it = refl;
@@ -98,6 +107,9 @@ pub record EquationCases : Type 0 where
   pub second-answer : withdrawEquation (stated 2 6) words 1 ≡ recordedOf 0 (stated 1 4) (stated 2 6)
   pub second-words : withdrawEquationEquations (stated 2 6) words 1 ≡ 1 ∷ 1 ∷ 1 ∷ 4 ∷ 0 ∷ 0 ∷ 9 ∷ []
   pub no-such : withdrawEquationNo (stated 2 6) words 2 ≡ 45
+  -- 2 before 45, and 45 before 11
+  pub words-first : withdrawEquationNo (stated 2 8) words 2 ≡ 2
+  pub no-such-first : withdrawEquationNo (stated 1 6) words 1 ≡ 45
   -- the equations end before the used words, past them, or within one
   pub ends-early : withdrawEquationNo (stated 1 6) words 0 ≡ 11
   pub ends-late : withdrawEquationNo (stated 2 4) words 1 ≡ 11
@@ -112,6 +124,8 @@ equation-cases = record {
   second-answer = refl;
   second-words = refl;
   no-such = refl;
+  words-first = refl;
+  no-such-first = refl;
   ends-early = refl;
   ends-late = refl;
   ends-within = refl;

@@ -10,7 +10,7 @@ use Rattle.limits.specs.Questions.{ask, _▸_, question, firstNo, onYes}
 use Rattle.limits.specs.Asks.{storeAsks}
 use Rattle.limits.proofs.Questions.{goes-on, stays, ▸-assoc, ▸-zero, firstNo-append, onYes-yes}
 use Rattle.uses.specs.Uses.{usesAsks, usesAfter, strayAfter, CountsCells}
-use Rattle.uses.specs.declared.Tally.{Tally}
+use Rattle.uses.specs.declared.Recount.{Recount}
 use Rattle.permutation.specs.Relation.{relationAsks, queriesAsks}
 use Rattle.permutation.specs.declared.PermutationRelation.{PermutationRelation}
 use Rattle.withdraw.specs.Relation.{cellsAt, withdrawQueryNo}
@@ -38,12 +38,12 @@ module _ (rel : PermutationRelation) (slots : ℕ) (queries uses : List ℕ) (i 
 
 -- ---- what the counts leave, by the call's number
 -- the cells, lent as one list and an empty one
-pub same-cells : (len : ℕ) (uses : List ℕ) (stray : ℕ) (a b : List ℕ) (rest : ℕ) (r : Tally) (left : List ℕ) → a ≡ b
+pub same-cells : (len : ℕ) (uses : List ℕ) (stray : ℕ) (a b : List ℕ) (rest : ℕ) (r : Recount) (left : List ℕ) → a ≡ b
     → CountsCells true len uses stray (a ++ []) rest r left → CountsCells true len uses stray b rest r left
 same-cells len uses stray a b rest r left e t =
     subst (λ (l : List ℕ). CountsCells true len uses stray l rest r left) (append-nil a ∙ e) t
 
-module _ (len : ℕ) (uses : List ℕ) (stray : ℕ) (cells : List ℕ) (rest : ℕ) (r : Tally) (left : List ℕ)
+module _ (len : ℕ) (uses : List ℕ) (stray : ℕ) (cells : List ℕ) (rest : ℕ) (r : Recount) (left : List ℕ)
     (t : CountsCells true len uses stray cells rest r left) where
   pub uses-left : (k : ℕ) → r .number ≡ k → left ≡ onYes k (usesAfter true uses cells) uses
   uses-left k e = t .uses-are ∙ ap (λ (n : ℕ). onYes n (usesAfter true uses cells) uses) e

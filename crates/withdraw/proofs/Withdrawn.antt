@@ -12,7 +12,7 @@ use Rattle.words.proofs.Held.{flat-length}
 use Rattle.expr.specs.Equation.{Equation, equation, equationWords, equationsWords, equationsEnd, sizeAt}
 use Rattle.expr.proofs.Held.{end-words, size-words}
 use Rattle.recording.specs.State.{HoldsQueries, HoldsEquations}
-use Rattle.uses.specs.Uses.{usesAfter, strayAfter, usesFit, Counted}
+use Rattle.uses.specs.Uses.{usesAfter, strayAfter, usesFit, UseCounts}
 use Rattle.uses.proofs.Right.{struck-counted, struck-fits}
 use Rattle.strike.specs.Strike.{without, struckWords}
 use Rattle.strike.proofs.Lists.{without-length, without-all, all-take, all-at, take-count, flat-split, flat-without, equations-split, equations-without, held-without, below-without, struck-parts}
@@ -82,12 +82,12 @@ module _ (width count : ℕ) (store : List ℕ) (asked : List (List ℕ)) (o : H
   }
 
   -- the counts, and 11, which never says no here
-  pub counts-withdrawn : (len : ℕ) (uses : List ℕ) (stray : ℕ) → Counted len (flat asked) uses stray
-      → Counted len (flat (without i asked)) (usesAfter true uses q) (strayAfter true len stray q)
+  pub counts-withdrawn : (len : ℕ) (uses : List ℕ) (stray : ℕ) → UseCounts len (flat asked) uses stray
+      → UseCounts len (flat (without i asked)) (usesAfter true uses q) (strayAfter true len stray q)
   counts-withdrawn len uses stray c =
       rw (flat-without i asked inside) (struck-counted len a q b uses stray (rw (flat-split i asked inside) at c))
 
-  pub counts-fit : (len : ℕ) (uses : List ℕ) (stray : ℕ) → Counted len (flat asked) uses stray → length store ≤ maxCount → usesFit true len uses stray q ≡ true
+  pub counts-fit : (len : ℕ) (uses : List ℕ) (stray : ℕ) → UseCounts len (flat asked) uses stray → length store ≤ maxCount → usesFit true len uses stray q ≡ true
   counts-fit len uses stray c m =
       let l = ap length store-is ∙ length-append (a ++ (q ++ b)) (o .begins .rest) in
       struck-fits len a q b uses stray (omega arith) (rw (flat-split i asked inside) at c)
