@@ -4,7 +4,10 @@ use std::str::from_utf8;
 
 use source::Parts;
 
-use crate::held::{self, Held, Room};
+use crate::{
+    calls::{Call, State},
+    held::{self, Held, Room},
+};
 
 /// SFRI of width 1 without a label whose words after that are these.
 fn file(words: &[u32]) -> Vec<u8> {
@@ -72,10 +75,11 @@ fn panics() {
 fn a_ninth_relation_and_a_wire_beyond_the_quota() {
     let source = source::Allocator::default();
     let (mut allocator, mut slots) = (reading::VarAllocator::default(), [0; 4]);
+    let uses = &mut [0; 4];
     for index in 0..9 {
         let relation = source::with_allocator(1, &source);
         assert_eq!(relation.allocate_vars(1), Some(vec![index + 1]));
-        let opened = reading::with_allocator(allocator, 1, 0, &mut slots, &mut [0; 4]);
+        let opened = reading::with_allocator(allocator, 1, 0, &mut slots, uses);
         assert_eq!(opened.number, if index < 8 { 0 } else { 42 });
         allocator = opened.allocator;
         if opened.number == 0 {
@@ -84,6 +88,29 @@ fn a_ninth_relation_and_a_wire_beyond_the_quota() {
             assert_eq!(answer.number, 43);
         }
     }
+}
+
+/// The sources withdraw nothing, so that a relation of what remains is built afresh there, and keep
+/// no counts: their gate goes over the queries. 02: 13 and 15 by the use counts and the stray
+/// count. They agree where these are right, as every list of calls leaves them.
+#[test]
+fn counts_that_no_list_of_calls_leaves() {
+    let gate = |state: &State| held::gate(state, "", Room::AMPLE).0;
+    let mut state = State::sized(1, 0, 0);
+    assert_eq!((state.new_relation(1), gate(&state)), (0, 0));
+    state.rel.stray = 1;
+    assert!(source::relation(1, "").compile().is_ok());
+    assert_eq!(gate(&state), 13);
+
+    // A wire that isn't allocated stands in a query, and no count says so.
+    let mut state = State::sized(1, 2, 0);
+    state.new_relation(1);
+    assert_eq!(state.run(&Call::Record(vec![0], vec![1])).number, 0);
+    let relation = source::relation(1, "");
+    relation.add_permutation(&[0], &[1]);
+    assert_eq!((gate(&state), relation.compile().is_err()), (13, true));
+    (state.uses, state.rel.stray) = (vec![0], 0);
+    assert_eq!(gate(&state), 0);
 }
 
 /// The sources refuse a label with the standard library's error, whose place is where the

@@ -62,8 +62,12 @@ pub fn list(seed: u64, side: &mut impl Side) -> Compared {
     for _ in 0..plant.rng.between(1, 150) {
         plant.step(side)?;
     }
-    let last = plant.rng.below(plant.mixers.len());
-    plant.judge(last, side)
+    if plant.mood == Mood::Honest {
+        // An accepted gate is followed by much else: one will do.
+        let last = plant.rng.below(plant.mixers.len());
+        return plant.judge(last, side);
+    }
+    (0..plant.mixers.len()).try_for_each(|index| plant.close(index, side))
 }
 
 impl Plant {
@@ -92,8 +96,7 @@ impl Plant {
             _ if opened == 0 => self.open(side),
             0..=2 => self.open(side),
             3 => self.unopened(side),
-            // An honest list's gate is followed by much else.
-            4 | 5 if self.mood != Mood::Honest || self.rng.once_in(3) => {
+            4 => {
                 let index = self.rng.below(opened);
                 self.judge(index, side)
             }
@@ -219,13 +222,30 @@ impl Plant {
         self.compare()
     }
 
-    /// A call of an opened relation; its gate follows an accepted withdrawal, in an honest list every third.
+    /// A call of an opened relation; its gate follows an accepted withdrawal, in an honest list
+    /// one in three.
     fn call(&mut self, index: usize, side: &mut impl Side) -> Compared {
+        let struck = self.call_of(index, side, |side, generator, state| {
+            side.astray(generator, state)?;
+            Ok(generator.call(state))
+        })?;
+        if struck && (self.mood != Mood::Honest || self.rng.once_in(3)) {
+            return self.judge(index, side);
+        }
+        Ok(())
+    }
+
+    /// A call of an opened relation, chosen so; whether it withdrew anything.
+    fn call_of<S: Side>(
+        &mut self,
+        index: usize,
+        side: &mut S,
+        choose: impl FnOnce(&mut S, &mut Generator, &State) -> Outcome<Call>,
+    ) -> Outcome<bool> {
         let spelling = self.rng.below(3);
         let mut struck = false;
         self.lend_to(index, |state, generator, relation| {
-            side.astray(generator, state)?;
-            let call = generator.call(state);
+            let call = choose(side, generator, state)?;
             side.log().say(|| format!("{call:?} of {index}"));
             let answer = side.call(state, &call)?;
             calls::compare(&call, &answer, generator.width, relation, false, spelling)?;
@@ -233,10 +253,22 @@ impl Plant {
             struck = call.is_withdrawal() && answer.number == 0;
             Ok(())
         })?;
-        if struck && (self.mood != Mood::Honest || self.rng.once_in(3)) {
-            return self.judge(index, side);
-        }
-        Ok(())
+        Ok(struck)
+    }
+
+    /// The end of a list that isn't honest: an equation of the relation withdrawn, or a query where
+    /// it has none, and its gate.
+    fn close(&mut self, index: usize, side: &mut impl Side) -> Compared {
+        self.call_of(index, side, |_, generator, state| {
+            let Record {
+                queries, equations, ..
+            } = state.rel;
+            Ok(match equations {
+                0 => Call::WithdrawQuery(generator.index(queries)),
+                _ => Call::WithdrawEquation(generator.index(equations)),
+            })
+        })?;
+        self.judge(index, side)
     }
 
     /// The gate of an opened relation, and what follows it.

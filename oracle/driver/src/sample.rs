@@ -146,6 +146,7 @@ pub fn run(options: &Options) -> bool {
         sample.random_tickets(&mut tickets);
     }
     sample.fixed_gates();
+    sample.fixed_public_values();
     for _ in 0..options.count.unwrap_or(INSTANCES) {
         sample.random_instance(&mut rng, &mut writes, &mut more);
         sample.random_heading(&mut more);

@@ -196,9 +196,7 @@ fn gate_on(on: On, lent: Lent, publics: &mut [u32], scratch: &mut [u32]) -> Comp
     let given = (library.number, ends(publics), ends(scratch));
     dirty(publics);
     dirty(scratch);
-    let reading = reading::compile(
-        on, label, slots, queries, equations, uses, publics, scratch,
-    );
+    let reading = reading::compile(on, label, slots, queries, equations, uses, publics, scratch);
     let expected = (reading.number, ends(publics), ends(scratch));
     same("large, gate", ("library", given), ("reading", expected))
 }

@@ -124,7 +124,9 @@ impl plant::Side for Run<'_> {
         if !generator.rng.once_in(4) {
             return Ok(());
         }
-        self.opening_astray(&mut generator.rng, state)?;
+        if generator.rng.once_in(3) {
+            self.opening_astray(&mut generator.rng, state)?;
+        }
         Pair::new(state.clone()).astray(generator, self.seen, self.log)
     }
 }

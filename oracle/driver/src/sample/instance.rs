@@ -3,7 +3,7 @@
 //! the second reading says of it.
 
 use reading::{Instance, Share, MAX_COUNT};
-use source::Params;
+use source::{Params, Parts};
 
 use super::{
     case::{
@@ -89,6 +89,20 @@ impl Sample {
                 (state.uses, state.rel.stray) = (uses.to_vec(), stray);
                 self.gate(&state, b"", 2, 3);
             }
+        }
+    }
+
+    /// Values in two publics, by records that fit them and that don't.
+    pub fn fixed_public_values(&mut self) {
+        let parts = Parts {
+            vars_count: 2,
+            publics: vec![0, 4, 1, 3],
+            ..Parts::default()
+        };
+        for (width, publics) in [(1, 2), (1, 1), (0, 2), (25, 9), (1, 3), (1, u32::MAX)] {
+            let mut held = Held::from_parts(1, &parts);
+            (held.ins.width, held.ins.publics) = (width, publics);
+            self.public_value(&held, 1);
         }
     }
 

@@ -630,7 +630,7 @@ pub fn fault(rng: &mut Rng, state: &mut State, call: &mut Call) {
     match rng.below(if cells.is_empty() { 14 } else { 18 }) {
         0 => state.rel.width = *rng.pick(&NO_WIDTHS),
         1 | 2 => count_astray(rng, state, call),
-        3 | 4 => shorter(rng, state, call),
+        3 | 4 | 17 => shorter(rng, state, call),
         14.. => astray::counts(rng, state, &cells),
         5..=7 => length_astray(rng, state, call),
         8..=10 => var_astray(rng, state.rel.vars_count, call),
