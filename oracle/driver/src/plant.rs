@@ -256,17 +256,17 @@ impl Plant {
         Ok(struck)
     }
 
-    /// The end of a list that isn't honest: an equation of the relation withdrawn, or a query where
-    /// it has none, and its gate.
+    /// The end of a list that isn't honest: an equation of the relation is withdrawn, then a query,
+    /// and its gate follows each.
     fn close(&mut self, index: usize, side: &mut impl Side) -> Compared {
         self.call_of(index, side, |_, generator, state| {
-            let Record {
-                queries, equations, ..
-            } = state.rel;
-            Ok(match equations {
-                0 => Call::WithdrawQuery(generator.index(queries)),
-                _ => Call::WithdrawEquation(generator.index(equations)),
-            })
+            let equation = generator.index(state.rel.equations);
+            Ok(Call::WithdrawEquation(equation))
+        })?;
+        self.judge(index, side)?;
+        self.call_of(index, side, |_, generator, state| {
+            let query = generator.index(state.rel.queries);
+            Ok(Call::WithdrawQuery(query))
         })?;
         self.judge(index, side)
     }
