@@ -164,14 +164,19 @@ compileNo l = firstNo (compileAsks l)
 
 -- the gate as document 01 has it: no use store is asked for, and 13 and 15 are by a walk over the queries. Where the
 -- counts are right for the held cells the two are one (`compile/proofs/Counts`)
-abbrev pub walkedAsks : GateLent → List Question
-walkedAsks l = inTurn (
-    relationAsks (l .relation) (length (l .slots))
+abbrev pub walkedAsksWith : Sharing → GateLent → List Question
+walkedAsksWith h l = inTurn (
+    relationAsksWith h (l .relation) (length (l .slots))
     ∷ lentStoresAsks l
+    ∷ h .opened
     ∷ lentSoundAsks l
     ∷ publicsRoom l
     ∷ gateAsks (lentParts l) (l .scratch)
     ∷ [])
+
+-- alone
+abbrev pub walkedAsks : GateLent → List Question
+walkedAsks = walkedAsksWith alone
 
 -- ---- its answer, and what it leaves
 -- a refused gate's answer

@@ -150,7 +150,7 @@ module _ (s : State) (l : Ledger) (i : Agrees (s .relation .width) s l)
         let h = c .publics-high in
         let qn = queries-length s l i in
         let qf = full (wordsOf w (rel .queries)) (s .queries) (flat (l .queries)) (queries-held w s l i) qn in
-        let en = i .inEquations .uses in
+        let en = i .inEquations .words in
         let ef = full (rel .words) (s .equations) (equationsWords (l .equations)) (equations-held-are w s l i) (sym en) in
         let two = two-each (l .equations) in
         record {
@@ -216,7 +216,7 @@ module _ (s : State) (l : Ledger) (i : Agrees (s .relation .width) s l)
             vars = rel .vars;
             queries = sym (i .inQueries .counts) j;
             equations = sym (i .inEquations .counts) j;
-            words = sym (i .inEquations .uses) j;
+            words = sym (i .inEquations .words) j;
             publics = length pairs;
           })
 
@@ -233,7 +233,7 @@ module _ (s : State) (l : Ledger) (i : Agrees (s .relation .width) s l)
             ∙ padded-held (wordsOf w (rel .queries)) (f .rooms .queries) (flat (l .queries)) (queries-length s l i);
         equations-words =
             ap (λ (g : Got File). heldEquations it (equationsAfter (f .rooms .equations) g)) got-file
-            ∙ padded-held (rel .words) (f .rooms .equations) (equationsWords (l .equations)) (sym (i .inEquations .uses));
+            ∙ padded-held (rel .words) (f .rooms .equations) (equationsWords (l .equations)) (sym (i .inEquations .words));
       }
 
       read-sized : Sized s l i publicsBack queriesBack equationsBack

@@ -82,7 +82,7 @@ module _ (w : ℕ) (s : State) (l : Ledger) (i : Agrees w s l) where
       (ap₂ (λ (k v : ℕ). wordsOf v k) (q .counts) (i .widthIs) ∙ sym (flat-length (w + w) (l .queries) (q .widths))) (q .begins)
 
   pub equations-held-are : take (rel .words) (s .equations) ≡ equationsWords (l .equations)
-  equations-held-are = begins-take (equationsWords (l .equations)) (s .equations) (rel .words) (i .inEquations .uses) (i .inEquations .begins)
+  equations-held-are = begins-take (equationsWords (l .equations)) (s .equations) (rel .words) (i .inEquations .words) (i .inEquations .begins)
 
   pub queries-are : pieces (rel .width + rel .width) (rel .queries) (take (wordsOf (rel .width) (rel .queries)) (s .queries)) ≡ l .queries
   queries-are =
@@ -175,7 +175,7 @@ module _ (w : ℕ) (s : State) (l : Ledger) (i : Agrees w s l) where
       let q = i .inEquations in
       let f = begins-fits (equationsWords (l .equations)) (s .equations) (q .begins) in
       let t = two-each (l .equations) in
-      let h : rel .words ≤ length (s .equations) = rw (q .uses) f in
+      let h : rel .words ≤ length (s .equations) = rw (q .words) f in
       let m : 2 * rel .equations ≤ length (s .equations) = rw (q .counts) (omega arith) in
       then _ _ _ (past-fits 2 _ _ _ h ∙ past-fits 2 _ _ _ m)
 

@@ -101,8 +101,8 @@ module _ (s : State) (l : Ledger) (i : Agrees (s .relation .width) s l) where
         ▸ (ask 2 (leb (rel .words) (length equations)) ▸ (ask 2 (leb (2 * rel .equations) (length equations)) ▸ k)))))) ≡ k
     sizes-yes z k =
         let e = i .inEquations in
-        let u : rel .words ≤ length equations = full (rel .words) equations (equationsWords (l .equations)) (h .equations-words) (sym (e .uses)) in
-        let m : 2 * rel .equations ≤ rel .words = rw (e .counts, e .uses) (two-each (l .equations)) in
+        let u : rel .words ≤ length equations = full (rel .words) equations (equationsWords (l .equations)) (h .equations-words) (sym (e .words)) in
+        let m : 2 * rel .equations ≤ rel .words = rw (e .counts, e .words) (two-each (l .equations)) in
         past-fits 2 _ _ _ (z .publics-size)
         ∙ past-fits 2 _ _ _ (z .queries-size)
         ∙ past-fits 2 _ _ _ (z .equations-size)

@@ -60,7 +60,7 @@ new-holds width slots queries equations uses z =
           count = refl;
           inSlots = fresh-holds slots (y .room) (y .store);
           inQueries = record { counts = refl; widths = tt; below = none-below; begins = record { rest = queries; is = refl }; sized = λ h. absurd (not-suc-le-zero h) };
-          inEquations = record { counts = refl; uses = refl; below = refl; begins = record { rest = equations; is = refl }; sized = λ h. absurd (not-suc-le-zero h) };
+          inEquations = record { counts = refl; words = refl; below = refl; begins = record { rest = equations; is = refl }; sized = λ h. absurd (not-suc-le-zero h) };
           counts = rw (length-set slots 0 0, y .same) (none-counted (length slots));
         }
     go (suc k) f z = absurd (omega arith)

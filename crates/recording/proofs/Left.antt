@@ -246,7 +246,7 @@ module _ (width : ℕ) (rel : PermutationRelation) (slots queries equations uses
       let e = o .inEquations in
       let f = begins-fits (equationsWords stated) equations (e .begins) in
       let t = two-each stated in
-      let u : rel .words ≤ length equations = omega (arith, e .uses) in
+      let u : rel .words ≤ length equations = omega (arith, e .words) in
       let m : 2 * rel .equations ≤ length equations = omega (arith, e .counts) in
       after-width _
       ∙ ap (λ (k : ℕ). ask 2 (leb (length equations) maxCount) ▸ k)
@@ -260,7 +260,7 @@ module _ (width : ℕ) (rel : PermutationRelation) (slots queries equations uses
       ∷ question 4 (ltb image prime)
       ∷ question 10 (leb (k + equationSize (length terms)) (length equations))
       ∷ [])))
-      (e .uses)
+      (e .words)
 
   -- ---- questions that write nothing
   value-asks : (x : ℕ) → valueOfNo rel (length slots) x ≡ ask 3 (ltb x maxCount)

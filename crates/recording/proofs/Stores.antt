@@ -59,10 +59,10 @@ module _ (count used : ℕ) (store : List ℕ) (es : List Equation) (ts : List T
       let size = length-equation e in
       let kept = put-length used (equationWords e) store (rw size h) in record {
         counts = ap (λ (k : ℕ). k + 1) (o .counts) ∙ sym (length-snoc es e);
-        uses =
+        words =
             rw (equationsWords-snoc es e, length-append (equationsWords es) (equationWords e), size)
-            (ap (λ (k : ℕ). k + equationSize (length ts)) (o .uses));
+            (ap (λ (k : ℕ). k + equationSize (length ts)) (o .words));
         below = equationsHeld-snoc es e (o .below) (rw (v, w, lt-ltb image prime i));
-        begins = rw (o .uses) (equations-put es e store (o .begins));
+        begins = rw (o .words) (equations-put es e store (o .begins));
         sized = λ s. rw kept m;
       }

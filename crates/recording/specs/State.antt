@@ -26,7 +26,7 @@ pub record HoldsQueries (width count : ℕ) (store : List ℕ) (queries : List (
 -- the store begins with the equations' words
 pub record HoldsEquations (count used : ℕ) (store : List ℕ) (equations : List Equation) : Type 0 where
   pub counts : count ≡ length equations
-  pub uses : used ≡ length (equationsWords equations)
+  pub words : used ≡ length (equationsWords equations)
   pub below : equationsHeld equations ≡ true
   pub begins : Begins (equationsWords equations) store
   pub sized : 1 ≤ count → length store ≤ maxCount

@@ -82,7 +82,7 @@ module _ (width : ℕ) (rel : PermutationRelation) (slots queries equations uses
       let e = o .inEquations in
       let f = begins-fits (equationsWords stated) equations (e .begins) in
       let t = two-each stated in
-      let w : rel .words ≤ length equations = omega (arith, e .uses) in
+      let w : rel .words ≤ length equations = omega (arith, e .words) in
       let m : 2 * rel .equations ≤ length equations = omega (arith, e .counts) in
       after-width width rel slots queries equations uses n sets asked stated o _
       ∙ ap (λ (k : ℕ). ask 2 (leb (length equations) maxCount) ▸ k)

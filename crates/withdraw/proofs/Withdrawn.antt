@@ -110,7 +110,7 @@ module _ (count used : ℕ) (store : List ℕ) (stated : List Equation) (o : Hol
   words-are = o .begins .is ∙ ap (λ (l : List ℕ). l ++ o .begins .rest) (equations-split i stated within)
 
   used-is : used ≡ length (before ++ (this ++ behind))
-  used-is = o .uses ∙ ap length (equations-split i stated within)
+  used-is = o .words ∙ ap length (equations-split i stated within)
 
   held-is : take used store ≡ before ++ (this ++ behind)
   held-is = ap₂ take used-is words-are ∙ take-append-seam (before ++ (this ++ behind)) (o .begins .rest)
@@ -145,7 +145,7 @@ module _ (count used : ℕ) (store : List ℕ) (stated : List Equation) (o : Hol
       (without i stated)
   equation-withdrawn = record {
     counts = ap (λ (n : ℕ). n - 1) (o .counts) ∙ sym (without-length i stated within);
-    uses =
+    words =
         let x = length-append before (this ++ behind) in
         let y = length-append this behind in
         let z = length-append before behind in
