@@ -39,8 +39,8 @@
  *       changes be from 0 to 2^30?
  *   12  Are public wires below the wire count?  13  Query wires?
  *   14  Is the term's wire below the count?  15  Is it bound (public or in a query), or its weight 0?
- *       (A relation's gate asks the counts: 13 whether the stray count and those of unallocated wires are 0, 15 whether
- *       the wire's is above 0.)
+ *       (A relation's gate asks the counts: 13 whether the stray count and those of unallocated wires are 0; for 15 a
+ *       wire is in a query where its count is above 0.)
  *   16  Has scratch a word per wire?
  *   17  Has the sheet R <= 128, exactly R(w+1)+w*w words, kinds 0 or 1, units below p?
  *   20  Do the bytes hold the field?

@@ -8,7 +8,7 @@ use lib.ListN.{length, take}
 use Rattle.limits.specs.Numbers.{maxCount}
 use Rattle.limits.specs.Questions.{_▸_, Question, firstNo, pick}
 use Rattle.limits.specs.Asks.{widthAsks, storeAsks}
-use Rattle.limits.proofs.Questions.{ask-yes, goes-on, both, firstNo-append, here, there, puts-yes}
+use Rattle.limits.proofs.Questions.{ask-yes, goes-on, firstNo-append, here, there, puts-yes}
 use Rattle.words.specs.Pieces.{wordsOf}
 use Rattle.uses.specs.Uses.{lengthAsks, UseCounts}
 use Rattle.uses.proofs.Counts.{uses-length}
@@ -17,13 +17,12 @@ use Rattle.permutation.specs.Sharing.{Sharing, alone}
 use Rattle.permutation.specs.Relation.{relationAsksWith, relationAsks}
 use Rattle.permutation.specs.declared.PermutationRelation.{PermutationRelation}
 use Rattle.instance.proofs.Parts.{flat-held}
-use Rattle.validated.specs.Validated.{validatedNo, gateAsks, gateNo}
-use Rattle.validated.proofs.Facts.{Valid, validated-facts, gate-facts}
+use Rattle.validated.specs.Validated.{gateAsks}
 use Rattle.use_gate.proofs.Same.{same-gate}
 use Rattle.compile.specs.Gate.{GateLent, publicsOf, compiledParts, lentParts, lentStoresAsks, lentSoundAsks, publicsRoom, madeAsks, compileAsksWith, compileNo, walkedAsksWith, walkedAsks}
 use Rattle.compile.proofs.Publics.{publics-has}
-use Rattle.compile.proofs.Gate.{gateBy, compileNo-is}
-use Rattle.compile.proofs.Facts.{relationAsks-yes, compile-facts}
+use Rattle.compile.proofs.Gate.{gateBy}
+use Rattle.compile.proofs.Facts.{relationAsks-yes}
 
 -- ---- two lists of questions that begin alike
 after : (ps qs rs : List Question) → firstNo qs ≡ firstNo rs → firstNo (ps ++ qs) ≡ firstNo (ps ++ rs)
@@ -127,14 +126,3 @@ module _ (l : GateLent) where
     pub counted-gate : compileNo l ≡ firstNo (walkedAsks l)
     unfolding compileNo
     counted-gate = counted-gate-with alone (λ e. refl)
-
-    -- so an accepted gate's parts pass 12 to 15 by the walk
-    pub counted-validated : compileNo l ≡ 0 → validatedNo (lentParts l) ≡ 0
-    unfolding gateNo
-    counted-validated e =
-        let made = both _ _ (sym (compileNo-is l) ∙ e) .1 in
-        let gate = both _ _ (both _ _ made .1) .1 in
-        gate-facts (lentParts l) (l .scratch) (sym (by-walk (compile-facts l e .prepared .relation .vars-held)) ∙ gate) .1
-
-    pub counted-valid : compileNo l ≡ 0 → Valid (lentParts l)
-    counted-valid e = validated-facts (lentParts l) (counted-validated e)

@@ -22,7 +22,7 @@ use Rattle.held.proofs.Facts.{facts-allBelow}
 use Rattle.validated.specs.Validated.{boundBy, gateAsksBy}
 use Rattle.use_gate.specs.UseGate.{usesBelow, usedNo}
 use Rattle.use_gate.proofs.Same.{used-no}
-use Rattle.compile.specs.Gate.{GateLent, publicsOf, publicsStore, PutsPublics, instanceOf, refusedBy, compiledParts, lentParts, lentStoresAsks, lentSoundAsks, preparedAsks, preparedNo, madeAsks, compileNo, compile, compilePublics}
+use Rattle.compile.specs.Gate.{GateLent, publicsOf, publicsStore, PutsPublics, instanceOf, refusedBy, compiledParts, lentParts, lentStoresAsks, lentSoundAsks, preparedAsks, preparedNo, madeAsks, compileNo, compile, compilePublics, askedMade}
 use Rattle.compile.proofs.Publics.{put-zeros}
 use Rattle.compile.proofs.Rising.{publicsOf-below}
 
@@ -50,6 +50,13 @@ unfolding preparedNo
 prepared-by l a b c r ea eb ec er =
     rw (er, ec, eb, ea)
     (chain-from (relationAsks (l .relation) (length (l .slots))) (lentStoresAsks l ∷ storeAsks (length (l .uses)) ∷ lentSoundAsks l ∷ []))
+
+pub made-by : (rel : PermutationRelation) (slots equations uses : List ℕ) (count publics scratch a b c r : ℕ) (allocated held : List ℕ)
+    → allocated ≡ take (rel .vars) slots → held ≡ take (rel .words) equations
+    → a ≡ 0 ▸ ask 10 (leb (2 * count) publics) → b ≡ a ▸ ask 10 (eqb (length uses) (length slots)) → c ≡ b ▸ ask 16 (leb (rel .vars) scratch)
+    → r ≡ c ▸ usedNo (rel .vars) allocated uses (rel .stray) (equationsAt (rel .equations) held)
+    → r ≡ askedMade rel slots equations uses count publics scratch
+made-by rel slots equations uses count publics scratch a b c r allocated held el eh ea eb ec er = rw (er, ec, eb, ea, el, eh) (rw zero-▸)
 
 -- ---- the answer
 module _ (l : GateLent) where
@@ -82,17 +89,9 @@ module _ (l : GateLent) where
       firstNo-append (preparedAsks l) (madeAsks l)
       ∙ ap (λ (qs : List Question). preparedNo l ▸ (ask 10 fits ▸ (ask 10 same ▸ firstNo qs))) (append-nil gateBy)
 
-  -- 10, 16 and 13 to 15 as the code puts them, of a count of publics: 12 never says no of a relation
+  -- as the code asks them
   abbrev pub codeNo : ℕ → ℕ
-  codeNo count =
-      ((ask 10 (leb (2 * count) (l .publics)) ▸ ask 10 same) ▸ ask 16 (leb (rel .vars) (l .scratch)))
-      ▸ usedNo (rel .vars) (take (rel .vars) (l .slots)) (l .uses) (rel .stray) (equationsAt (rel .equations) (take (rel .words) (l .equations)))
-
-  pub code-by : (count a b c k publics scratch : ℕ) (slots equations : List ℕ)
-      → publics ≡ l .publics → scratch ≡ l .scratch → slots ≡ take (rel .vars) (l .slots) → equations ≡ take (rel .words) (l .equations)
-      → a ≡ 0 ▸ ask 10 (leb (2 * count) publics) → b ≡ a ▸ ask 10 same → c ≡ b ▸ ask 16 (leb (rel .vars) scratch)
-      → k ≡ c ▸ usedNo (rel .vars) slots (l .uses) (rel .stray) (equationsAt (rel .equations) equations) → k ≡ codeNo count
-  code-by count a b c k publics scratch slots equations ep es el eq ea eb ec ek = rw (ek, ec, eb, ea, ep, es, el, eq) (rw zero-▸)
+  codeNo count = askedMade rel (l .slots) (l .equations) (l .uses) count (l .publics) (l .scratch)
 
   code-is : codeNo (length ps) ≡ madeNo
   unfolding compiledParts

@@ -6,7 +6,7 @@ use mathlib.Core.List.{List, [], _∷_, _++_}
 use lib.Dec.{eqb, leb}
 use lib.ListN.{length, take, replicate}
 use Rattle.limits.specs.Numbers.{maxCount, unassigned}
-use Rattle.limits.specs.Questions.{Question, question, firstNo, inTurn, pick, onYes}
+use Rattle.limits.specs.Questions.{ask, _▸_, Question, question, firstNo, inTurn, pick, onYes}
 use Rattle.limits.specs.Asks.{storeAsks}
 use Rattle.words.specs.Store.{allBelow, putWords}
 use Rattle.words.specs.Pieces.{wordsOf, stepsOf}
@@ -15,14 +15,14 @@ use Rattle.utf8.specs.Utf8.{isUtf8}
 use Rattle.allocator.specs.Slots.{Pair, pair}
 use Rattle.expr.specs.Equation.{equationsAt}
 use Rattle.permutation.specs.Sharing.{Sharing, alone}
-use Rattle.permutation.specs.Relation.{relationAsksWith, relationAsks, queriesAsks, equationsAsks}
+use Rattle.permutation.specs.Relation.{relationAsksWith, queriesAsks, equationsAsks}
 use Rattle.limits.specs.Outcome.{outcomeOf}
 use Rattle.limits.specs.declared.Outcome.the-variants as outcome
 use Rattle.permutation.specs.declared.PermutationRelation.{PermutationRelation}
 use Rattle.instance.specs.Parts.{Parts, pairWords}
 use Rattle.held.specs.Held.{labelAsks, equationsSound, slotsSound}
 use Rattle.validated.specs.Validated.{boundBy, gateAsks, gateAsksBy}
-use Rattle.use_gate.specs.UseGate.{usesBelow}
+use Rattle.use_gate.specs.UseGate.{usesBelow, usedNo}
 use Rattle.instance.specs.Looks.{noInstance}
 use Rattle.instance.specs.declared.PermutationInstance.{PermutationInstance}
 use Rattle.compile.specs.declared.Compiled.{Compiled}
@@ -208,3 +208,10 @@ pub record Compiles {A : Type 0} (told : Compiled → A) (l : GateLent) (r : A) 
 pub record PutsPublics (slots out : List ℕ) (n : ℕ) (left : List ℕ) : Type 0 where
   pub count : n ≡ length (publicsFrom 0 slots)
   pub stored : 2 * length (publicsFrom 0 slots) ≤ length out → left ≡ putWords 0 (pairWords (publicsFrom 0 slots)) out
+
+-- ---- what `asked_made`, a private function, answers, with so many publics: 10, 16 and 13 to 15; 12 never says no of
+-- those that the gate makes
+abbrev pub askedMade : PermutationRelation → (slots equations uses : List ℕ) → (count publics scratch : ℕ) → ℕ
+askedMade rel slots equations uses count publics scratch =
+    ((ask 10 (leb (2 * count) publics) ▸ ask 10 (eqb (length uses) (length slots))) ▸ ask 16 (leb (rel .vars) scratch))
+    ▸ usedNo (rel .vars) (take (rel .vars) slots) uses (rel .stray) (equationsAt (rel .equations) (take (rel .words) equations))

@@ -9,7 +9,7 @@ ghost use Prim.Native.Nat.{_≤_};
 ghost use lib.ListN.{length};
 ghost use Rattle.limits.specs.Numbers.{maxCount};
 ghost use Rattle.limits.specs.Questions.{_▸_, firstNo};
-ghost use Rattle.compile.specs.Gate.{gateLent, PutsPublics, storesAsks, soundAsks, preparedNo, refusedBy, Compiles};
+ghost use Rattle.compile.specs.Gate.{gateLent, PutsPublics, storesAsks, soundAsks, preparedNo, askedMade, instanceOf, refusedBy, Compiles};
 use instance::PermutationInstance;
 use limits::LABEL_END;
 use limits::MAX_COUNT;
@@ -126,6 +126,48 @@ fn prepared(
     asked_sound(c, rel, label, slots, queries, equations)
 }
 
+// 10, 16 and 13 to 15, with so many publics. 12 never says no of a relation's own.
+fn asked_made(
+    rel: PermutationRelation,
+    slots: &[u32],
+    equations: &[u32],
+    uses: &[u32],
+    count: u32,
+    publics: usize,
+    scratch: usize,
+) -> u32
+    ensures { λ r. ⌜ r ≡ askedMade rel (now (slots .entry)) (now (equations .entry)) (now (uses .entry)) count publics scratch ⌝ }
+{
+    let vars = rel.vars;
+    let words = rel.words;
+    let a = limits::asked(0, 2 * count as usize <= publics, 10);
+    let b = limits::asked(a, uses.len() == slots.len(), 10);
+    let c = limits::asked(b, vars as usize <= scratch, 16);
+    use_gate::asked_used(
+        c,
+        vars,
+        held::held_words(slots, vars as usize),
+        uses,
+        rel.stray,
+        held::held_words(equations, words as usize),
+        rel.equations,
+    )
+}
+
+// The instance of a relation with so many publics.
+fn instance_of(rel: PermutationRelation, count: u32) -> PermutationInstance
+    ensures { λ r. ⌜ r ≡ instanceOf rel count ⌝ }
+{
+    PermutationInstance {
+        width: rel.width,
+        vars: rel.vars,
+        queries: rel.queries,
+        equations: rel.equations,
+        words: rel.words,
+        publics: count,
+    }
+}
+
 // A refused gate's answer.
 pub fn refused(no: u32) -> Compiled
     ensures { λ r. ⌜ r ≡ refusedBy no ⌝ }
@@ -174,28 +216,15 @@ pub fn compile(
         return refused(first);
     }
     let vars = rel.vars;
-    let words = rel.words;
-    let allocated = held::held_words(slots, vars as usize);
-    let count = put_publics(publics, allocated);
-    let instance = PermutationInstance {
-        width: rel.width,
-        vars,
-        queries: rel.queries,
-        equations: rel.equations,
-        words: rel.words,
-        publics: count,
-    };
-    let room = limits::asked(0, 2 * count as usize <= publics.len(), 10);
-    let same = limits::asked(room, uses.len() == slots.len(), 10);
-    let wide = limits::asked(same, vars as usize <= scratch.len(), 16);
-    let no = use_gate::asked_used(
-        wide,
-        vars,
-        allocated,
+    let count = put_publics(publics, held::held_words(slots, vars as usize));
+    let no = asked_made(
+        rel,
+        slots,
+        equations,
         uses,
-        rel.stray,
-        held::held_words(equations, words as usize),
-        rel.equations,
+        count,
+        publics.len(),
+        scratch.len(),
     );
     if no != 0 {
         words::fill(publics, 0);
@@ -203,6 +232,6 @@ pub fn compile(
     }
     Compiled {
         outcome: Outcome::Accepted,
-        instance,
+        instance: instance_of(rel, count),
     }
 }

@@ -1,7 +1,6 @@
 // An instance written: SFRI (the source's `PermutationInstance::to_bytes`).
 
 ghost use mathlib.Core.Path.{_≡_};
-ghost use lib.ListN.{length};
 ghost use Rattle.header.specs.Form.{version};
 ghost use Rattle.encoding.specs.Form.{labelBytes};
 ghost use Rattle.encoding.specs.Answers.{instanceToBytesNo, InstanceWrites};

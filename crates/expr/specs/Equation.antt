@@ -3,7 +3,7 @@
 use Prim.Native.Nat.{ℕ, zero, suc, _+_, _*_}
 use mathlib.Core.Bool.{Bool, true, _&&_}
 use mathlib.Core.List.{List, [], _∷_, _++_}
-use lib.Dec.{ltb, leb}
+use lib.Dec.{eqb, ltb, leb}
 use lib.ListN.{length, drop, getD, set}
 use Rattle.limits.specs.Numbers.{prime, maxCount, wordEnd}
 use Rattle.limits.specs.Questions.{pick, Question, question}
@@ -92,6 +92,10 @@ equationsAt (suc m) s = equationAt s ∷ equationsAt m (drop (sizeAt s) s)
 abbrev pub equationsEnd : ℕ → List ℕ → ℕ
 equationsEnd zero s = 0
 equationsEnd (suc m) s = sizeAt s + equationsEnd m (drop (sizeAt s) s)
+
+-- do m equations end exactly at the end of the words?
+abbrev pub endsRight : ℕ → List ℕ → Bool
+endsRight m s = eqb (equationsEnd m s) (length s)
 
 -- held wires below 2^30, held weights and images below p
 abbrev pub equationsHeld : List Equation → Bool

@@ -11,7 +11,7 @@ use Rattle.limits.specs.Asks.{widthAsks, storeAsks}
 use Rattle.words.specs.Store.{allBelow}
 use Rattle.words.specs.Pieces.{wordsOf}
 use Rattle.utf8.specs.Utf8.{isUtf8}
-use Rattle.expr.specs.Equation.{equationsAt, equationsEnd, equationsHeld}
+use Rattle.expr.specs.Equation.{equationsAt, endsRight, equationsHeld}
 use Rattle.instance.specs.Parts.{pairVars, pairValues, pairsAt, heldPublics, heldQueries, heldEquations}
 use Rattle.instance.specs.declared.PermutationInstance.{PermutationInstance}
 
@@ -32,7 +32,7 @@ partsAsks ins publics queries equations =
 -- ---- what 11 asks of each store
 -- the equations end exactly at the used words; their wires are below 2^30, weights and images below p
 unfoldable pub equationsSound : ℕ → List ℕ → Bool
-equationsSound n held = eqb (equationsEnd n held) (length held) && equationsHeld (equationsAt n held)
+equationsSound n held = endsRight n held && equationsHeld (equationsAt n held)
 
 -- public wires are below 2^30, their units below p
 unfoldable pub publicsSound : ℕ → List ℕ → Bool

@@ -142,7 +142,7 @@ module _ (w : ℕ) (s : State) (l : Ledger) (i : Agrees w s l) where
       ∙ ap₂ (λ (m : ℕ) (binds : ℕ → Bool). ask 13 (allBelow m (flat (l .queries))) ▸ firstNo (termwiseAsks m binds (l .equations)))
       (i .count) (fun-ext (bound-is w l (rel .vars) (s .slots) o (i .inQueries .widths)))
 
-  -- ---- 1 and 2: of record and slots nothing is left, of the other two stores their sizes
+  -- ---- 1 and 2: of record and slots nothing is left, of queries and equations their sizes
   relation-yes : (k : ℕ)
       → ask 1 (leb 1 (rel .width)) ▸ (ask 1 (leb (rel .width) maxWidth)
       ▸ (ask 2 (leb (length (s .slots)) maxCount)

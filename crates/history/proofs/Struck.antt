@@ -5,9 +5,7 @@ use Prim.Native.Nat.{ℕ, _+_, _<_}
 use mathlib.Core.Path.{_≡_, refl}
 use mathlib.Core.Bool.{true, false}
 use mathlib.Core.List.{List, [], _∷_, _++_, map}
-use lib.ListN.{length}
 use Rattle.limits.specs.Questions.{ask, _▸_}
-use Rattle.limits.specs.Outcome.{outcomeOf}
 use Rattle.limits.specs.declared.Outcome.{Outcome}
 use Rattle.limits.specs.declared.Outcome.the-variants.{Accepted, Refused}
 use Rattle.words.specs.Store.{allBelow}
@@ -19,7 +17,6 @@ use Rattle.expr.specs.declared.Weighted.{Weighted}
 use Rattle.permutation.specs.Numbers.{newRelationNo, allocateVarsNo}
 use Rattle.permutation.specs.Answers.{newRelation}
 use Rattle.recording.specs.Numbers.{addPermutationNo, allocatePermutationNo, addEquationNo}
-use Rattle.strike.specs.Strike.{endsRight}
 use Rattle.withdraw.specs.Relation.{withdrawEquationNo, withdrawQueryNo}
 use Rattle.history.specs.Ledger.{known}
 use Rattle.history.specs.Calls.{Call, Allocate, Record, Mint, Equate, WithdrawQuery, WithdrawEquation, Entry, answer, after, ledger, noted, log}
@@ -78,39 +75,39 @@ fresh-accepted = refl
 -- 10 for the mint, 45 for a number that isn't there
 outcomes : map (λ (e : Entry). e .answered .outcome) (log (begin 1 slots queries equations uses none-left) none-left)
     ≡ Accepted ∷ Accepted ∷ Accepted ∷ Refused 10 ∷ Refused 45 ∷ Accepted ∷ Accepted ∷ Refused 45 ∷ Accepted ∷ Accepted ∷ Accepted ∷ []
-unfolding ask _▸_ newRelationNo allocateVarsNo addPermutationNo allocatePermutationNo addEquationNo times strays allFit usesAfter allBelow sizeAt endsRight withdrawQueryNo withdrawEquationNo answer after
+unfolding ask _▸_ newRelationNo allocateVarsNo addPermutationNo allocatePermutationNo addEquationNo times strays allFit usesAfter allBelow sizeAt withdrawQueryNo withdrawEquationNo answer after
 outcomes = refl
 
 -- ---- the ledger
 -- one query and one equation are struck from it
 ledger-is : lastLedger 1 slots queries equations uses one-left
     ≡ ledger 3 (pair 0 0 ∷ []) ((1 ∷ 2 ∷ []) ∷ []) (equation (record { var = 2; weight = 1 } ∷ []) 5 ∷ [])
-unfolding ask _▸_ newRelationNo allocateVarsNo addPermutationNo allocatePermutationNo addEquationNo times strays allFit usesAfter allBelow sizeAt endsRight withdrawQueryNo withdrawEquationNo answer after noted
+unfolding ask _▸_ newRelationNo allocateVarsNo addPermutationNo allocatePermutationNo addEquationNo times strays allFit usesAfter allBelow sizeAt withdrawQueryNo withdrawEquationNo answer after noted
 ledger-is = refl
 
 -- wire 2 is known by the first query alone: with that struck it is unknown again
 pub unknown-again : (known (lastLedger 1 slots queries equations uses one-left) 2 ≡ true) × (known (lastLedger 1 slots queries equations uses none-left) 2 ≡ false)
-unfolding ask _▸_ newRelationNo allocateVarsNo addPermutationNo allocatePermutationNo addEquationNo times strays allFit usesAfter allBelow sizeAt endsRight withdrawQueryNo withdrawEquationNo answer after noted
+unfolding ask _▸_ newRelationNo allocateVarsNo addPermutationNo allocatePermutationNo addEquationNo times strays allFit usesAfter allBelow sizeAt withdrawQueryNo withdrawEquationNo answer after noted
 unknown-again = (refl, refl)
 
 -- ---- the use counts
 -- those of (1, 2) and (1, 9): nothing of the mint that was refused
 pub counted : last 1 slots queries equations uses first-calls .uses ≡ 0 ∷ 2 ∷ 1 ∷ 0 ∷ []
-unfolding ask _▸_ newRelationNo allocateVarsNo addPermutationNo allocatePermutationNo addEquationNo times strays usesOf allFit usesAfter allBelow sizeAt endsRight withdrawQueryNo withdrawEquationNo answer after noted
+unfolding ask _▸_ newRelationNo allocateVarsNo addPermutationNo allocatePermutationNo addEquationNo times strays usesOf allFit usesAfter allBelow sizeAt withdrawQueryNo withdrawEquationNo answer after noted
 counted = whole 1 slots queries equations uses fresh-accepted first-calls .used .counts .uses-are
 
 pub stray : last 1 slots queries equations uses first-calls .relation .stray ≡ 1
-unfolding ask _▸_ newRelationNo allocateVarsNo addPermutationNo allocatePermutationNo addEquationNo times strays usesOf allFit usesAfter allBelow sizeAt endsRight withdrawQueryNo withdrawEquationNo answer after noted
+unfolding ask _▸_ newRelationNo allocateVarsNo addPermutationNo allocatePermutationNo addEquationNo times strays usesOf allFit usesAfter allBelow sizeAt withdrawQueryNo withdrawEquationNo answer after noted
 stray = whole 1 slots queries equations uses fresh-accepted first-calls .used .counts .stray-is
 
 -- two queries of two cells
 pub total : sum (last 1 slots queries equations uses first-calls .uses) + last 1 slots queries equations uses first-calls .relation .stray ≡ 4
-unfolding ask _▸_ newRelationNo allocateVarsNo addPermutationNo allocatePermutationNo addEquationNo times strays usesOf allFit usesAfter allBelow sizeAt endsRight withdrawQueryNo withdrawEquationNo answer after noted
+unfolding ask _▸_ newRelationNo allocateVarsNo addPermutationNo allocatePermutationNo addEquationNo times strays usesOf allFit usesAfter allBelow sizeAt withdrawQueryNo withdrawEquationNo answer after noted
 total = whole 1 slots queries equations uses fresh-accepted first-calls .used .total
 
 -- none after none
 pub uncounted : last 1 slots queries equations uses none-left .uses ≡ 0 ∷ 0 ∷ 0 ∷ 0 ∷ []
-unfolding ask _▸_ newRelationNo allocateVarsNo addPermutationNo allocatePermutationNo addEquationNo times strays usesOf allFit usesAfter allBelow sizeAt endsRight withdrawQueryNo withdrawEquationNo answer after noted
+unfolding ask _▸_ newRelationNo allocateVarsNo addPermutationNo allocatePermutationNo addEquationNo times strays usesOf allFit usesAfter allBelow sizeAt withdrawQueryNo withdrawEquationNo answer after noted
 uncounted = whole 1 slots queries equations uses fresh-accepted none-left .used .counts .uses-are
 
 -- ---- 11 of a count
@@ -119,11 +116,11 @@ abbrev two-wires : List Call
 two-wires = Allocate 2 ∷ []
 
 pub roomy : answer (last 1 slots queries equations uses two-wires) (Record (1 ∷ []) (2 ∷ [])) .outcome ≡ Refused 11 → 5 < 2
-unfolding ask _▸_ newRelationNo allocateVarsNo addPermutationNo allocatePermutationNo addEquationNo times strays usesOf allFit usesAfter allBelow sizeAt endsRight withdrawQueryNo withdrawEquationNo answer after noted
+unfolding ask _▸_ newRelationNo allocateVarsNo addPermutationNo allocatePermutationNo addEquationNo times strays usesOf allFit usesAfter allBelow sizeAt withdrawQueryNo withdrawEquationNo answer after noted
 roomy = whole 1 slots queries equations uses fresh-accepted (two-wires ++ (Record (1 ∷ []) (2 ∷ []) ∷ [])) .told .1 .0 .full refl
 
 pub mint-roomy : answer (last 1 slots queries equations uses two-wires) (Mint (1 ∷ [])) .outcome ≡ Refused 11 → 5 < 2
-unfolding ask _▸_ newRelationNo allocateVarsNo addPermutationNo allocatePermutationNo addEquationNo times strays usesOf allFit usesAfter allBelow sizeAt endsRight withdrawQueryNo withdrawEquationNo answer after noted
+unfolding ask _▸_ newRelationNo allocateVarsNo addPermutationNo allocatePermutationNo addEquationNo times strays usesOf allFit usesAfter allBelow sizeAt withdrawQueryNo withdrawEquationNo answer after noted
 mint-roomy = whole 1 slots queries equations uses fresh-accepted (two-wires ++ (Mint (1 ∷ []) ∷ [])) .told .1 .0 .full refl
 
 -- ---- the gate: 13 by the stray cell, then yes, and with no query 15, since the equation's wire is unknown again
@@ -131,13 +128,13 @@ abbrev gate : List Call → Outcome
 gate calls = compiled (last 1 slots queries equations uses calls) [] publics scratch .outcome
 
 pub beyond : gate first-calls ≡ Refused 13
-unfolding ask _▸_ newRelationNo allocateVarsNo addPermutationNo allocatePermutationNo addEquationNo times strays allFit usesAfter allBelow sizeAt endsRight withdrawQueryNo withdrawEquationNo answer after noted compileLeft follow isUtf8
+unfolding ask _▸_ newRelationNo allocateVarsNo addPermutationNo allocatePermutationNo addEquationNo times strays allFit usesAfter allBelow sizeAt withdrawQueryNo withdrawEquationNo answer after noted compileLeft follow isUtf8
 beyond = whole 1 slots queries equations uses fresh-accepted first-calls .judged .gates [] publics scratch .by-ledger
 
 pub bound : gate one-left ≡ Accepted
-unfolding ask _▸_ newRelationNo allocateVarsNo addPermutationNo allocatePermutationNo addEquationNo times strays allFit usesAfter allBelow sizeAt endsRight withdrawQueryNo withdrawEquationNo answer after noted compileLeft follow isUtf8
+unfolding ask _▸_ newRelationNo allocateVarsNo addPermutationNo allocatePermutationNo addEquationNo times strays allFit usesAfter allBelow sizeAt withdrawQueryNo withdrawEquationNo answer after noted compileLeft follow isUtf8
 bound = whole 1 slots queries equations uses fresh-accepted one-left .judged .gates [] publics scratch .by-ledger
 
 pub unbound : gate none-left ≡ Refused 15
-unfolding ask _▸_ newRelationNo allocateVarsNo addPermutationNo allocatePermutationNo addEquationNo times strays allFit usesAfter allBelow sizeAt endsRight withdrawQueryNo withdrawEquationNo answer after noted compileLeft follow isUtf8
+unfolding ask _▸_ newRelationNo allocateVarsNo addPermutationNo allocatePermutationNo addEquationNo times strays allFit usesAfter allBelow sizeAt withdrawQueryNo withdrawEquationNo answer after noted compileLeft follow isUtf8
 unbound = whole 1 slots queries equations uses fresh-accepted none-left .judged .gates [] publics scratch .by-ledger

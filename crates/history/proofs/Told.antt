@@ -18,7 +18,6 @@ use Rattle.permutation.specs.Sharing.{afterFive, nothing}
 use Rattle.permutation.specs.Numbers.{allocateVarsNo, setVarNo}
 use Rattle.recording.specs.Numbers.{addPermutationNo, allocatePermutationNo, addEquationNo}
 use Rattle.limits.specs.Outcome.{outcomeOf}
-use Rattle.limits.specs.declared.Outcome.the-variants as outcome
 use Rattle.words.specs.Pieces.{wordsOf}
 use Rattle.permutation.specs.Relation.{relationAsks}
 use Rattle.permutation.specs.Left.{pairsSet}

@@ -11,7 +11,7 @@ use native.Mathlib.Omega.{arith}
 use mathlib.Core.Bool.{Bool, true, false, _&&_}
 use mathlib.Core.List.{List, [], _∷_, _++_}
 use lib.Dec.{T, ltb}
-use lib.ListN.{getD}
+use lib.ListN.{length, getD}
 use Rattle.limits.specs.Questions.{ask, _▸_, Question, question, firstNo, inTurn, onYes}
 
 -- ---- one question
@@ -72,6 +72,11 @@ onYes-yes (suc k) a b e = absurd (omega arith)
 pub onYes-no : {A : Type 0} (k : ℕ) (a b : A) → (k ≡ 0 → ⊥) → onYes k a b ≡ b
 onYes-no zero a b h = absurd (h refl)
 onYes-no (suc k) a b h = refl
+
+-- a list of one length either way
+pub onYes-length : (k : ℕ) (new old : List ℕ) → (k ≡ 0 → length new ≡ length old) → length (onYes k new old) ≡ length old
+onYes-length zero new old f = f refl
+onYes-length (suc k) new old f = refl
 
 -- ---- a list of questions
 -- a list in two parts: the first no of the parts' first noes

@@ -1,11 +1,11 @@
 -- Record and mint keep the length of every store. Assumes nothing.
-use Prim.Native.Nat.{ℕ, zero, suc, _+_, _≤_}
-use mathlib.Core.Path.{_≡_, refl, ap₂, _∙_}
+use Prim.Native.Nat.{ℕ, _+_, _≤_}
+use mathlib.Core.Path.{_≡_, ap₂, _∙_}
 use mathlib.Core.Bool.{false}
 use mathlib.Core.List.{List, _++_}
 use native.Mathlib.Omega.{arith}
 use lib.ListN.{length, length-append}
-use Rattle.limits.specs.Questions.{onYes}
+use Rattle.limits.proofs.Questions.{onYes-length}
 use Rattle.words.specs.Pieces.{wordsOf}
 use Rattle.words.proofs.Pieces.{wordsOf-suc}
 use Rattle.words.proofs.Written.{put-length}
@@ -20,11 +20,6 @@ use Rattle.recording.specs.Answers.{queriesWith, addPermutationQueries, 
 use Rattle.recording.proofs.Accepted.{addPermutation-yes, allocatePermutation-yes}
 use Rattle.recording.proofs.Minted.{upFrom-length}
 
--- by a number: of one length either way
-kept : (k : ℕ) (new old : List ℕ) → (k ≡ 0 → length new ≡ length old) → length (onYes k new old) ≡ length old
-kept zero new old f = f refl
-kept (suc k) new old f = refl
-
 query-length : (rel : PermutationRelation) (cells queries : List ℕ) → length cells ≡ rel .width + rel .width
     → wordsOf (rel .width) (rel .queries + 1) ≤ length queries → length (queriesWith rel cells queries) ≡ length queries
 query-length rel cells queries n h =
@@ -35,7 +30,7 @@ query-length rel cells queries n h =
 module _ (rel : PermutationRelation) (slots : ℕ) (queries uses input output : List ℕ) where
   pub addPermutationQueries-length : length (addPermutationQueries rel slots queries uses input output) ≡ length queries
   addPermutationQueries-length =
-      kept (addPermutationNo rel slots (length queries) uses input output) (queriesWith rel (input ++ output) queries) queries
+      onYes-length (addPermutationNo rel slots (length queries) uses input output) (queriesWith rel (input ++ output) queries) queries
       (λ z.
       let y = addPermutation-yes rel slots (length queries) uses input output z in
       query-length rel (input ++ output) queries
@@ -43,7 +38,7 @@ module _ (rel : PermutationRelation) (slots : ℕ) (queries uses input output : 
 
   pub addPermutationUses-length : length (addPermutationUses rel slots queries uses input output) ≡ length uses
   addPermutationUses-length =
-      kept (addPermutationNo rel slots (length queries) uses input output) (usesAfter false uses (input ++ output)) uses
+      onYes-length (addPermutationNo rel slots (length queries) uses input output) (usesAfter false uses (input ++ output)) uses
       (λ z. after-length false uses (input ++ output))
 
 -- ---- mint
@@ -53,12 +48,12 @@ module _ (rel : PermutationRelation) (slots queries uses input : List ℕ) where
 
   pub allocatePermutationSlots-length : length (allocatePermutationSlots rel slots queries uses input) ≡ length slots
   allocatePermutationSlots-length =
-      kept number (grownSlots (rel .vars) (rel .width) slots) slots
+      onYes-length number (grownSlots (rel .vars) (rel .width) slots) slots
       (λ z. grown-length (rel .vars) (rel .width) slots (allocatePermutation-yes rel (length slots) (length queries) uses input z .slotRoom))
 
   pub allocatePermutationQueries-length : length (allocatePermutationQueries rel slots queries uses input) ≡ length queries
   allocatePermutationQueries-length =
-      kept number (queriesWith rel (mintCells rel input) queries) queries
+      onYes-length number (queriesWith rel (mintCells rel input) queries) queries
       (λ z.
       let y = allocatePermutation-yes rel (length slots) (length queries) uses input z in
       query-length rel (mintCells rel input) queries
@@ -66,4 +61,4 @@ module _ (rel : PermutationRelation) (slots queries uses input : List ℕ) where
 
   pub allocatePermutationUses-length : length (allocatePermutationUses rel slots queries uses input) ≡ length uses
   allocatePermutationUses-length =
-      kept number (usesAfter false uses (mintCells rel input)) uses (λ z. after-length false uses (mintCells rel input))
+      onYes-length number (usesAfter false uses (mintCells rel input)) uses (λ z. after-length false uses (mintCells rel input))

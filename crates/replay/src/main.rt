@@ -8,17 +8,19 @@
 //
 // Of the leaves it has the edges of p and of u32 added and multiplied pairwise; no byte, and one and two bytes, at the
 // ends of UTF-8's rows, with document 01's and RFC 3629's texts; a word read at and past every place of up to seven
-// bytes; 2,500 random cases, units and wires read into a store among them; and scans of 79 fixed labels, bad ones at
+// bytes; 1,600 random cases, units and wires read into a store among them; and scans of 79 fixed labels, bad ones at
 // the ends of blocks of ASCII among them, and of 120 random ones. Of fresh, allocate, set, set list, record, mint,
-// equation, value and is it allocated it has document 01's examples, every count and argument at its limits, sets that are
-// fresh, repeated or both, and 1,000 random cases at widths 1 to 24, absurd records among them, with every number that a
-// short store can bring about. Of ticket texts it has 72 fixed ones and 120 random ones, with every number that they can
-// bring about. Of openings, calls and gates of relations on one allocator it has 78 fixed cases and 148 random ones, absurd
-// allocators, numbers and quotas and what another relation has set among them; equations are left out there. Of scaled
-// terms put as an equation, evaluate and append a step, permute, write and read SFRW it has 120 random cases each, and of
-// gate, value in publics, heading, write and read SFRI and check 200 each, most at widths 1 to 3, sound and led astray; the
-// writes with every number that a record, a store or an output of these sizes can bring about, and with every byte of the
-// output. Of states behind a digest it has 96 fixed cases, every width and every question among them, and 110 random ones.
+// equation, withdrawals, value and is it allocated it has document 01's examples, every count and argument at its limits,
+// sets that are fresh, repeated or both, use counts that are wrong and use stores that are too long or too short, and 900
+// random cases at widths 1 to 24, absurd records among them, with every number that a short store can bring about. Of
+// ticket texts it has 72 fixed ones and 100 random ones, with every number that they can bring about. Of openings, calls
+// and gates of relations on one allocator it has 120 fixed cases and 166 random ones, absurd allocators, numbers and
+// quotas and what another relation has set among them; equations are left out there. Of scaled terms put as an equation,
+// evaluate and append a step, permute, write and read SFRW it has 100 random cases each, and of gate, value in publics,
+// heading, write and read SFRI and check 150 each, most at widths 1 to 3, sound and led astray; the writes with every
+// number that a record, a store or an output of these sizes can bring about, and with every byte of the output; of gates
+// besides 12 with right and wrong use counts. Of states behind a digest it has 96 fixed cases, every width and every
+// question among them, and 80 random ones.
 //
 // Every case is a list of lists, so that one way of taking it apart and of comparing serves all calls. A line is
 // printed for each operation, and last how many answers were replayed and how many are different. A fault of the sample,

@@ -1,7 +1,5 @@
 // The byte form of an instance, for C.
 
-ghost use mathlib.Core.Path.{_≡_};
-ghost use lib.ListN.{length};
 ghost use Rattle.encoding.specs.Answers.{InstanceWrites};
 ghost use Rattle.decoding.specs.Answers.{stores, InstanceReads};
 ghost use Rattle.sfr.specs.Trace.{writtenAnswer};

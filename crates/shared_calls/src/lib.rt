@@ -1,5 +1,6 @@
 // Each opening and each call of demand 3's list for relations on one allocator, by code that runs: a thin open function
-// that hands it on to `sharing`, `shared_vars`, `shared_recording` or `shared_withdraw`, with what the theorem says of the call as its contract.
+// that hands it on to `sharing`, `shared_vars`, `shared_recording` or `shared_withdraw`, with what the theorem says of
+// the call as its contract.
 //
 // For every state, what the function answers and leaves is what the list has there (`sharedAnswer` and `sharedAfter` of
 // shared_history/specs/Calls), whatever the other relations have, and whatever the relation's stores hold that the call is

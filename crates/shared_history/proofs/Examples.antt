@@ -44,7 +44,7 @@ use Rattle.decoding.specs.Answers.{instanceFromBytes, witnessFromBytes}
 use Rattle.sharing.specs.Opening.{withAllocatorNo, newShared}
 use Rattle.shared_compile.specs.Gate.{compileOnNo, compileOn, compilePublicsOn}
 use Rattle.history.specs.Sat.{Sat, Evaluates}
-use Rattle.history.specs.Calls.{Allocate, Set, SetList, Record, Mint, Equate, Tickets, WithdrawQuery, WithdrawEquation, frontAsks, answer, after, noted}
+use Rattle.history.specs.Calls.{Allocate, Set, SetList, Record, Mint, Equate, Tickets, frontAsks, answer, after, noted}
 use Rattle.history.specs.Left.{setBy}
 use Rattle.history.specs.Whole.{FileLent, TraceLent}
 use Rattle.history.proofs.Outcomes.{accepted-no}

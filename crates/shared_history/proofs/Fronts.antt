@@ -14,6 +14,7 @@ use Rattle.uses.specs.Uses.{usesAsks}
 use Rattle.limits.proofs.Questions.{both, ▸-zero, goes-on, stays, firstNo-append, Puts}
 use Rattle.allocator.specs.Slots.{pairs, isFresh, mostAsks, roomAsks, pairAsks, itemsAsks, SetRun, runAfter}
 use Rattle.allocator.specs.Assign.{setOf}
+use Rattle.expr.specs.Equation.{endsRight}
 use Rattle.expr.specs.Weighted.{termsOf}
 use Rattle.permutation.specs.Sharing.{Sharing, afterFive, alone}
 use Rattle.permutation.specs.Relation.{queriesAsks, equationsAsks, relationAsks, relationFront}
@@ -21,7 +22,6 @@ use Rattle.permutation.specs.Numbers.{setVarNo, setVarsNo}
 use Rattle.permutation.specs.Answers.{setVarsRun}
 use Rattle.permutation.specs.declared.PermutationRelation.{PermutationRelation}
 use Rattle.recording.specs.Relation.{queryFront, recordAsks, joinAsks, mintSizes, mintAsks, mintCells, addEquationRest}
-use Rattle.strike.specs.Strike.{endsRight}
 use Rattle.withdraw.specs.Relation.{cellsAt}
 use Rattle.tickets.specs.Lines.{linesAsks}
 use Rattle.tickets.specs.Tickets.{setTicketsRun}

@@ -9,8 +9,8 @@ use lib.ListN.{length, take}
 use Rattle.limits.specs.Questions.{question, firstNo}
 use Rattle.limits.specs.Outcome.{outcomeNumber}
 use Rattle.limits.proofs.Answered.{outcome-number}
+use Rattle.expr.specs.Equation.{endsRight}
 use Rattle.uses.specs.Uses.{usesAsks}
-use Rattle.strike.specs.Strike.{endsRight}
 use Rattle.permutation.specs.Sharing.{Sharing}
 use Rattle.permutation.specs.declared.PermutationRelation.{PermutationRelation}
 use Rattle.recording.specs.Relation.{addEquationFront}

@@ -2,7 +2,7 @@
 -- Assumes nothing.
 use Prim.Native.Nat.{ℕ}
 use mathlib.Core.Path.{_≡_, refl}
-use mathlib.Core.List.{List, [], _∷_}
+use mathlib.Core.List.{[], _∷_}
 use Rattle.limits.specs.Questions.{ask, _▸_}
 use Rattle.sharing.specs.Opening.{withAllocatorNo, withAllocatorUses}
 use Rattle.sharing.specs.declared.VarAllocator.{VarAllocator}

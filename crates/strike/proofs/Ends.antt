@@ -8,8 +8,8 @@ use borrow.Author.Tests.{eq-eqb, ne-eqb, eqb-true, eqb-false}
 use lib.Dec.{eqb}
 use lib.ListN.{length, drop}
 use lib.Seq.{drop-drop}
-use Rattle.expr.specs.Equation.{sizeAt, equationsEnd}
-use Rattle.strike.specs.Strike.{endsRight, endWithin}
+use Rattle.expr.specs.Equation.{sizeAt, equationsEnd, endsRight}
+use Rattle.strike.specs.Strike.{endWithin}
 
 -- where n equations from place `at` on end
 unfoldable pub restEnd : ℕ → ℕ → List ℕ → ℕ
@@ -47,7 +47,7 @@ module _ (s : List ℕ) (at n whole : ℕ) (f : at ≤ length s) (e : restEnd n 
 
 -- ---- what the walk says
 pub ends-by : (n : ℕ) (s : List ℕ) → eqb (endWithin n s) (length s) ≡ endsRight n s
-unfolding endsRight endWithin
+unfolding endWithin
 ends-by n s = go (eqb (equationsEnd n s) (length s)) refl
   where
     go : (b : Bool) → eqb (equationsEnd n s) (length s) ≡ b → eqb (min (equationsEnd n s) (length s + 1)) (length s) ≡ b
@@ -65,7 +65,6 @@ end-split (suc i) m s =
 
 pub place-fits : (n i : ℕ) (s : List ℕ) → i < n → endsRight n s ≡ true
     → equationsEnd i s + sizeAt (drop (equationsEnd i s) s) ≤ length s
-unfolding endsRight
 place-fits n i s h e =
     let z = eqb-true (equationsEnd n s) (length s) e in
     let k : n ≡ i + suc (n - i - 1) = omega arith in

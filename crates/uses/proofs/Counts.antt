@@ -78,13 +78,6 @@ from-drop i m (suc k) l =
     let y : suc k + m ≡ suc (k + m) = omega arith in
     rw (z, y) (from-drop (suc i) m k l)
 
-pub uses-drop : (k len : ℕ) (l : List ℕ) → k ≤ len → drop k (usesOf len l) ≡ usesFrom k (len - k) l
-unfolding usesOf
-uses-drop k len l h =
-    let n : len ≡ k + (len - k) = omega arith in
-    let z : 0 + k ≡ k = omega arith in
-    ap (λ (j : ℕ). drop k (usesFrom 0 j l)) n ∙ from-drop 0 (len - k) k l ∙ ap (λ (i : ℕ). usesFrom i (len - k) l) z
-
 -- ---- the counts and the stray count add up to the number of cells
 -- 1 where y is one of the n wires from i on, else 0
 abbrev pub among : (i n y : ℕ) → ℕ

@@ -5,7 +5,6 @@ use mathlib.Core.Path.{_≡_, refl, sym, ap, _∙_}
 use mathlib.Core.Bool.{Bool, true, false, _&&_, and-false}
 use mathlib.Core.List.{List, [], _∷_, _++_}
 use native.Mathlib.Omega.{arith}
-use mathlib.Core.Logic.{_⊎_}
 use borrow.Author.Tests.{ltb-true, le-ltb, le-leb, ne-eqb, eqb-true}
 use lib.Dec.{eqb, ltb}
 use lib.ListN.{length, getD}
@@ -14,7 +13,6 @@ use Rattle.limits.specs.Questions.{pick}
 use Rattle.uses.specs.Uses.{times, strays, usesOf, countFits, cellFits, allFit, usesFit}
 use Rattle.uses.specs.Moves.{strayFits}
 use Rattle.uses.proofs.Counts.{times-append, strays-append, times-le, strays-le, uses-at, more-times, self-named}
-use Rattle.uses.proofs.Steps.{stray-struck, stray-joined}
 
 module _ (strike : Bool) (len : ℕ) (uses : List ℕ) (stray : ℕ) (cells : List ℕ) where
   -- where each cell that is named fits, all do
@@ -78,13 +76,6 @@ stray-fits strike len uses stray cells e = go (strays len cells) refl (countFits
     go zero z b f = rw z
     go (suc n) z true f = rw (ne-eqb (strays len cells) 0 (λ y. omega arith)) f
     go (suc n) z false f = let w = stray-unfit strike len uses stray cells cells (omega arith) f in absurd (let y : _≡_ {A = ℕ} 0 1 = cc in omega arith)
-
-pub struck-stray : (len : ℕ) (uses : List ℕ) (stray : ℕ) (cells : List ℕ) → usesFit true len uses stray cells ≡ true → strays len cells ≤ stray
-struck-stray len uses stray cells e = stray-struck true stray (strays len cells) (stray-fits true len uses stray cells e) refl
-
-pub joined-stray : (len : ℕ) (uses : List ℕ) (stray : ℕ) (cells : List ℕ) → usesFit false len uses stray cells ≡ true
-    → (strays len cells ≡ 0) ⊎ (stray + strays len cells ≤ maxCount)
-joined-stray len uses stray cells e = stray-joined false stray (strays len cells) (stray-fits false len uses stray cells e) refl
 
 -- where each cell fits, all do
 all-by : (strike : Bool) (len : ℕ) (uses : List ℕ) (stray : ℕ) (cells these : List ℕ)

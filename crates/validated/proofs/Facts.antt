@@ -4,7 +4,7 @@ use mathlib.Core.Path.{_≡_, refl, sym, _∙_}
 use mathlib.Core.Bool.{Bool, true, _||_, or-true}
 use mathlib.Core.List.{List, [], _∷_}
 use mathlib.Core.Logic.{_⊎_, inl, inr}
-use borrow.Author.Tests.{lt-ltb, le-leb, eq-eqb, ltb-true, leb-true, eqb-true}
+use borrow.Author.Tests.{lt-ltb, eq-eqb, ltb-true, leb-true, eqb-true}
 use lib.Dec.{eqb}
 use Rattle.limits.specs.Questions.{firstNo}
 use Rattle.limits.proofs.Questions.{ask-yes, says-yes, both, join, firstNo-append}
@@ -84,7 +84,3 @@ facts-validated parts v =
 pub gate-facts : (parts : Parts) (scratch : ℕ) → gateNo parts scratch ≡ 0 → (parts .vars ≤ scratch) × (validatedNo parts ≡ 0)
 unfolding gateNo validatedNo
 gate-facts parts scratch e = let a = both _ _ e in (leb-true (parts .vars) scratch (says-yes 15 _ (a .0)), a .1)
-
-pub facts-gate : (parts : Parts) (scratch : ℕ) → parts .vars ≤ scratch → validatedNo parts ≡ 0 → gateNo parts scratch ≡ 0
-unfolding gateNo validatedNo
-facts-gate parts scratch h e = join _ _ (ask-yes 16 _ (le-leb (parts .vars) scratch h)) e

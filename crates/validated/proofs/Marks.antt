@@ -1,13 +1,13 @@
 -- Marks: what is left of the wires, marked on what is there, comes to the whole; and marks taken for counts,
 -- with no slots, bind a wire exactly where it was in the list. Assumes nothing.
 use Prim.Native.Nat.{ℕ, zero, suc, _≤_, _<_}
-use mathlib.Core.Path.{_≡_, refl, sym, ap, _∙_}
+use mathlib.Core.Path.{_≡_, refl, ap, _∙_}
 use mathlib.Core.Bool.{Bool, true, false, _||_, or-comm}
 use mathlib.Core.List.{List, [], _∷_}
 use native.Mathlib.Omega.{arith}
 use borrow.Author.Tests.{lt-ltb, le-ltb, ltb-true, eqb-true, eqb-false}
 use lib.Dec.{eqb, ltb}
-use lib.ListN.{length, drop, getD, set, replicate, length-set, drop-of-length-le}
+use lib.ListN.{length, getD, set, replicate, length-set}
 use lib.Seq.{set-set, getD-set-same, getD-set-other}
 use Rattle.limits.specs.Questions.{pick}
 use Rattle.limits.proofs.Below.{both-true}

@@ -53,7 +53,7 @@ gateAsksBy below binds parts scratch = question 16 (leb (parts .vars) scratch) �
 
 -- by a walk over the queries: of a read, and of all that works on parts
 abbrev pub gateAsks : Parts → ℕ → List Question
-gateAsks parts scratch = question 16 (leb (parts .vars) scratch) ∷ validatedAsks parts
+gateAsks parts scratch = gateAsksBy (allBelow (parts .vars) (flat (parts .queries))) (bound parts) parts scratch
 
 -- their first no, or 0
 unfoldable pub gateNo : Parts → ℕ → ℕ

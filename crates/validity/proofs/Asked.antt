@@ -1,7 +1,7 @@
 -- The questions before the check: where none says no, the counts fit the stores, what is held is sound, and
 -- scratch has a word per wire. Assumes nothing.
 use Prim.Native.Nat.{ℕ, _*_, _≤_}
-use mathlib.Core.Path.{_≡_, sym, ap, _∙_}
+use mathlib.Core.Path.{_≡_, sym, _∙_}
 use mathlib.Core.Bool.{true}
 use mathlib.Core.List.{List, [], _∷_, _++_}
 use borrow.Author.Tests.{leb-true}
@@ -15,7 +15,7 @@ use Rattle.words.specs.Store.{allBelow}
 use Rattle.words.specs.Pieces.{wordsOf, stepsOf}
 use Rattle.permute.specs.Parameters.{soundParameters, isEvaluation}
 use Rattle.instance.specs.Parts.{heldPublics, heldEquations, partsOf}
-use Rattle.held.specs.Held.{labelAsks, partsAsks, partsSoundAsks, publicsSound, equationsSound}
+use Rattle.held.specs.Held.{partsAsks, partsSoundAsks, publicsSound, equationsSound}
 use Rattle.instance.specs.declared.PermutationInstance.{PermutationInstance}
 use Rattle.validity.specs.Check.{checkNo}
 use Rattle.validity.specs.Valid.{sizeAsks, isWitnessValidNo}

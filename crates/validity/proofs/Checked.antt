@@ -19,10 +19,10 @@ use Rattle.words.proofs.Pieces.{length-pieces}
 use Rattle.allocator.specs.Slots.{Pair}
 use Rattle.allocator.specs.Values.{nothing, putAll}
 use Rattle.expr.specs.Equation.{equationsAt}
-use Rattle.instance.specs.Parts.{Parts, heldPublics, heldQueries, heldEquations, pairsAt, partsOf}
-use Rattle.held.specs.Held.{publicsSound, equationsSound}
+use Rattle.instance.specs.Parts.{heldPublics, heldQueries, heldEquations, pairsAt, partsOf}
+use Rattle.held.specs.Held.{publicsSound}
 use Rattle.instance.specs.declared.PermutationInstance.{PermutationInstance}
-use Rattle.validity.specs.Check.{publicsNo, stepsNo, equationsNo, checkNo, carried}
+use Rattle.validity.specs.Check.{publicsNo, equationsNo, checkNo, carried}
 use Rattle.validity.specs.Scratch.{valueAt, areEntries, Walked, PublicsPut, StepsPut, AllPut, Sound}
 use Rattle.validity.proofs.Scratch.{nothing-entry}
 

@@ -2,7 +2,7 @@
 -- are, come to the whole. Of those left as many are evaluations as are known to be. Assumes nothing.
 use Prim.Native.Nat.{ℕ, zero, suc, _+_, _-_, _*_, _≤_, _<_, min}
 use mathlib.Core.Path.{_≡_, refl, sym, ap, _∙_}
-use mathlib.Core.Bool.{Bool, true, false}
+use mathlib.Core.Bool.{Bool, true}
 use mathlib.Core.List.{List, [], _∷_, _++_}
 use native.Mathlib.Omega.{arith}
 use borrow.Author.Tests.{lt-ltb, ltb-true}
@@ -13,13 +13,13 @@ use Rattle.limits.specs.Questions.{ask, _▸_, onYes}
 use Rattle.limits.proofs.Questions.{ask-yes, says-yes, both, goes-on, stays, ▸-assoc}
 use Rattle.limits.proofs.Below.{below-take, below-drop}
 use Rattle.words.specs.Store.{allBelow}
-use Rattle.words.specs.Pieces.{wordsOf, pieces}
+use Rattle.words.specs.Pieces.{pieces}
 use Rattle.allocator.specs.Slots.{Pair, pairs}
 use Rattle.allocator.specs.Values.{Values, putAll, put}
 use Rattle.permute.specs.Parameters.{leading}
 use Rattle.permute.proofs.Trace.{pieces-cons, lent-piece, lent-length}
 use Rattle.validity.specs.Values.{cells}
-use Rattle.validity.specs.Check.{cellsNo, stepsNo}
+use Rattle.validity.specs.Check.{stepsNo}
 use Rattle.validity.specs.Scratch.{valueAt, areEntries, CellsPut, StepPut, StepsPut}
 use Rattle.validity.proofs.Scratch.{Walking, begins, ended}
 use Rattle.validity.proofs.Ahead.{first-is, next-known}

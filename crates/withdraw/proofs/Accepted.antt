@@ -10,7 +10,8 @@ use lib.ListN.{length, take, length-take}
 use Rattle.limits.specs.Numbers.{maxCount}
 use Rattle.limits.proofs.Questions.{puts, puts-yes}
 use Rattle.words.specs.Pieces.{wordsOf}
-use Rattle.strike.specs.Strike.{struckWords, fitStruck, endWithin, endsRight}
+use Rattle.expr.specs.Equation.{endsRight}
+use Rattle.strike.specs.Strike.{struckWords, fitStruck, endWithin}
 use Rattle.strike.proofs.Ends.{place-fits, place-is}
 use Rattle.strike.proofs.Moves.{struck-is}
 use Rattle.permutation.specs.declared.PermutationRelation.{PermutationRelation}

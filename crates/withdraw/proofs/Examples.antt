@@ -7,7 +7,6 @@ use Rattle.permutation.specs.Answers.{relation, recordedOf}
 use Rattle.permutation.specs.declared.PermutationRelation.{PermutationRelation}
 use Rattle.expr.specs.Equation.{sizeAt}
 use Rattle.uses.specs.Uses.{times, strays, usesAfter, allFit}
-use Rattle.strike.specs.Strike.{endsRight}
 use Rattle.withdraw.specs.Relation.{withdrawEquationNo, withdrawQueryNo}
 use Rattle.withdraw.specs.Answers.{withdrawEquation, withdrawEquationEquations, withdrawQuery, withdrawQueryQueries, withdrawQueryUses}
 
@@ -117,7 +116,7 @@ pub record EquationCases : Type 0 where
   pub refused-words : withdrawEquationEquations (stated 2 5) words 0 ≡ words
 
 pub equation-cases : EquationCases
-unfolding ask _▸_ withdrawEquationNo endsRight sizeAt
+unfolding ask _▸_ withdrawEquationNo sizeAt
 equation-cases = record {
   first-answer = refl;
   first-words = refl;

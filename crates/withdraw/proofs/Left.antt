@@ -16,9 +16,8 @@ use Rattle.words.specs.Pieces.{wordsOf, flat}
 use Rattle.words.proofs.Held.{begins-fits, flat-length}
 use Rattle.uses.specs.Uses.{usesFit, usesAsks}
 use Rattle.allocator.specs.Slots.{Pair}
-use Rattle.expr.specs.Equation.{Equation, equationsWords, equationsEnd}
+use Rattle.expr.specs.Equation.{Equation, equationsWords, equationsEnd, endsRight}
 use Rattle.expr.proofs.Held.{two-each}
-use Rattle.strike.specs.Strike.{endsRight}
 use Rattle.permutation.specs.Sharing.{afterFive}
 use Rattle.permutation.specs.Relation.{queriesAsks}
 use Rattle.permutation.specs.declared.PermutationRelation.{PermutationRelation}
@@ -36,7 +35,6 @@ after-no k false x y f =
     stays _ _ no ∙ sym (stays _ _ no)
 
 ends-true : (count : ℕ) (held : List ℕ) → equationsEnd count held ≡ length held → ask 11 (endsRight count held) ▸ 0 ≡ 0
-unfolding endsRight
 ends-true count held z = goes-on _ _ (ask-yes 11 _ (eq-eqb _ _ z))
 
 module _ (width : ℕ) (rel : PermutationRelation) (slots queries equations uses : List ℕ)

@@ -1,13 +1,14 @@
 -- A withdrawal keeps the length of every store, and the words that it frees are 0: of a store's words those before the
 -- freed ones, the freed ones, and those past the old end, which stay. Assumes nothing.
-use Prim.Native.Nat.{ℕ, zero, suc, _+_, _-_, _≤_}
-use mathlib.Core.Path.{_≡_, refl, ap, _∙_}
+use Prim.Native.Nat.{ℕ, _+_, _-_, _≤_}
+use mathlib.Core.Path.{_≡_, ap, _∙_}
 use mathlib.Core.Bool.{true}
 use mathlib.Core.List.{List, _++_}
 use native.Mathlib.Omega.{arith}
 use lib.ListN.{length, take, drop, replicate, length-append, length-take, length-drop}
 use lib.Seq.{drop-at}
 use Rattle.limits.specs.Questions.{onYes}
+use Rattle.limits.proofs.Questions.{onYes-length}
 use Rattle.words.specs.Pieces.{wordsOf}
 use Rattle.uses.specs.Uses.{usesAfter}
 use Rattle.uses.proofs.Counts.{after-length}
@@ -17,11 +18,6 @@ use Rattle.permutation.specs.declared.PermutationRelation.{PermutationRelation}
 use Rattle.withdraw.specs.Relation.{withdrawEquationNo, cellsAt, withdrawQueryNo}
 use Rattle.withdraw.specs.Answers.{placeOf, sizeOf, withdrawEquationEquations, withdrawQueryQueries, withdrawQueryUses}
 use Rattle.withdraw.proofs.Accepted.{withdrawEquation-yes, size-fits, withdrawQuery-yes, query-fits}
-
--- by a number: of one length either way
-kept : (k : ℕ) (new old : List ℕ) → (k ≡ 0 → length new ≡ length old) → length (onYes k new old) ≡ length old
-kept zero new old f = f refl
-kept (suc k) new old f = refl
 
 -- from where the words that are left end, n zeros, and then what was past the old end
 struck-freed : (at n end : ℕ) (s : List ℕ) → at + n ≤ end → end ≤ length s
@@ -37,7 +33,7 @@ module _ (rel : PermutationRelation) (slots : ℕ) (queries uses : List ℕ) (i 
 
   pub withdrawQueryQueries-length : length (withdrawQueryQueries rel slots queries uses i) ≡ length queries
   withdrawQueryQueries-length =
-      kept (withdrawQueryNo rel slots queries uses i) left queries
+      onYes-length (withdrawQueryNo rel slots queries uses i) left queries
       (λ z.
       let y = withdrawQuery-yes rel slots queries uses i z in
       struck-size (wordsOf (rel .width) i) (rel .width + rel .width) (wordsOf (rel .width) (rel .queries)) queries
@@ -45,7 +41,7 @@ module _ (rel : PermutationRelation) (slots : ℕ) (queries uses : List ℕ) (i 
 
   pub withdrawQueryUses-length : length (withdrawQueryUses rel slots queries uses i) ≡ length uses
   withdrawQueryUses-length =
-      kept (withdrawQueryNo rel slots queries uses i) (usesAfter true uses (cellsAt rel queries i)) uses
+      onYes-length (withdrawQueryNo rel slots queries uses i) (usesAfter true uses (cellsAt rel queries i)) uses
       (λ z. after-length true uses (cellsAt rel queries i))
 
   -- accepted: exactly the freed words are 0, and the words past the old end stay
@@ -65,7 +61,7 @@ module _ (rel : PermutationRelation) (equations : List ℕ) (i : ℕ) where
 
   pub withdrawEquationEquations-length : length (withdrawEquationEquations rel equations i) ≡ length equations
   withdrawEquationEquations-length =
-      kept (withdrawEquationNo rel equations i) rest equations
+      onYes-length (withdrawEquationNo rel equations i) rest equations
       (λ z.
       let y = withdrawEquation-yes rel equations i z in
       struck-size (placeOf rel equations i) (sizeOf rel equations i) (rel .words) equations (size-fits rel equations i y) (y .held))

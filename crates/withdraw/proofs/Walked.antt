@@ -10,8 +10,8 @@ use lib.ListN.{length, take, drop, length-drop}
 use lib.Seq.{take-all}
 use Rattle.limits.specs.Questions.{ask, _▸_, question, firstNo}
 use Rattle.limits.proofs.Questions.{both, goes-on, says-yes, stays, ▸-assoc, zero-▸, ▸-zero, firstNo-append}
-use Rattle.expr.specs.Equation.{equationsEnd}
-use Rattle.strike.specs.Strike.{endWithin, endsRight}
+use Rattle.expr.specs.Equation.{equationsEnd, endsRight}
+use Rattle.strike.specs.Strike.{endWithin}
 use Rattle.strike.proofs.Ends.{ends-by, end-split}
 use Rattle.recording.specs.Relation.{addEquationSizes}
 use Rattle.permutation.specs.declared.PermutationRelation.{PermutationRelation}
@@ -36,7 +36,7 @@ ends-part at n r s q h end e =
 
 -- the equations before i, and those from i on, are all of them
 pub ends-whole : (n i : ℕ) (s : List ℕ) → i ≤ n → endsFrom (endWithin i s) (n - i) s ≡ endsRight n s
-unfolding endsFrom endWithin endsRight
+unfolding endsFrom endWithin
 ends-whole n i s h = go (leb (equationsEnd i s) (length s)) refl
   where
     all : equationsEnd n s ≡ equationsEnd i s + equationsEnd (n - i) (drop (equationsEnd i s) s)

@@ -7,8 +7,8 @@ use lib.Dec.{ltb}
 use lib.ListN.{length, take, drop}
 use Rattle.limits.specs.Questions.{Question, question, firstNo}
 use Rattle.words.specs.Pieces.{wordsOf}
+use Rattle.expr.specs.Equation.{endsRight}
 use Rattle.uses.specs.Uses.{usesAsks}
-use Rattle.strike.specs.Strike.{endsRight}
 use Rattle.permutation.specs.Sharing.{Sharing, alone}
 use Rattle.permutation.specs.declared.PermutationRelation.{PermutationRelation}
 use Rattle.recording.specs.Relation.{queryFront, addEquationFront}

@@ -4,7 +4,7 @@ use mathlib.Core.Bool.{Bool, _&&_}
 use mathlib.Core.List.{List}
 use lib.Dec.{leb}
 use lib.ListN.{length, drop}
-use Rattle.strike.specs.Strike.{endsRight}
+use Rattle.expr.specs.Equation.{endsRight}
 
 -- do n equations from place `at` on, which is within the words, end exactly at their end?
 unfoldable pub endsFrom : (at n : ℕ) → List ℕ → Bool

@@ -4,13 +4,16 @@
 use borrow.Author.Needs.{needs}
 use native.Mathlib.Omega.{arith}
 use denote.Ref.{now}
-use Prim.Native.Nat.{ℕ, _^_, _≤_, _<_}
+use Prim.Native.Nat.{ℕ, _≤_}
 use mathlib.Core.Path.{_≡_, sym, ap, ap₂, _∙_}
 use lib.ListN.{length, take, replicate}
 use Rattle.limits.specs.Numbers.{maxCount}
-use Rattle.compile.specs.Gate.{GateLent, gateLent, PutsPublics, preparedNo}
+use Rattle.limits.specs.declared.Outcome.the-variants as outcome
+use Rattle.instance.specs.declared.PermutationInstance.{PermutationInstance}
+use Rattle.compile.specs.declared.Compiled.{Compiled}
+use Rattle.compile.specs.Gate.{GateLent, gateLent, PutsPublics, preparedNo, askedMade}
 use Rattle.compile.proofs.Publics.{take-few}
-use Rattle.compile.proofs.Gate.{codeNo, code-by, refuses-first, refuses-made, accepts}
+use Rattle.compile.proofs.Gate.{codeNo, refuses-first, refuses-made, accepts}
 use Rattle.compile.proofs.Facts.{prepared-facts}
 use Rattle.compile.proofs.compile.Statement.{statement}
 use Rattle.compile.proofs.compile.Tie as tie
@@ -46,26 +49,22 @@ asking p = p .before .before .before .before
 
 publics-made : (p : tie.After-put-publics) → let f = filling (asking p) in
     PutsPublics (take (start f .args .rel .vars) (now (start f .args .slots))) (f .fill .last .0) (p .put-publics .result) (p .put-publics .last .0)
-publics-made p = rw (p .before .before .held-words .ensures) at (p .put-publics .ensures)
+publics-made p = rw (p .before .held-words .ensures) at (p .put-publics .ensures)
 
 -- 10, 16 and 13 to 15
-abbrev making : tie.After-asked-used → tie.After-put-publics
-making v = v .before .before .before .before .before .before .before
+abbrev making : tie.After-asked-made → tie.After-put-publics
+making v = v .before .before .before
 
-made-asked : (v : tie.After-asked-used) → let p = making v in
-    v .asked-used .result ≡ codeNo (lent (start (filling (asking p)))) (p .put-publics .result)
+made-asked : (v : tie.After-asked-made) → let p = making v in
+    v .asked-made .result ≡ codeNo (lent (start (filling (asking p)))) (p .put-publics .result)
 made-asked v =
-    let e = v .before in
     let p = making v in
     let s = asking p in
     let f = filling s in
-    code-by (lent (start f)) (p .put-publics .result) _ _ _ _ _ _ _ _ (p .put-publics .kept .0 ∙ f .fill .kept .0) (clearing s .fill2 .kept .0)
-    (p .before .before .held-words .ensures) (e .held-words2 .ensures) (e .before .before .before .asked .ensures) (e .before .before .asked2 .ensures)
-    (e .before .asked3 .ensures) (v .asked-used .ensures)
-
--- counts of a record are below 2^32
-counts-fit : (o : tie.Start) → (o .args .rel .vars < 2 ^ 64) × (o .args .rel .words < 2 ^ 64)
-counts-fit o = search needs
+    let a = start f .args in
+    v .asked-made .ensures
+    ∙ ap₂ (λ (n m : ℕ). askedMade (a .rel) (now (a .slots)) (now (a .equations)) (now (a .uses)) (p .put-publics .result) n m)
+    (p .put-publics .kept .0 ∙ f .fill .kept .0) (clearing s .fill2 .kept .0)
 
 fill-requires : tie.Need-fill-requires
 fill-requires c κs = search needs
@@ -109,34 +108,10 @@ put-publics-requires c κs =
     let p = prepared-facts (lent o) (sym (first-asked s) ∙ e .if1 .left) in
     let t : length (take (o .args .rel .vars) (now (o .args .slots))) ≤ maxCount =
     omega (arith, take-few (o .args .rel .vars) (now (o .args .slots)), p .relation .vars-high) in
-    rw (c .before .held-words .ensures) t
+    rw (c .held-words .ensures) t
 
-cast-asked : tie.Need-cast-asked
-cast-asked c = search needs
-
-mul-asked : tie.Need-mul-asked
-mul-asked c = search needs
-
-asked-requires : tie.Need-asked-requires
-asked-requires c κs = search needs
-
-asked-requires-2 : tie.Need-asked-requires-2
-asked-requires-2 c κs = search needs
-
-cast-asked-2 : tie.Need-cast-asked-2
-cast-asked-2 c = record { fits = counts-fit (start (filling (asking (c .before .before .before .before)))) .0 }
-
-asked-requires-3 : tie.Need-asked-requires-3
-asked-requires-3 c κs = search needs
-
-cast-held-words-2 : tie.Need-cast-held-words-2
-cast-held-words-2 c = record { fits = counts-fit (start (filling (asking (c .before .before .before .before .before)))) .1 }
-
-held-words-requires-2 : tie.Need-held-words-requires-2
-held-words-requires-2 c κs = search needs
-
-asked-used-requires : tie.Need-asked-used-requires
-asked-used-requires c κs = search needs
+asked-made-requires : tie.Need-asked-made-requires
+asked-made-requires c κs = search needs
 
 fill-requires-3 : tie.Need-fill-requires-3
 fill-requires-3 c κs = search needs
@@ -170,6 +145,9 @@ returns-2 c =
       scratch = clearing s .fill2 .ensures;
     }
 
+instance-of-requires : tie.Need-instance-of-requires
+instance-of-requires c κs = search needs
+
 same-length-5 : tie.Need-same-length-5
 same-length-5 c = search needs
 
@@ -178,13 +156,17 @@ same-length-6 c = search needs
 
 returns-3 : tie.Need-returns-3
 returns-3 c =
-    let v = c .before in
+    let v = c .before .before in
     let p = making v in
     let s = asking p in
     let f = filling s in
     let r = accepts (lent (start f)) _ (first-asked s) (p .before .before .before .if1 .left) _ (f .fill .ensures) _ _ (publics-made p) _ (made-asked v)
-    (c .if2 .left) in
-    record { answer = r .answer; publics = r .publics; scratch = clearing s .fill2 .ensures }
+    (c .before .if2 .left) in
+    record {
+      answer = ap (λ (i : PermutationInstance). record { outcome = outcome.Accepted; instance = i }) (c .instance-of .ensures) ∙ r .answer;
+      publics = r .publics;
+      scratch = clearing s .fill2 .ensures;
+    }
 
 pub compile-spec : {M : Type 1} → statement M
 compile-spec =
@@ -200,20 +182,13 @@ compile-spec =
     cast-held-words
     held-words-requires
     put-publics-requires
-    cast-asked
-    mul-asked
-    asked-requires
-    asked-requires-2
-    cast-asked-2
-    asked-requires-3
-    cast-held-words-2
-    held-words-requires-2
-    asked-used-requires
+    asked-made-requires
     fill-requires-3
     refused-requires-2
     same-length-3
     same-length-4
     returns-2
+    instance-of-requires
     same-length-5
     same-length-6
     returns-3)

@@ -4,11 +4,9 @@ use borrow.Author.Needs.{needs}
 use denote.Ref.{now}
 use Prim.Native.Nat.{ℕ}
 use mathlib.Core.Path.{_≡_, _∙_}
-use mathlib.Core.List.{List}
 use lib.ListN.{length}
 use Rattle.limits.proofs.Questions.{▸-assoc, zero-▸, ▸-zero}
 use Rattle.instance.specs.Looks.{publicValueNo}
-use Rattle.instance.specs.declared.PermutationInstance.{PermutationInstance}
 use Rattle.instance.proofs.Looks.{valueOf, publicValue-refused, publicValue-accepted, publicValue-fits}
 use Rattle.instance.proofs.public_value.Statement.{statement}
 use Rattle.instance.proofs.public_value.Tie as tie

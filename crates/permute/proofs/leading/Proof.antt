@@ -1,7 +1,6 @@
 -- `permute::leading` meets its contract. The invariant is `Leading`: the steps found and those at the front of
 -- the steps left come to the whole. The measure is the steps left. Assumes nothing.
 use Prim.Native.Nat.{_-_}
-use native.Mathlib.Omega.{arith}
 use borrow.Author.Needs.{needs}
 use borrow.Author.Tests.{not-true, not-false}
 use Rattle.permute.proofs.Trace.{Leading, leading-start, leading-done, leading-short, evaluates-asked, leading-stop, leading-turn}

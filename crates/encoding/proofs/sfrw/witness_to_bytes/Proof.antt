@@ -5,8 +5,7 @@ use mathlib.Core.Path.{sym, _∙_}
 use native.Mathlib.Omega.{arith}
 use borrow.Author.Needs.{needs}
 use denote.Ref.{now}
-use lib.ListN.{length, take}
-use Rattle.words.specs.Pieces.{wordsOf}
+use lib.ListN.{length}
 use Rattle.header.specs.Form.{letterW, version, headerBytes}
 use Rattle.encoding.specs.Form.{witnessFixed}
 use Rattle.encoding.specs.Answers.{witnessToBytes}

@@ -1,7 +1,6 @@
 -- `sfrw::witness_to_bytes_no` meets its contract: the chain of calls is the list of questions, with 10 by the held
 -- words.
 -- Assumes nothing.
-use Prim.Native.Nat.{ℕ}
 use mathlib.Core.Path.{_≡_, _∙_}
 use borrow.Author.Needs.{needs}
 use denote.Ref.{now}
