@@ -1,25 +1,83 @@
--- `withdraw::withdraw_query` meets its contract: the counts answer what is asked last, and the query's words are struck.
+-- `withdraw_query` meets its contract: the counts answer what is asked last, and the query's words are struck.
 -- Assumes nothing.
 use Prim.Native.Nat.{ℕ, _+_, _-_}
-use mathlib.Core.Path.{sym, ap, _∙_}
+use mathlib.Core.Path.{_≡_, sym, ap, _∙_}
 use mathlib.Core.Bool.{true}
+use mathlib.Core.List.{List}
 use native.Mathlib.Omega.{arith}
 use denote.Ref.{now}
 use lib.ListN.{length}
 use Rattle.limits.specs.declared.Outcome.the-variants as outcome
 use Rattle.limits.proofs.Answered.{store-refused, store-accepted}
 use Rattle.words.specs.Pieces.{wordsOf}
-use Rattle.uses.specs.Uses.{usesAfter}
+use Rattle.uses.specs.Uses.{usesAfter, CountsCells}
 use Rattle.strike.specs.Strike.{struckWords}
+use Rattle.permutation.specs.declared.PermutationRelation.{PermutationRelation}
 use Rattle.permutation.specs.Answers.{relation}
 use Rattle.permutation.proofs.Answered.{recorded-refused, recorded-accepted}
 use Rattle.withdraw.specs.Relation.{cellsAt, withdrawQueryNo}
 use Rattle.withdraw.specs.Answers.{lessQuery}
-use Rattle.withdraw.proofs.Accepted.{withdrawQuery-yes, query-fits, query-struck}
+use Rattle.withdraw.proofs.Accepted.{WithdrawQuery, withdrawQuery-yes, query-fits, query-struck}
 use Rattle.withdraw.proofs.Tallied.{query-early, query-late, same-cells, uses-left, stray-left}
 use borrow.Author.Needs.{needs}
 use Rattle.withdraw.proofs.withdraw_query.Statement.{statement}
 use Rattle.withdraw.proofs.withdraw_query.Tie as tie
+
+-- ---- what was lent, and what is known at each stage
+module _ (o : tie.Start) where
+  abbrev rel : PermutationRelation
+  rel = o .args .rel
+
+  abbrev len : ℕ
+  len = length (now (o .args .slots))
+
+  abbrev store : List ℕ
+  store = now (o .args .queries)
+
+  abbrev counts : List ℕ
+  counts = now (o .args .uses)
+
+  abbrev i : ℕ
+  i = o .args .i
+
+  abbrev number : ℕ
+  number = withdrawQueryNo rel len store counts i
+
+  abbrev cells : List ℕ
+  cells = cellsAt rel store i
+
+  -- the record and the queries of an accepted withdrawal
+  abbrev left : PermutationRelation
+  left = lessQuery rel len cells
+
+  abbrev words : List ℕ
+  words = struckWords (wordsOf (rel .width) i) (rel .width + rel .width) (wordsOf (rel .width) (rel .queries)) store
+
+-- 1, 2 and 45 said yes
+abbrev start : tie.Else1 → tie.Start
+start d = d .before .before .before .before .before .before .before
+
+-- the cells are counted
+abbrev begun : tie.After-count-cells → tie.Start
+begun w = start (w .before .before .before .before .before)
+
+counted : (w : tie.After-count-cells) → let o = begun w in
+    CountsCells true (len o) (counts o) (rel o .stray) (cells o) 0 (w .count-cells .result) (w .count-cells .last .1 .1 .0)
+counted w = same-cells _ _ _ _ _ _ _ _ (w .before .before .before .cells-at .ensures) (w .count-cells .ensures)
+
+late : (w : tie.After-count-cells) → w .count-cells .result .number ≡ number (begun w)
+late w =
+    let d = w .before .before .before .before .before in
+    let o = start d in
+    query-late (rel o) (len o) (store o) (counts o) (i o) _ _ (d .before .before .before .asked-queries .ensures) (d .before .asked .ensures)
+    (d .if1 .left) _ (counted w .number)
+
+-- all said yes
+abbrev counting : tie.Else2 → tie.After-count-cells
+counting t = t .before .before .before .before
+
+yes : (t : tie.Else2) → let o = begun (counting t) in WithdrawQuery (rel o) (len o) (store o) (counts o) (i o)
+yes t = withdrawQuery-yes _ _ _ _ _ (sym (late (counting t)) ∙ t .if2 .left)
 
 asked-queries-requires : tie.Need-asked-queries-requires
 asked-queries-requires c κs = search needs
@@ -29,17 +87,12 @@ asked-requires c κs = search needs
 
 returns : tie.Need-returns
 returns c =
-    let a = c .before .before .before .before .before .before .before .args in
-    let len = length (now (a .slots)) in
-    let q = now (a .queries) in
-    let u = now (a .uses) in
-    let width = a .rel .width in
-    let cells = cellsAt (a .rel) q (a .i) in
-    let no = withdrawQueryNo (a .rel) len q u (a .i) in
-    let e = query-early (a .rel) len q u (a .i) _ _ (c .before .before .before .asked-queries .ensures) (c .before .asked .ensures) (c .if1 .taken) in record {
-      answer = recorded-refused no _ e (lessQuery (a .rel) len cells) (a .rel) (c .if1 .taken);
-      queries = store-refused no _ e (struckWords (wordsOf width (a .i)) (width + width) (wordsOf width (a .rel .queries)) q) q (c .if1 .taken);
-      uses = store-refused no _ e (usesAfter true u cells) u (c .if1 .taken);
+    let o = c .before .before .before .before .before .before .before in
+    let e = query-early (rel o) (len o) (store o) (counts o) (i o) _ _ (c .before .before .before .asked-queries .ensures) (c .before .asked .ensures) (c .if1 .taken) in
+    record {
+      answer = recorded-refused (number o) _ e (left o) (rel o) (c .if1 .taken);
+      queries = store-refused (number o) _ e (words o) (store o) (c .if1 .taken);
+      uses = store-refused (number o) _ e (usesAfter true (counts o) (cells o)) (counts o) (c .if1 .taken);
     }
 
 cells-at-requires : tie.Need-cells-at-requires
@@ -59,19 +112,13 @@ same-length-2 c = search needs
 
 returns-2 : tie.Need-returns-2
 returns-2 c =
-    let t = c in
-    let a = t .before .before .before .before .before .before .before .before .before .before .before .before .before .before .before .before .args in
-    let len = length (now (a .slots)) in
-    let q = now (a .queries) in
-    let u = now (a .uses) in
-    let cells = cellsAt (a .rel) q (a .i) in
-    let m = same-cells len u (a .rel .stray) _ _ _ _ _ (t .before .before .before .before .before .before .before .cells-at .ensures) (t .before .before .before .before .count-cells .ensures) in
-    let e = query-late (a .rel) len q u (a .i) _ _ (t .before .before .before .before .before .before .before .before .before .before .before .before .asked-queries .ensures) (t .before .before .before .before .before .before .before .before .before .before .asked .ensures) (t .before .before .before .before .before .before .before .before .before .if1 .left) _ (m .number) in
-    let width = a .rel .width in
-    let no = withdrawQueryNo (a .rel) len q u (a .i) in record {
-      answer = recorded-refused no _ e (lessQuery (a .rel) len cells) (a .rel) (c .if2 .taken);
-      queries = store-refused no _ e (struckWords (wordsOf width (a .i)) (width + width) (wordsOf width (a .rel .queries)) q) q (c .if2 .taken);
-      uses = uses-left len u (a .rel .stray) cells _ _ _ m no e;
+    let w = c .before .before .before .before in
+    let o = begun w in
+    let e = late w in
+    record {
+      answer = recorded-refused (number o) _ e (left o) (rel o) (c .if2 .taken);
+      queries = store-refused (number o) _ e (words o) (store o) (c .if2 .taken);
+      uses = uses-left (len o) (counts o) (rel o .stray) (cells o) _ _ _ (counted w) (number o) e;
     }
 
 cast-size : tie.Need-cast-size
@@ -85,49 +132,21 @@ add-size c = search needs
 
 mul-strike-words : tie.Need-mul-strike-words
 mul-strike-words c =
-    let t = c .before in
-    let a = t .before .before .before .before .before .before .before .before .before .before .before .before .before .before .before .before .args in
-    let len = length (now (a .slots)) in
-    let q = now (a .queries) in
-    let u = now (a .uses) in
-    let cells = cellsAt (a .rel) q (a .i) in
-    let m = same-cells len u (a .rel .stray) _ _ _ _ _ (t .before .before .before .before .before .before .before .cells-at .ensures) (t .before .before .before .before .count-cells .ensures) in
-    let e = query-late (a .rel) len q u (a .i) _ _ (t .before .before .before .before .before .before .before .before .before .before .before .before .asked-queries .ensures) (t .before .before .before .before .before .before .before .before .before .before .asked .ensures) (t .before .before .before .before .before .before .before .before .before .if1 .left) _ (m .number) in
-    let y = withdrawQuery-yes (a .rel) len q u (a .i) (sym e ∙ t .if2 .left) in
-    let f = query-fits (a .rel) len q u (a .i) y in
+    let y = yes (c .before) in
+    let f = query-fits _ _ _ _ _ y in
     record { fits = omega (arith, y .held, y .store) }
 
 cast-strike-words : tie.Need-cast-strike-words
 cast-strike-words c = search needs
 
 mul-strike-words-2 : tie.Need-mul-strike-words-2
-mul-strike-words-2 c =
-    let t = c .before .before in
-    let a = t .before .before .before .before .before .before .before .before .before .before .before .before .before .before .before .before .args in
-    let len = length (now (a .slots)) in
-    let q = now (a .queries) in
-    let u = now (a .uses) in
-    let cells = cellsAt (a .rel) q (a .i) in
-    let m = same-cells len u (a .rel .stray) _ _ _ _ _ (t .before .before .before .before .before .before .before .cells-at .ensures) (t .before .before .before .before .count-cells .ensures) in
-    let e = query-late (a .rel) len q u (a .i) _ _ (t .before .before .before .before .before .before .before .before .before .before .before .before .asked-queries .ensures) (t .before .before .before .before .before .before .before .before .before .before .asked .ensures) (t .before .before .before .before .before .before .before .before .before .if1 .left) _ (m .number) in
-    let y = withdrawQuery-yes (a .rel) len q u (a .i) (sym e ∙ t .if2 .left) in
-    record { fits = omega (arith, y .held, y .store) }
+mul-strike-words-2 c = let y = yes (c .before .before) in record { fits = omega (arith, y .held, y .store) }
 
 strike-words-requires : tie.Need-strike-words-requires
 strike-words-requires c κs = search needs
 
 sub-t29 : tie.Need-sub-t29
-sub-t29 c =
-    let t = c .before .before .before .before .before .before in
-    let a = t .before .before .before .before .before .before .before .before .before .before .before .before .before .before .before .before .args in
-    let len = length (now (a .slots)) in
-    let q = now (a .queries) in
-    let u = now (a .uses) in
-    let cells = cellsAt (a .rel) q (a .i) in
-    let m = same-cells len u (a .rel .stray) _ _ _ _ _ (t .before .before .before .before .before .before .before .cells-at .ensures) (t .before .before .before .before .count-cells .ensures) in
-    let e = query-late (a .rel) len q u (a .i) _ _ (t .before .before .before .before .before .before .before .before .before .before .before .before .asked-queries .ensures) (t .before .before .before .before .before .before .before .before .before .before .asked .ensures) (t .before .before .before .before .before .before .before .before .before .if1 .left) _ (m .number) in
-    let y = withdrawQuery-yes (a .rel) len q u (a .i) (sym e ∙ t .if2 .left) in
-    omega (arith, y .some)
+sub-t29 c = let y = yes (c .before .before .before .before .before .before) in omega (arith, y .some)
 
 same-length-3 : tie.Need-same-length-3
 same-length-3 c = search needs
@@ -138,26 +157,20 @@ same-length-4 c = search needs
 returns-3 : tie.Need-returns-3
 returns-3 c =
     let t = c .before .before .before .before .before .before in
-    let a = t .before .before .before .before .before .before .before .before .before .before .before .before .before .before .before .before .args in
-    let len = length (now (a .slots)) in
-    let q = now (a .queries) in
-    let u = now (a .uses) in
-    let cells = cellsAt (a .rel) q (a .i) in
-    let m = same-cells len u (a .rel .stray) _ _ _ _ _ (t .before .before .before .before .before .before .before .cells-at .ensures) (t .before .before .before .before .count-cells .ensures) in
-    let e = query-late (a .rel) len q u (a .i) _ _ (t .before .before .before .before .before .before .before .before .before .before .before .before .asked-queries .ensures) (t .before .before .before .before .before .before .before .before .before .before .asked .ensures) (t .before .before .before .before .before .before .before .before .before .if1 .left) _ (m .number) in
-    let y = withdrawQuery-yes (a .rel) len q u (a .i) (sym e ∙ t .if2 .left) in
+    let w = counting t in
+    let o = begun w in
+    let e = late w in
     let z = t .if2 .left in
-    let width = a .rel .width in
-    let no = withdrawQueryNo (a .rel) len q u (a .i) in record {
+    record {
       answer =
-          ap (λ (n : ℕ). record { outcome = outcome.Accepted; relation = relation width (a .rel .vars) (a .rel .queries - 1) (a .rel .equations) (a .rel .words) n })
-          (stray-left len u (a .rel .stray) cells _ _ _ m z)
-          ∙ recorded-accepted no _ e (lessQuery (a .rel) len cells) (a .rel) z;
+          ap (λ (n : ℕ). record { outcome = outcome.Accepted; relation = relation (rel o .width) (rel o .vars) (rel o .queries - 1) (rel o .equations) (rel o .words) n })
+          (stray-left (len o) (counts o) (rel o .stray) (cells o) _ _ _ (counted w) z)
+          ∙ recorded-accepted (number o) _ e (left o) (rel o) z;
       queries =
           c .before .before .before .strike-words .ensures
-          ∙ query-struck (a .rel) len q u (a .i) y
-          ∙ store-accepted no _ e (struckWords (wordsOf width (a .i)) (width + width) (wordsOf width (a .rel .queries)) q) q z;
-      uses = uses-left len u (a .rel .stray) cells _ _ _ m no e;
+          ∙ query-struck _ _ _ _ _ (yes t)
+          ∙ store-accepted (number o) _ e (words o) (store o) z;
+      uses = uses-left (len o) (counts o) (rel o .stray) (cells o) _ _ _ (counted w) (number o) e;
     }
 
 pub withdraw-query-spec : {M : Type 1} → statement M
