@@ -1,14 +1,13 @@
 -- A call that counts a query's cells: its number in two parts, what is asked before the counts, and 11 and 10, which are
--- asked of them; and what it leaves by that number. Assumes nothing.
+-- asked of them. Assumes nothing.
 use Prim.Native.Nat.{ℕ}
-use mathlib.Core.Path.{_≡_, refl, sym, ap, _∙_, subst}
+use mathlib.Core.Path.{_≡_, refl, sym, ap, _∙_}
 use mathlib.Core.Bool.{false}
 use mathlib.Core.List.{List, _++_, append-assoc}
 use lib.ListN.{length}
-use Rattle.limits.specs.Questions.{_▸_, Question, firstNo, onYes}
-use Rattle.limits.proofs.Questions.{goes-on, stays, zero-▸, firstNo-append, onYes-yes}
-use Rattle.uses.specs.Uses.{usesAsks, usesAfter, strayAfter, CountsCells}
-use Rattle.uses.specs.declared.Recount.{Recount}
+use Rattle.limits.specs.Questions.{_▸_, Question, firstNo}
+use Rattle.limits.proofs.Questions.{goes-on, stays, zero-▸, firstNo-append}
+use Rattle.uses.specs.Uses.{usesAsks}
 use Rattle.allocator.specs.Slots.{roomAsks}
 use Rattle.permutation.specs.Sharing.{alone}
 use Rattle.permutation.specs.declared.PermutationRelation.{PermutationRelation}
@@ -74,18 +73,3 @@ module _ (rel : PermutationRelation) (slots len : ℕ) (uses input : List ℕ) (
   mint-late =
       late (allocatePermutationFront alone rel slots len (length uses) input) (roomAsks (rel .vars) slots (rel .width)) rel slots len uses
       (mintCells rel input) (allocatePermutationNo rel slots len uses input) k refl e
-
--- ---- what the counts leave, by the call's number
--- the same outputs, in other words
-pub same-output : (len : ℕ) (uses : List ℕ) (stray : ℕ) (input a b : List ℕ) (rest : ℕ) (r : Recount) (left : List ℕ) → a ≡ b
-    → CountsCells false len uses stray (input ++ a) rest r left → CountsCells false len uses stray (input ++ b) rest r left
-same-output len uses stray input a b rest r left e t =
-    subst (λ (l : List ℕ). CountsCells false len uses stray (input ++ l) rest r left) e t
-
-module _ (len : ℕ) (uses : List ℕ) (stray : ℕ) (cells : List ℕ) (rest : ℕ) (r : Recount) (left : List ℕ)
-    (t : CountsCells false len uses stray cells rest r left) where
-  pub uses-left : (k : ℕ) → r .number ≡ k → left ≡ onYes k (usesAfter false uses cells) uses
-  uses-left k e = t .uses-are ∙ ap (λ (n : ℕ). onYes n (usesAfter false uses cells) uses) e
-
-  pub stray-left : r .number ≡ 0 → r .stray ≡ strayAfter false len stray cells
-  stray-left z = t .stray-is ∙ onYes-yes (r .number) (strayAfter false len stray cells) stray z

@@ -5,4 +5,5 @@ pub mod Tried
 pub mod Fits
 pub mod Right
 pub mod Asked
+pub mod Left
 pub mod Examples

@@ -1,10 +1,10 @@
 -- 12 to 15, and 16, say yes exactly where these facts on lists hold; each test by itself. Assumes nothing.
-use Prim.Native.Nat.{ℕ, _≤_, _<_}
+use Prim.Native.Nat.{ℕ, _<_}
 use mathlib.Core.Path.{_≡_, refl, sym, _∙_}
 use mathlib.Core.Bool.{Bool, true, _||_, or-true}
 use mathlib.Core.List.{List, [], _∷_}
 use mathlib.Core.Logic.{_⊎_, inl, inr}
-use borrow.Author.Tests.{lt-ltb, eq-eqb, ltb-true, leb-true, eqb-true}
+use borrow.Author.Tests.{lt-ltb, eq-eqb, ltb-true, eqb-true}
 use lib.Dec.{eqb}
 use Rattle.limits.specs.Questions.{firstNo}
 use Rattle.limits.proofs.Questions.{ask-yes, says-yes, both, join, firstNo-append}
@@ -13,7 +13,7 @@ use Rattle.words.specs.Pieces.{flat}
 use Rattle.expr.specs.Equation.{Term, Equation}
 use Rattle.instance.specs.Parts.{Parts, pairVars}
 use Rattle.held.proofs.Facts.{or-either, Below, allBelow-facts, facts-allBelow}
-use Rattle.validated.specs.Validated.{bound, gateTermsAsks, termwiseAsks, validatedNo, gateNo}
+use Rattle.validated.specs.Validated.{bound, gateTermsAsks, termwiseAsks, validatedNo}
 
 -- a term's wire is below the count, and it is bound or its weight is 0
 abbrev pub ValidTerm : ℕ → (ℕ → Bool) → Term → Type 0
@@ -79,8 +79,3 @@ facts-validated parts v =
     join _ _ (ask-yes 12 _ (facts-allBelow (parts .vars) (pairVars (parts .publics)) (v .publics)))
     (join _ _ (ask-yes 13 _ (facts-allBelow (parts .vars) (flat (parts .queries)) (v .queries)))
     (valid-equations (parts .vars) (bound parts) (parts .equations) (v .terms)))
-
--- 16, then 12 to 15
-pub gate-facts : (parts : Parts) (scratch : ℕ) → gateNo parts scratch ≡ 0 → (parts .vars ≤ scratch) × (validatedNo parts ≡ 0)
-unfolding gateNo validatedNo
-gate-facts parts scratch e = let a = both _ _ e in (leb-true (parts .vars) scratch (says-yes 15 _ (a .0)), a .1)

@@ -10,7 +10,6 @@ use lib.ListN.{length, take, replicate}
 use Rattle.limits.specs.Numbers.{maxCount}
 use Rattle.limits.specs.declared.Outcome.the-variants as outcome
 use Rattle.instance.specs.declared.PermutationInstance.{PermutationInstance}
-use Rattle.compile.specs.declared.Compiled.{Compiled}
 use Rattle.compile.specs.Gate.{GateLent, gateLent, PutsPublics, preparedNo, askedMade}
 use Rattle.compile.proofs.Publics.{take-few}
 use Rattle.compile.proofs.Gate.{codeNo, refuses-first, refuses-made, accepts}

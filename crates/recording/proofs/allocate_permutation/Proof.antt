@@ -1,10 +1,10 @@
--- `recording::allocate_permutation` meets its contract: the counts answer what is asked last; then the slots grow, and two
--- writes, one behind the other, are the query.
+-- `allocate_permutation` meets its contract: the counts answer what is asked last; then the slots grow, and two writes,
+-- one behind the other, are the query.
 -- Assumes nothing.
 use Prim.Native.Nat.{ℕ, _+_}
 use mathlib.Core.Path.{_≡_, sym, ap, _∙_}
 use mathlib.Core.Bool.{false}
-use mathlib.Core.List.{List}
+use mathlib.Core.List.{List, _++_}
 use native.Mathlib.Omega.{arith}
 use denote.Ref.{now}
 use borrow.Author.Tests.{le-leb}
@@ -15,69 +15,130 @@ use Rattle.words.specs.Store.{fitWords}
 use Rattle.words.specs.Pieces.{wordsOf}
 use Rattle.words.proofs.Pieces.{pieces-few}
 use Rattle.words.proofs.Held.{halves-put}
-use Rattle.uses.specs.Uses.{usesAfter}
+use Rattle.uses.specs.Uses.{usesAfter, CountsCells}
+use Rattle.uses.proofs.Left.{uses-left, stray-left, same-cells}
 use Rattle.allocator.specs.Slots.{grownSlots}
 use Rattle.permutation.specs.Answers.{relation, moreVars}
 use Rattle.permutation.specs.declared.First.the-variants as variant
+use Rattle.permutation.specs.declared.PermutationRelation.{PermutationRelation}
 use Rattle.permutation.proofs.Answered.{allocated-refused, allocated-accepted}
 use Rattle.recording.specs.Relation.{upFrom, mintCells}
 use Rattle.recording.specs.Numbers.{allocatePermutationNo}
 use Rattle.recording.specs.Answers.{oneQuery, queriesWith}
-use Rattle.recording.proofs.Accepted.{mints-yes, allocatePermutation-yes}
+use Rattle.recording.proofs.Accepted.{Mints, mints-yes, AllocatePermutation, allocatePermutation-yes}
 use Rattle.recording.proofs.Minted.{upFrom-length, upFrom-take}
-use Rattle.recording.proofs.Tallied.{mint-early, mint-late, same-output, uses-left, stray-left}
+use Rattle.recording.proofs.Tallied.{mint-early, mint-late}
 use borrow.Author.Needs.{needs}
 use Rattle.recording.proofs.allocate_permutation.Statement.{statement}
 use Rattle.recording.proofs.allocate_permutation.Tie as tie
+
+-- ---- what was lent, and what is known at each stage
+module _ (o : tie.Start) where
+  abbrev rel : PermutationRelation
+  rel = o .args .rel
+
+  abbrev slots : List ℕ
+  slots = now (o .args .slots)
+
+  abbrev store : List ℕ
+  store = now (o .args .queries)
+
+  abbrev counts : List ℕ
+  counts = now (o .args .uses)
+
+  abbrev input : List ℕ
+  input = now (o .args .input)
+
+  abbrev output : List ℕ
+  output = upFrom (rel .vars) (rel .width)
+
+  abbrev cells : List ℕ
+  cells = mintCells rel input
+
+  abbrev number : ℕ
+  number = allocatePermutationNo rel (length slots) (length store) counts input
+
+  -- the record, the slots and the queries of an accepted mint
+  abbrev left : PermutationRelation
+  left = oneQuery (moreVars rel (rel .width)) (length slots) cells
+
+  abbrev grown : List ℕ
+  grown = grownSlots (rel .vars) (rel .width) slots
+
+  abbrev words : List ℕ
+  words = queriesWith rel cells store
+
+-- all up to 6 said yes
+abbrev start : tie.Else1 → tie.Start
+start d = d .before .before .before .before .before .before
+
+mints : (d : tie.Else1) → Mints (rel (start d))
+mints d =
+    let o = start d in
+    mints-yes (rel o) (length (slots o)) (length (store o)) (length (counts o)) (input o) (sym (d .before .allocate-permutation-no .ensures) ∙ d .if1 .left)
+
+-- the cells are counted
+abbrev early : tie.After-count-cells → tie.Else1
+early w = w .before .before .before .before .before
+
+abbrev begun : tie.After-count-cells → tie.Start
+begun w = start (early w)
+
+-- of the wires that follow the last one, the first w are the outputs
+minted : (w : tie.After-count-cells) → take (rel (begun w) .width) (w .before .before .before .before .vars-from .result) ≡ output (begun w)
+minted w =
+    let o = begun w in
+    ap (take (rel o .width)) (w .before .before .before .before .vars-from .ensures) ∙ upFrom-take (rel o .vars) (rel o .width) 24 (mints (early w) .width)
+
+counted : (w : tie.After-count-cells) → let o = begun w in
+    CountsCells false (length (slots o)) (counts o) (rel o .stray) (cells o) (w .before .before .asked-one-more .result) (w .count-cells .result)
+    (w .count-cells .last .1 .1 .0)
+counted w = same-cells false _ _ _ _ _ _ _ (w .count-cells .ensures) _ (ap (λ (l : List ℕ). input (begun w) ++ l) (minted w))
+
+late : (w : tie.After-count-cells) → w .count-cells .result .number ≡ number (begun w)
+late w =
+    let d = early w in
+    let o = begun w in
+    mint-late (rel o) (length (slots o)) (length (store o)) (counts o) (input o) _ (d .before .allocate-permutation-no .ensures) (d .if1 .left) _ _
+    (w .before .before .asked-one-more .ensures) (counted w .number)
+
+-- all said yes
+abbrev counting : tie.Else2 → tie.After-count-cells
+counting t = t .before .before .before .before
+
+yes : (t : tie.Else2) → let o = begun (counting t) in AllocatePermutation (rel o) (length (slots o)) (length (store o)) (input o)
+yes t = allocatePermutation-yes _ _ _ _ _ (sym (late (counting t)) ∙ t .if2 .left)
 
 allocate-permutation-no-requires : tie.Need-allocate-permutation-no-requires
 allocate-permutation-no-requires c κs = search needs
 
 returns : tie.Need-returns
 returns c =
-    let a = c .before .before .before .before .before .before .args in
-    let s = now (a .slots) in
-    let q = now (a .queries) in
-    let u = now (a .uses) in
-    let x = now (a .input) in
-    let cells = mintCells (a .rel) x in
-    let no = allocatePermutationNo (a .rel) (length s) (length q) u x in
-    let e = mint-early (a .rel) (length s) (length q) u x _ (c .before .allocate-permutation-no .ensures) (c .if1 .taken) in
-    let h = c .if1 .taken in record {
-      answer = allocated-refused no _ e (oneQuery (moreVars (a .rel) (a .rel .width)) (length s) cells) (a .rel) (a .rel .vars) h;
-      slots = store-refused no _ e (grownSlots (a .rel .vars) (a .rel .width) s) s h;
-      queries = store-refused no _ e (queriesWith (a .rel) cells q) q h;
-      uses = store-refused no _ e (usesAfter false u cells) u h;
+    let o = c .before .before .before .before .before .before in
+    let e = mint-early (rel o) (length (slots o)) (length (store o)) (counts o) (input o) _ (c .before .allocate-permutation-no .ensures) (c .if1 .taken) in
+    let h = c .if1 .taken in
+    record {
+      answer = allocated-refused (number o) _ e (left o) (rel o) (rel o .vars) h;
+      slots = store-refused (number o) _ e (grown o) (slots o) h;
+      queries = store-refused (number o) _ e (words o) (store o) h;
+      uses = store-refused (number o) _ e (usesAfter false (counts o) (cells o)) (counts o) h;
     }
 
 cast-half : tie.Need-cast-half
 cast-half c = search needs
 
 vars-from-requires : tie.Need-vars-from-requires
-vars-from-requires c κs =
-    let t = c in
-    let a = t .before .before .before .before .before .before .args in
-    let g = mints-yes (a .rel) (length (now (a .slots))) (length (now (a .queries))) (length (now (a .uses))) (now (a .input))
-    (sym (t .before .allocate-permutation-no .ensures) ∙ t .if1 .left) in
-    omega (arith, g .vars)
+vars-from-requires c κs = omega (arith, mints c .vars)
 
 array-share-prefix-vars : tie.Need-array-share-prefix-vars
-array-share-prefix-vars c =
-    let t = c .before in
-    let a = t .before .before .before .before .before .before .args in
-    let g = mints-yes (a .rel) (length (now (a .slots))) (length (now (a .queries))) (length (now (a .uses))) (now (a .input))
-    (sym (t .before .allocate-permutation-no .ensures) ∙ t .if1 .left) in
-    omega (arith, g .width)
+array-share-prefix-vars c = omega (arith, mints (c .before) .width)
 
 slice-aggregate-output : tie.Need-slice-aggregate-output
 slice-aggregate-output c =
-    let t = c .before .before in
-    let a = t .before .before .before .before .before .before .args in
-    let g = mints-yes (a .rel) (length (now (a .slots))) (length (now (a .queries))) (length (now (a .uses))) (now (a .input))
-    (sym (t .before .allocate-permutation-no .ensures) ∙ t .if1 .left) in
+    let d = c .before .before in
     let vars = c .before .vars-from .result in
-    let l : length vars ≡ 24 = ap length (c .before .vars-from .ensures) ∙ upFrom-length (a .rel .vars) 24 in
-    sym (length-take-le (a .rel .width) vars (omega (arith, g .width)))
+    let l : length vars ≡ 24 = ap length (c .before .vars-from .ensures) ∙ upFrom-length (rel (start d) .vars) 24 in
+    sym (length-take-le (rel (start d) .width) vars (omega (arith, mints d .width)))
 
 asked-one-more-requires : tie.Need-asked-one-more-requires
 asked-one-more-requires c κs = search needs
@@ -90,29 +151,15 @@ same-length c = search needs
 
 returns-2 : tie.Need-returns-2
 returns-2 c =
-    let t = c in
-    let a = t .before .before .before .before .before .before .before .before .before .before .before .before .before .before .before .args in
-    let len = length (now (a .slots)) in
-    let q = now (a .queries) in
-    let u = now (a .uses) in
-    let x = now (a .input) in
-    let first = a .rel .vars in
-    let width = a .rel .width in
-    let cells = mintCells (a .rel) x in
-    let k = t .before .before .before .before .before .before .before .before .before .before .allocate-permutation-no .ensures in
-    let l = t .before .before .before .before .before .before .before .before .before .if1 .left in
-    let g = mints-yes (a .rel) len (length q) (length u) x (sym k ∙ l) in
-    let vars = t .before .before .before .before .before .before .before .before .vars-from .result in
-    let o : take width vars ≡ upFrom first width = ap (take width) (t .before .before .before .before .before .before .before .before .vars-from .ensures) ∙ upFrom-take first width 24 (g .width) in
-    let m = same-output len u (a .rel .stray) x _ _ _ _ _ o (t .before .before .before .before .count-cells .ensures) in
-    let e = mint-late (a .rel) len (length q) u x _ k l _ _ (t .before .before .before .before .before .before .asked-one-more .ensures) (m .number) in
-    let s = now (a .slots) in
-    let no = allocatePermutationNo (a .rel) len (length q) u x in
-    let h = t .if2 .taken in record {
-      answer = allocated-refused no _ e (oneQuery (moreVars (a .rel) width) len cells) (a .rel) first h;
-      slots = store-refused no _ e (grownSlots first width s) s h;
-      queries = store-refused no _ e (queriesWith (a .rel) cells q) q h;
-      uses = uses-left len u (a .rel .stray) cells _ _ _ m no e;
+    let w = c .before .before .before .before in
+    let o = begun w in
+    let e = late w in
+    let h = c .if2 .taken in
+    record {
+      answer = allocated-refused (number o) _ e (left o) (rel o) (rel o .vars) h;
+      slots = store-refused (number o) _ e (grown o) (slots o) h;
+      queries = store-refused (number o) _ e (words o) (store o) h;
+      uses = uses-left false (length (slots o)) (counts o) (rel o .stray) (cells o) _ _ _ (counted w) (number o) e;
     }
 
 cast-at : tie.Need-cast-at
@@ -122,25 +169,7 @@ add-at : tie.Need-add-at
 add-at c = search needs
 
 mul-at : tie.Need-mul-at
-mul-at c =
-    let t = c in
-    let a = t .before .before .before .before .before .before .before .before .before .before .before .before .before .before .before .args in
-    let len = length (now (a .slots)) in
-    let q = now (a .queries) in
-    let u = now (a .uses) in
-    let x = now (a .input) in
-    let first = a .rel .vars in
-    let width = a .rel .width in
-    let cells = mintCells (a .rel) x in
-    let k = t .before .before .before .before .before .before .before .before .before .before .allocate-permutation-no .ensures in
-    let l = t .before .before .before .before .before .before .before .before .before .if1 .left in
-    let g = mints-yes (a .rel) len (length q) (length u) x (sym k ∙ l) in
-    let vars = t .before .before .before .before .before .before .before .before .vars-from .result in
-    let o : take width vars ≡ upFrom first width = ap (take width) (t .before .before .before .before .before .before .before .before .vars-from .ensures) ∙ upFrom-take first width 24 (g .width) in
-    let m = same-output len u (a .rel .stray) x _ _ _ _ _ o (t .before .before .before .before .count-cells .ensures) in
-    let e = mint-late (a .rel) len (length q) u x _ k l _ _ (t .before .before .before .before .before .before .asked-one-more .ensures) (m .number) in
-    let f = allocatePermutation-yes (a .rel) len (length q) u x (sym e ∙ t .if2 .left) in
-    omega arith
+mul-at c = let f = yes c in omega arith
 
 grow-slots-requires : tie.Need-grow-slots-requires
 grow-slots-requires c κs = search needs
@@ -149,70 +178,22 @@ put-requires : tie.Need-put-requires
 put-requires c κs = search needs
 
 add-put : tie.Need-add-put
-add-put c =
-    let t = c .before .before .before .before .before .before .before .before .before in
-    let a = t .before .before .before .before .before .before .before .before .before .before .before .before .before .before .before .args in
-    let len = length (now (a .slots)) in
-    let q = now (a .queries) in
-    let u = now (a .uses) in
-    let x = now (a .input) in
-    let first = a .rel .vars in
-    let width = a .rel .width in
-    let cells = mintCells (a .rel) x in
-    let k = t .before .before .before .before .before .before .before .before .before .before .allocate-permutation-no .ensures in
-    let l = t .before .before .before .before .before .before .before .before .before .if1 .left in
-    let g = mints-yes (a .rel) len (length q) (length u) x (sym k ∙ l) in
-    let vars = t .before .before .before .before .before .before .before .before .vars-from .result in
-    let o : take width vars ≡ upFrom first width = ap (take width) (t .before .before .before .before .before .before .before .before .vars-from .ensures) ∙ upFrom-take first width 24 (g .width) in
-    let m = same-output len u (a .rel .stray) x _ _ _ _ _ o (t .before .before .before .before .count-cells .ensures) in
-    let e = mint-late (a .rel) len (length q) u x _ k l _ _ (t .before .before .before .before .before .before .asked-one-more .ensures) (m .number) in
-    let f = allocatePermutation-yes (a .rel) len (length q) u x (sym e ∙ t .if2 .left) in
-    omega arith
+add-put c = let f = yes (c .before .before .before .before .before .before .before .before .before) in omega arith
 
 put-requires-2 : tie.Need-put-requires-2
 put-requires-2 c κs = search needs
 
+-- both halves are written
+abbrev written : tie.After-put2 → tie.Else2
+written p = p .before .before .before .before .before .before .before .before .before .before
+
 add-t34 : tie.Need-add-t34
-add-t34 c =
-    let t = c .before .before .before .before .before .before .before .before .before .before .before .before in
-    let a = t .before .before .before .before .before .before .before .before .before .before .before .before .before .before .before .args in
-    let len = length (now (a .slots)) in
-    let q = now (a .queries) in
-    let u = now (a .uses) in
-    let x = now (a .input) in
-    let first = a .rel .vars in
-    let width = a .rel .width in
-    let cells = mintCells (a .rel) x in
-    let k = t .before .before .before .before .before .before .before .before .before .before .allocate-permutation-no .ensures in
-    let l = t .before .before .before .before .before .before .before .before .before .if1 .left in
-    let g = mints-yes (a .rel) len (length q) (length u) x (sym k ∙ l) in
-    let vars = t .before .before .before .before .before .before .before .before .vars-from .result in
-    let o : take width vars ≡ upFrom first width = ap (take width) (t .before .before .before .before .before .before .before .before .vars-from .ensures) ∙ upFrom-take first width 24 (g .width) in
-    let m = same-output len u (a .rel .stray) x _ _ _ _ _ o (t .before .before .before .before .count-cells .ensures) in
-    let e = mint-late (a .rel) len (length q) u x _ k l _ _ (t .before .before .before .before .before .before .asked-one-more .ensures) (m .number) in
-    let f = allocatePermutation-yes (a .rel) len (length q) u x (sym e ∙ t .if2 .left) in
-    omega arith
+add-t34 c = let f = yes (written (c .before .before)) in omega arith
 
 add-t35 : tie.Need-add-t35
 add-t35 c =
-    let t = c .before .before .before .before .before .before .before .before .before .before .before .before in
-    let a = t .before .before .before .before .before .before .before .before .before .before .before .before .before .before .before .args in
-    let len = length (now (a .slots)) in
-    let q = now (a .queries) in
-    let u = now (a .uses) in
-    let x = now (a .input) in
-    let first = a .rel .vars in
-    let width = a .rel .width in
-    let cells = mintCells (a .rel) x in
-    let k = t .before .before .before .before .before .before .before .before .before .before .allocate-permutation-no .ensures in
-    let l = t .before .before .before .before .before .before .before .before .before .if1 .left in
-    let g = mints-yes (a .rel) len (length q) (length u) x (sym k ∙ l) in
-    let vars = t .before .before .before .before .before .before .before .before .vars-from .result in
-    let o : take width vars ≡ upFrom first width = ap (take width) (t .before .before .before .before .before .before .before .before .vars-from .ensures) ∙ upFrom-take first width 24 (g .width) in
-    let m = same-output len u (a .rel .stray) x _ _ _ _ _ o (t .before .before .before .before .count-cells .ensures) in
-    let e = mint-late (a .rel) len (length q) u x _ k l _ _ (t .before .before .before .before .before .before .asked-one-more .ensures) (m .number) in
-    let f = allocatePermutation-yes (a .rel) len (length q) u x (sym e ∙ t .if2 .left) in
-    let few = pieces-few width (a .rel .queries + 1) (length q) (f .least) (f .room) in
+    let f = yes (written (c .before .before)) in
+    let few = pieces-few _ _ _ (f .least) (f .room) in
     omega arith
 
 same-length-2 : tie.Need-same-length-2
@@ -226,42 +207,32 @@ same-length-4 c = search needs
 
 returns-3 : tie.Need-returns-3
 returns-3 c =
-    let t = c .before .before .before .before .before .before .before .before .before .before .before .before in
-    let a = t .before .before .before .before .before .before .before .before .before .before .before .before .before .before .before .args in
-    let len = length (now (a .slots)) in
-    let q = now (a .queries) in
-    let u = now (a .uses) in
-    let x = now (a .input) in
-    let first = a .rel .vars in
-    let width = a .rel .width in
-    let cells = mintCells (a .rel) x in
-    let k = t .before .before .before .before .before .before .before .before .before .before .allocate-permutation-no .ensures in
-    let l = t .before .before .before .before .before .before .before .before .before .if1 .left in
-    let g = mints-yes (a .rel) len (length q) (length u) x (sym k ∙ l) in
-    let vars = t .before .before .before .before .before .before .before .before .vars-from .result in
-    let o : take width vars ≡ upFrom first width = ap (take width) (t .before .before .before .before .before .before .before .before .vars-from .ensures) ∙ upFrom-take first width 24 (g .width) in
-    let m = same-output len u (a .rel .stray) x _ _ _ _ _ o (t .before .before .before .before .count-cells .ensures) in
-    let e = mint-late (a .rel) len (length q) u x _ k l _ _ (t .before .before .before .before .before .before .asked-one-more .ensures) (m .number) in
-    let f = allocatePermutation-yes (a .rel) len (length q) u x (sym e ∙ t .if2 .left) in
-    let s = now (a .slots) in
+    let p = c .before .before in
+    let t = written p in
+    let w = counting t in
+    let o = begun w in
+    let e = late w in
+    let f = yes t in
     let z = t .if2 .left in
-    let at = wordsOf width (a .rel .queries) in
-    let no = allocatePermutationNo (a .rel) len (length q) u x in record {
+    let first = rel o .vars in
+    let width = rel o .width in
+    let at = wordsOf width (rel o .queries) in
+    record {
       answer =
-          ap (λ (n : ℕ). record { first = variant.Var first; relation = relation width (first + width) (a .rel .queries + 1) (a .rel .equations) (a .rel .words) n })
-          (stray-left len u (a .rel .stray) cells _ _ _ m z)
-          ∙ allocated-accepted no _ e (oneQuery (moreVars (a .rel) width) len cells) (a .rel) first z;
+          ap (λ (n : ℕ). record { first = variant.Var first; relation = relation width (first + width) (rel o .queries + 1) (rel o .equations) (rel o .words) n })
+          (stray-left false (length (slots o)) (counts o) (rel o .stray) (cells o) _ _ _ (counted w) z)
+          ∙ allocated-accepted (number o) _ e (left o) (rel o) first z;
       slots =
-          c .before .before .before .before .before .before .before .before .before .before .grow-slots .ensures
-          ∙ (simp (le-leb (first + width) len (f .slotRoom)))
-          ∙ store-accepted no _ e (grownSlots first width s) s z;
+          p .before .before .before .before .before .before .before .before .grow-slots .ensures
+          ∙ (simp (le-leb (first + width) (length (slots o)) (f .slotRoom)))
+          ∙ store-accepted (number o) _ e (grown o) (slots o) z;
       queries =
-          c .before .before .put2 .ensures
-          ∙ ap (fitWords (at + width) (take width vars)) (c .before .before .before .before .before .before .put .ensures)
-          ∙ ap (λ (out : List ℕ). fitWords (at + width) out (fitWords at x q)) o
-          ∙ halves-put width (a .rel .queries) x (upFrom first width) q (f .inputs) (upFrom-length first width) (f .room)
-          ∙ store-accepted no _ e (queriesWith (a .rel) cells q) q z;
-      uses = uses-left len u (a .rel .stray) cells _ _ _ m no e;
+          p .put2 .ensures
+          ∙ ap (fitWords (at + width) (take width (w .before .before .before .before .vars-from .result))) (p .before .before .before .before .put .ensures)
+          ∙ ap (λ (out : List ℕ). fitWords (at + width) out (fitWords at (input o) (store o))) (minted w)
+          ∙ halves-put width (rel o .queries) (input o) (output o) (store o) (f .inputs) (upFrom-length first width) (f .room)
+          ∙ store-accepted (number o) _ e (words o) (store o) z;
+      uses = uses-left false (length (slots o)) (counts o) (rel o .stray) (cells o) _ _ _ (counted w) (number o) e;
     }
 
 pub allocate-permutation-spec : {M : Type 1} → statement M

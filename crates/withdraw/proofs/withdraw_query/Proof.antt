@@ -3,7 +3,7 @@
 use Prim.Native.Nat.{ℕ, _+_, _-_}
 use mathlib.Core.Path.{_≡_, sym, ap, _∙_}
 use mathlib.Core.Bool.{true}
-use mathlib.Core.List.{List}
+use mathlib.Core.List.{List, append-nil}
 use native.Mathlib.Omega.{arith}
 use denote.Ref.{now}
 use lib.ListN.{length}
@@ -11,6 +11,7 @@ use Rattle.limits.specs.declared.Outcome.the-variants as outcome
 use Rattle.limits.proofs.Answered.{store-refused, store-accepted}
 use Rattle.words.specs.Pieces.{wordsOf}
 use Rattle.uses.specs.Uses.{usesAfter, CountsCells}
+use Rattle.uses.proofs.Left.{uses-left, stray-left, same-cells}
 use Rattle.strike.specs.Strike.{struckWords}
 use Rattle.permutation.specs.declared.PermutationRelation.{PermutationRelation}
 use Rattle.permutation.specs.Answers.{relation}
@@ -18,7 +19,7 @@ use Rattle.permutation.proofs.Answered.{recorded-refused, recorded-accepted}
 use Rattle.withdraw.specs.Relation.{cellsAt, withdrawQueryNo}
 use Rattle.withdraw.specs.Answers.{lessQuery}
 use Rattle.withdraw.proofs.Accepted.{WithdrawQuery, withdrawQuery-yes, query-fits, query-struck}
-use Rattle.withdraw.proofs.Tallied.{query-early, query-late, same-cells, uses-left, stray-left}
+use Rattle.withdraw.proofs.Tallied.{query-early, query-late}
 use borrow.Author.Needs.{needs}
 use Rattle.withdraw.proofs.withdraw_query.Statement.{statement}
 use Rattle.withdraw.proofs.withdraw_query.Tie as tie
@@ -63,7 +64,7 @@ begun w = start (w .before .before .before .before .before)
 
 counted : (w : tie.After-count-cells) → let o = begun w in
     CountsCells true (len o) (counts o) (rel o .stray) (cells o) 0 (w .count-cells .result) (w .count-cells .last .1 .1 .0)
-counted w = same-cells _ _ _ _ _ _ _ _ (w .before .before .before .cells-at .ensures) (w .count-cells .ensures)
+counted w = same-cells true _ _ _ _ _ _ _ (w .count-cells .ensures) _ (append-nil _ ∙ w .before .before .before .cells-at .ensures)
 
 late : (w : tie.After-count-cells) → w .count-cells .result .number ≡ number (begun w)
 late w =
@@ -118,7 +119,7 @@ returns-2 c =
     record {
       answer = recorded-refused (number o) _ e (left o) (rel o) (c .if2 .taken);
       queries = store-refused (number o) _ e (words o) (store o) (c .if2 .taken);
-      uses = uses-left (len o) (counts o) (rel o .stray) (cells o) _ _ _ (counted w) (number o) e;
+      uses = uses-left true (len o) (counts o) (rel o .stray) (cells o) _ _ _ (counted w) (number o) e;
     }
 
 cast-size : tie.Need-cast-size
@@ -164,13 +165,13 @@ returns-3 c =
     record {
       answer =
           ap (λ (n : ℕ). record { outcome = outcome.Accepted; relation = relation (rel o .width) (rel o .vars) (rel o .queries - 1) (rel o .equations) (rel o .words) n })
-          (stray-left (len o) (counts o) (rel o .stray) (cells o) _ _ _ (counted w) z)
+          (stray-left true (len o) (counts o) (rel o .stray) (cells o) _ _ _ (counted w) z)
           ∙ recorded-accepted (number o) _ e (left o) (rel o) z;
       queries =
           c .before .before .before .strike-words .ensures
           ∙ query-struck _ _ _ _ _ (yes t)
           ∙ store-accepted (number o) _ e (words o) (store o) z;
-      uses = uses-left (len o) (counts o) (rel o .stray) (cells o) _ _ _ (counted w) (number o) e;
+      uses = uses-left true (len o) (counts o) (rel o .stray) (cells o) _ _ _ (counted w) (number o) e;
     }
 
 pub withdraw-query-spec : {M : Type 1} → statement M
