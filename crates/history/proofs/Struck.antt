@@ -1,27 +1,39 @@
 -- Withdrawals along a list (document 02's R-6), through the theorem: what is struck is out of the ledger, so a wire can
--- become unknown again; the use counts are those of the queries that remain, whatever was refused between; and the gate
--- answers for what remains. Assumes nothing.
+-- become unknown again; the use counts are those of the queries that remain, whatever was refused between; and gate and
+-- check answer for what remains. Assumes nothing.
 use Prim.Native.Nat.{ℕ, _+_, _<_}
 use mathlib.Core.Path.{_≡_, refl}
 use mathlib.Core.Bool.{true, false}
 use mathlib.Core.List.{List, [], _∷_, _++_, map}
+use native.Mathlib.Omega.{arith}
 use Rattle.limits.specs.Questions.{ask, _▸_}
 use Rattle.limits.specs.declared.Outcome.{Outcome}
 use Rattle.limits.specs.declared.Outcome.the-variants.{Accepted, Refused}
 use Rattle.words.specs.Store.{allBelow}
 use Rattle.uses.specs.Uses.{times, strays, usesOf, sum, usesAfter, allFit}
 use Rattle.utf8.specs.Utf8.{follow, isUtf8}
+use Rattle.baby_bear.specs.Field.{addUnit, mulUnit, powerUnit, seventh, dotUnits}
 use Rattle.allocator.specs.Slots.{pair}
-use Rattle.expr.specs.Equation.{equation, sizeAt}
+use Rattle.expr.specs.Equation.{equation, sizeAt, equationAt}
 use Rattle.expr.specs.declared.Weighted.{Weighted}
 use Rattle.permutation.specs.Numbers.{newRelationNo, allocateVarsNo}
 use Rattle.permutation.specs.Answers.{newRelation}
 use Rattle.recording.specs.Numbers.{addPermutationNo, allocatePermutationNo, addEquationNo}
 use Rattle.withdraw.specs.Relation.{withdrawEquationNo, withdrawQueryNo}
+use Rattle.permute.specs.Permute.{pairwise, onKind, timesMatrix, runRound, runRounds}
+use Rattle.permute.specs.Parameters.{roundsOf, rowsOf, parametersOf, soundKinds, unitConstants, unitRows, soundParameters, permuteNo, sameWords, isEvaluation}
+use Rattle.instance.specs.Parts.{partsOf}
+use Rattle.held.specs.Held.{equationsSound, publicsSound, slotsSound}
+use Rattle.validated.specs.Validated.{validatedNo, gateNo}
+use Rattle.compile.specs.Gate.{publicsOf, compiledParts, compileNo, compile, compilePublics}
+use Rattle.validity.specs.Check.{checkNo}
+use Rattle.validity.specs.Valid.{isWitnessValidNo}
 use Rattle.history.specs.Ledger.{known}
+use Rattle.history.specs.Sat.{Sat, Evaluates}
 use Rattle.history.specs.Calls.{Call, Allocate, Record, Mint, Equate, WithdrawQuery, WithdrawEquation, Entry, answer, after, ledger, noted, log}
 use Rattle.history.specs.Left.{compileLeft}
 use Rattle.history.specs.Whole.{compiled, begin, last, lastLedger}
+use Rattle.history.proofs.Outcomes.{accepted-no}
 use Rattle.history.proofs.Theorem.{whole}
 
 abbrev slots : List ℕ
@@ -67,6 +79,13 @@ one-left = first-calls ++ (WithdrawQuery 1 ∷ [])
 
 abbrev none-left : List Call
 none-left = first-calls ++ (WithdrawQuery 1 ∷ WithdrawQuery 0 ∷ [])
+
+-- a query and both equations, and then the first equation withdrawn
+abbrev both-kept : List Call
+both-kept = Allocate 2 ∷ Record (1 ∷ []) (2 ∷ []) ∷ Equate (weighted 1 3 ∷ []) 6 ∷ Equate (weighted 2 1 ∷ []) 5 ∷ []
+
+abbrev first-struck : List Call
+first-struck = both-kept ++ (WithdrawEquation 0 ∷ [])
 
 fresh-accepted : newRelation 1 slots uses .outcome ≡ Accepted
 unfolding ask _▸_ newRelationNo
@@ -138,3 +157,24 @@ bound = whole 1 slots queries equations uses fresh-accepted one-left .judged .ga
 pub unbound : gate none-left ≡ Refused 15
 unfolding ask _▸_ newRelationNo allocateVarsNo addPermutationNo allocatePermutationNo addEquationNo times strays allFit usesAfter allBelow sizeAt withdrawQueryNo withdrawEquationNo answer after noted compileLeft follow isUtf8
 unbound = whole 1 slots queries equations uses fresh-accepted none-left .judged .gates [] publics scratch .by-ledger
+
+-- ---- the check: with both equations wire 1 would be 2 and wire 2 would be 5, so the trace (5, 5) of no rounds is a no, 35;
+-- with the first struck it is a yes
+abbrev Satisfied : List Call → Type 0
+Satisfied calls = Sat (Evaluates 1 (parametersOf 1 0 (1 ∷ []))) (lastLedger 1 slots queries equations uses calls) ((5 ∷ 5 ∷ []) ∷ [])
+
+pub unsatisfied : Satisfied both-kept → ⊥
+unfolding ask _▸_ newRelationNo allocateVarsNo addPermutationNo addEquationNo times strays allFit usesAfter withdrawEquationNo allBelow answer after compiledParts publicsOf equationAt sizeAt equationsSound slotsSound follow isUtf8 compileNo compile validatedNo gateNo compilePublics publicsSound partsOf checkNo isWitnessValidNo isEvaluation permuteNo soundParameters roundsOf rowsOf soundKinds unitConstants unitRows sameWords runRounds runRound pairwise onKind timesMatrix addUnit mulUnit powerUnit seventh dotUnits
+unsatisfied s =
+    let z : _≡_ {A = ℕ} 35 0 = accepted-no 35
+    (whole 1 slots queries equations uses fresh-accepted both-kept .judged .gated [] publics scratch refl
+    .checks 1 (5 ∷ 5 ∷ []) (record { size = omega arith; room = omega arith; units = refl }) 0 (1 ∷ []) refl 3 (omega arith) (omega arith)
+    .yes .1 s) in
+    omega arith
+
+pub satisfied : Satisfied first-struck
+unfolding ask _▸_ newRelationNo allocateVarsNo addPermutationNo addEquationNo times strays allFit usesAfter withdrawEquationNo allBelow answer after compiledParts publicsOf equationAt sizeAt equationsSound slotsSound follow isUtf8 compileNo compile validatedNo gateNo compilePublics publicsSound partsOf checkNo isWitnessValidNo isEvaluation permuteNo soundParameters roundsOf rowsOf soundKinds unitConstants unitRows sameWords runRounds runRound pairwise onKind timesMatrix addUnit mulUnit powerUnit seventh dotUnits
+satisfied =
+    whole 1 slots queries equations uses fresh-accepted first-struck .judged .gated [] publics scratch refl
+    .checks 1 (5 ∷ 5 ∷ []) (record { size = omega arith; room = omega arith; units = refl }) 0 (1 ∷ []) refl 3 (omega arith) (omega arith)
+    .yes .0 refl

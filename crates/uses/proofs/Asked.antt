@@ -93,6 +93,14 @@ module _ (s q w : Bool) (one two : ℕ) (e : one ≡ 0 ▸ ask 11 (s && q)) (f :
   pub asked-length : w ≡ true
   asked-length = says-yes 9 w (both one (ask 10 w) (sym f ∙ z) .1)
 
+-- what `count_cells` answers once all cells are moved and 11 and 10 are asked, with the counts then, how many cells are
+-- stray and the first no of the two
+pub record Cases (strike : Bool) (len : ℕ) (uses : List ℕ) (stray : ℕ) (cells : List ℕ) (rest end : ℕ) (moved : List ℕ) (by no : ℕ) : Type 0 where
+  pub refuses : (number : ℕ) (left : List ℕ) → number ≡ no ▸ rest → (number ≡ 0 → ⊥) → TakesBack strike end moved cells left
+      → CountsCells strike len uses stray cells rest (record { number = number; stray = stray }) left
+  pub accepts : (after : ℕ) → no ≡ 0 → rest ≡ 0 → after ≡ countAfter strike stray by
+      → CountsCells strike len uses stray cells rest (record { number = 0; stray = after }) moved
+
 -- ---- two lists
 module _ (strike : Bool) (len : ℕ) (uses : List ℕ) (stray : ℕ) (a b : List ℕ) (rest end : ℕ) (words : Words uses) (h : end ≤ len) (k : end ≤ length uses) where
   -- the first has a cell without room
@@ -150,16 +158,13 @@ module _ (strike : Bool) (len : ℕ) (uses : List ℕ) (stray : ℕ) (a b : List
           no-is : no ≡ firstNo (usesAsks strike len uses stray (a ++ b))
           no-is = f ∙ ap₂ (λ (v : ℕ) (w : ℕ). v ▸ ask 10 (eqb w len)) (e ∙ zero-▸ _ ∙ ap (ask 11) fit-is) same ∙ simp ▸-zero
 
-          pub counts-refused : (number : ℕ) (left : List ℕ) → number ≡ no ▸ rest → (number ≡ 0 → ⊥) → TakesBack strike end second (a ++ b) left
-              → CountsCells strike len uses stray (a ++ b) rest (record { number = number; stray = stray }) left
-          counts-refused number left z n u =
-              counts-late strike len uses stray (a ++ b) rest no no-is number left z n
-              (u uses words k (all-both .had-room refl) (all-both .left-is))
-
-          pub counts-moved : (after : ℕ) → no ≡ 0 → rest ≡ 0 → after ≡ countAfter strike stray (i + j)
-              → CountsCells strike len uses stray (a ++ b) rest (record { number = 0; stray = after }) second
-          counts-moved after z r u =
-              let w = eqb-true (length second) len (asked-length s t (eqb (length second) len) one no e f z) in
-              let n : end < length uses → ⊥ = λ v. let y = below end (omega (arith, same)) v in omega arith in
-              counts-all strike len uses stray (a ++ b) rest no no-is end after second z r (omega arith) (all-both .left-is)
-              (u ∙ ap (countAfter strike stray) by-is)
+          pub counts-cases : Cases strike len uses stray (a ++ b) rest end second (i + j) no
+          counts-cases = record {
+            refuses = λ number left z n u. counts-late strike len uses stray (a ++ b) rest no no-is number left z n
+                (u uses words k (all-both .had-room refl) (all-both .left-is));
+            accepts = λ after z r u.
+                let w = eqb-true (length second) len (asked-length s t (eqb (length second) len) one no e f z) in
+                let n : end < length uses → ⊥ = λ v. let y = below end (omega (arith, same)) v in omega arith in
+                counts-all strike len uses stray (a ++ b) rest no no-is end after second z r (omega arith) (all-both .left-is)
+                (u ∙ ap (countAfter strike stray) by-is);
+          }

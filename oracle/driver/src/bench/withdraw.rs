@@ -1,6 +1,8 @@
 //! Queries and equations withdrawn, beside a vector's own removal in Rust: the sources have no
 //! withdrawals.
 
+use std::iter;
+
 use super::{
     best,
     input::{OLD, WIDTH},
@@ -111,30 +113,15 @@ fn drain(queries: &mut Vec<u32>, uses: &mut [u32], i: usize) {
 
 fn query(items: usize, place: Place) -> Line {
     let i = place.of(items);
-    let held = held(items);
-    let library = timed(
-        || Recorded {
-            slots: held.slots.clone(),
-            queries: held.queries.clone(),
-            uses: held.uses.clone(),
-            ..held
-        },
-        |recorded| withdraw(recorded, i),
-    );
-    let source = timed(
-        || (held.queries.clone(), held.uses.clone()),
-        |(queries, uses)| drain(queries, uses, i),
-    );
-    let [library, source] = best([library, source]);
-    Line {
-        items,
-        bytes: 4 * CELLS * (items - i),
-        library,
-        source,
-    }
+    withdrawals(items, iter::once(i), 4 * CELLS * (items - i))
 }
 
 fn every_query(items: usize) -> Line {
+    withdrawals(items, (0..items).rev(), 4 * 2 * CELLS * items)
+}
+
+/// The queries of these numbers withdrawn in turn, which goes over so many bytes.
+fn withdrawals(items: usize, numbers: impl Iterator<Item = usize> + Clone, bytes: usize) -> Line {
     let held = held(items);
     let library = timed(
         || Recorded {
@@ -143,16 +130,16 @@ fn every_query(items: usize) -> Line {
             uses: held.uses.clone(),
             ..held
         },
-        |recorded| (0..items).rev().for_each(|i| withdraw(recorded, i)),
+        |recorded| numbers.clone().for_each(|i| withdraw(recorded, i)),
     );
     let source = timed(
         || (held.queries.clone(), held.uses.clone()),
-        |(queries, uses)| (0..items).rev().for_each(|i| drain(queries, uses, i)),
+        |(queries, uses)| numbers.clone().for_each(|i| drain(queries, uses, i)),
     );
     let [library, source] = best([library, source]);
     Line {
         items,
-        bytes: 4 * 2 * CELLS * items,
+        bytes,
         library,
         source,
     }
