@@ -60,6 +60,7 @@
  *   43  Does the quota hold what the relation obtained and the new wires?
  *   44  Has the sheet no rounds, or a matrix that is not singular?
  *   45  Is there a query, or an equation, of this number?
+ *   46  Has the file wires, and does it list wire 0 with value 0?
  *
  * The same functions stand for Rust in rust/, behind slices. */
 #ifndef SFR_H
@@ -554,6 +555,15 @@ sfr_instance_read sfr_instance_from_bytes(uint32_t width, const uint8_t *bytes, 
                                           uint32_t *queries, size_t queries_len,
                                           uint32_t *equations, size_t equations_len,
                                           uint32_t *scratch, size_t scratch_len);
+
+/* The same of a file that lists wire 0 with value 0, as provers insist.
+ * Questions as sfr_instance_from_bytes, and 46 directly after 27: has the file wires, and does it list wire 0 with
+ * value 0? Lent, and left by a refusal: as there. */
+sfr_instance_read sfr_strict_instance_from_bytes(uint32_t width, const uint8_t *bytes, size_t len,
+                                                 uint32_t *publics, size_t publics_len,
+                                                 uint32_t *queries, size_t queries_len,
+                                                 uint32_t *equations, size_t equations_len,
+                                                 uint32_t *scratch, size_t scratch_len);
 
 /* Value of a wire in held publics: that of the last pair that lists it, if any does.
  * Questions 1, 2, 3. Lent: publics, 2 words per pair, only read. */

@@ -105,6 +105,37 @@ pub fn instance_from_bytes(
     }
 }
 
+/// Reads SFRI of that width that lists wire 0 with value 0, as provers insist; [`label`] then gives
+/// the label.
+///
+/// Questions as [`instance_from_bytes`], and 46 directly after 27: has the file wires, and does it
+/// list wire 0 with value 0? Lent, and left by a refusal: as there.
+pub fn strict_instance_from_bytes(
+    width: u32,
+    bytes: &[u8],
+    publics: &mut [u32],
+    queries: &mut [u32],
+    equations: &mut [u32],
+    scratch: &mut [u32],
+) -> InstanceRead {
+    // SAFETY: see the head of this file.
+    unsafe {
+        sys::sfr_strict_instance_from_bytes(
+            width,
+            bytes.as_ptr(),
+            bytes.len(),
+            publics.as_mut_ptr(),
+            publics.len(),
+            queries.as_mut_ptr(),
+            queries.len(),
+            equations.as_mut_ptr(),
+            equations.len(),
+            scratch.as_mut_ptr(),
+            scratch.len(),
+        )
+    }
+}
+
 /// The label of a read: the very part of `bytes`, the ones read, that holds it. None after a
 /// refusal, nor where these bytes don't hold it. No questions.
 #[must_use]

@@ -62,6 +62,7 @@ impl Refused {
             43 => "does the quota hold what the relation obtained and the new wires?",
             44 => "has the sheet no rounds, or a matrix that is not singular?",
             45 => "is there a query, or an equation, of this number?",
+            46 => "has the file wires, and does it list wire 0 with value 0?",
             _ => "?",
         }
     }

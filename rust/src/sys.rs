@@ -361,6 +361,19 @@ unsafe extern "C" {
         scratch: *mut u32,
         scratch_len: usize,
     ) -> InstanceRead;
+    pub fn sfr_strict_instance_from_bytes(
+        width: u32,
+        bytes: *const u8,
+        len: usize,
+        publics: *mut u32,
+        publics_len: usize,
+        queries: *mut u32,
+        queries_len: usize,
+        equations: *mut u32,
+        equations_len: usize,
+        scratch: *mut u32,
+        scratch_len: usize,
+    ) -> InstanceRead;
     pub fn sfr_public_value(
         ins: Instance,
         publics: *const u32,

@@ -10,7 +10,7 @@ use lib.Seq.{drop-cons}
 use Rattle.limits.specs.Questions.{_▸_, ask, firstNo}
 use Rattle.limits.specs.Asks.{storeAsks}
 use Rattle.limits.specs.declared.Outcome.the-variants.{Accepted, Refused}
-use Rattle.limits.proofs.Questions.{both, firstNo-append, zero-▸, ask-yes, ask-no}
+use Rattle.limits.proofs.Questions.{both, firstNo-append, zero-▸, ▸-zero}
 use Rattle.words.specs.Store.{All}
 use Rattle.narg.specs.Reader.{Got, got, stop, _>>_, give}
 use Rattle.narg.specs.Cursor.{cursor}
@@ -24,16 +24,19 @@ use Rattle.header.specs.Answers.{headerField}
 use Rattle.header.specs.declared.Field.{Field}
 use Rattle.header.specs.declared.Field.the-variants.{Read as ReadField}
 use Rattle.header.proofs.Got.{took, asked, field-got}
+use Rattle.items.specs.Answers.{gotAfter}
 use Rattle.items.proofs.Lists.{after-no, after-yes}
-use Rattle.parts.specs.Answers.{readPartsAsks, labelPast, labelField, partsFrom, partsEnd, PartsReads}
+use Rattle.parts.specs.Answers.{readPartsAsks, instanceRead, labelPast, labelField, partsFrom, partsEnd, PartsReads}
 use Rattle.parts.specs.Told.{PartsStored, partsHere}
 use Rattle.parts.specs.declared.PartsRead.{PartsRead}
 use Rattle.parts.proofs.Label.{LabelGot, label-at}
 use Rattle.parts.proofs.Parts.{from-here, PartsGot, parts-at, pairs-held, parts-held}
-use Rattle.decoding.specs.Read.{Rooms, rooms, File, file, readLabel, readParts, increasing, isEmpty, ended, readFile, readInstance}
+use Rattle.zero_wire.proofs.Zero.{starts-where-listed}
+use Rattle.decoding.specs.Read.{Rooms, rooms, Rule, ruled, File, file, readLabel, readParts, increasing, isEmpty, ended, readFile, readInstance}
 use Rattle.decoding.specs.Answers.{readAsks, instanceFromBytes, headerEnd, labelStart, acceptedInstance, refusedInstance, instanceAnswer, Stores, stores, roomsOf, instanceGot, InstanceReads}
-use Rattle.decoding.specs.Given.{acceptedAt, fileEnd, fileAnswer, FileLeft, fileHere, FileTold, Kept, InstanceLeft, instanceHere, InstanceTold}
+use Rattle.decoding.specs.Given.{acceptedAt, ruleOf, askedOf, fileEnd, fileAnswer, FileLeft, fileHere, FileTold, Kept, InstanceLeft, instanceHere, InstanceTold}
 use Rattle.decoding.specs.declared.InstanceRead.{InstanceRead}
+use Rattle.decoding.proofs.After.{need-after, number-after, after-after, number-got}
 use Rattle.decoding.specs.declared.FileRead.{FileRead}
 use Rattle.decoding.specs.declared.FileRead.the-variants.{Read as FileGot, Refused as FileRefused}
 
@@ -62,10 +65,32 @@ ended-left s end b h = rw (empty-left s end h)
 pub ended-yes : {B : Type 0} (s : List ℕ) (end : ℕ) (b : B) → length s ≤ end → (ended >> give b) (drop end s) ≡ got b (drop end s)
 ended-yes s end b h = rw (drop-of-length-le s h)
 
+-- ---- after the parts
+same-after : (b : Bool) (j k : ℕ) → (b ≡ true → j ≡ k) → ask 27 b ▸ j ≡ ask 27 b ▸ k
+unfolding ask _▸_
+same-after true j k h = h refl
+same-after false j k h = refl
+
+-- what is asked of the words that a store holds is what the rule asks of the parts
+asked-is : (strict : Bool) (parts : Parts)
+    → askedOf strict (parts .vars) (parts .publics) ≡ ask 27 (increasing (parts .publics)) ▸ firstNo (ruleOf strict parts)
+asked-is false parts = sym (▸-zero _)
+asked-is true parts =
+    same-after (increasing (parts .publics)) _ _ (λ o. ap (ask 46) (sym (starts-where-listed parts o)) ∙ sym (▸-zero _))
+
+-- of parts that were read into stores
+pub asked-parts-are : (strict : Bool) (width : ℕ) (parts : Parts) (ins : PermutationInstance) → ins ≡ instanceRead width parts
+    → (p q e p' q' e' : List ℕ) → PartsStored parts p q e p' q' e'
+    → askedOf strict (ins .vars) (pairsAt (ins .publics) p') ≡ ask 27 (increasing (parts .publics)) ▸ firstNo (ruleOf strict parts)
+asked-parts-are strict width parts ins is p q e p' q' e' st =
+    ap (λ (n : ℕ). askedOf strict n (pairsAt (ins .publics) p')) (ap (λ (x : PermutationInstance). x .vars) is)
+    ∙ ap (askedOf strict (parts .vars)) (pairs-held width parts ins is p q e p' q' e' st)
+    ∙ asked-is strict parts
+
 -- ---- the file
-module _ (width : ℕ) (s p q e : List ℕ) (yes : firstNo (readPartsAsks width (rooms (length p) (length q) (length e) 0)) ≡ 0) where
+module _ (rule : Rule) (width : ℕ) (s p q e : List ℕ) (yes : firstNo (readPartsAsks width (rooms (length p) (length q) (length e) 0)) ≡ 0) where
   abbrev here : Got File
-  here = fileHere width s p q e
+  here = fileHere rule width s p q e
 
   pub header-no : (k : ℕ) → readHeader letterI version width s ≡ stop k → here ≡ stop k
   unfolding readFile
@@ -77,6 +102,10 @@ module _ (width : ℕ) (s p q e : List ℕ) (yes : firstNo (readPartsAsks width 
     label-no k f = rw (eh, f)
 
     module _ (rl : Field) (al : rl ≡ labelField (c .at) (readLabel (drop (c .at) s))) (n : ℕ) (c1 : Cursor) (gl : LabelGot s (c .at) rl al n c1) where
+      -- a label that ends at a cursor begins so many bytes before it
+      pub label-fits : n ≤ c1 .at
+      label-fits = let a = gl .count in let b = gl .past in omega arith
+
       parts-are : partsFrom width s (c1 .at) p q e ≡ partsHere width s (c1 .at) p q e
       parts-are = from-here width s (c1 .at) p q e 0 (sym yes) refl
 
@@ -89,50 +118,44 @@ module _ (width : ℕ) (s p q e : List ℕ) (yes : firstNo (readPartsAsks width 
         parts-got : readParts width (rooms (length p) (length q) (length e) 0) (drop (c1 .at) s) ≡ got (gp .parts) (gp .rest)
         parts-got = sym parts-are ∙ gp .reads
 
-        module _ (no : ℕ) (ao : no ≡ 0 ▸ ask 27 (increasing (pairsAt (ins .publics) p'))) where
-          order-is : no ≡ ask 27 (increasing (gp .parts .publics))
-          order-is = ao ∙ zero-▸ _ ∙ ap (λ l. ask 27 (increasing l)) (pairs-held width (gp .parts) ins (gp .is) p q e p' q' e' (gp .stored))
+        abbrev f : File
+        f = file (gl .label) (gp .parts)
 
-          pub order-no : (no ≡ 0 → ⊥) → here ≡ stop no
-          unfolding readFile
-          order-no h = go (increasing (gp .parts .publics)) refl
-            where
-              go : (b : Bool) → increasing (gp .parts .publics) ≡ b → here ≡ stop no
-              go true t = absurd (h (order-is ∙ ask-yes 27 _ t))
-              go false t = rw (eh, gl .reads, parts-got, t) (ap (λ (m : ℕ). stop m) (sym (order-is ∙ ask-no 27 _ t)))
+        -- after the parts: what is asked of them
+        asked-here : here ≡ gotAfter (ask 27 (increasing (gp .parts .publics)) ▸ firstNo (rule (gp .parts))) (got f (gp .rest))
+        unfolding readFile
+        asked-here =
+            rw (eh, gl .reads, parts-got)
+            (need-after 26 (increasing (gp .parts .publics)) (gp .rest) (ruled rule (gp .parts) >> give f)
+            ∙ ap (gotAfter (ask 27 (increasing (gp .parts .publics)))) (number-after (firstNo (rule (gp .parts))) (gp .rest) (give f))
+            ∙ after-after (ask 27 (increasing (gp .parts .publics))) _ _)
 
-          -- a label that ends at a cursor begins so many bytes before it
-          pub label-fits : n ≤ c1 .at
-          label-fits = let a = gl .count in let b = gl .past in omega arith
+        module _ (no : ℕ) (is : no ≡ ask 27 (increasing (gp .parts .publics)) ▸ firstNo (rule (gp .parts))) where
+          pub rule-no : (no ≡ 0 → ⊥) → here ≡ stop no
+          rule-no h = asked-here ∙ after-no _ _ no is h
 
-          pub file-told : no ≡ 0 → c .at ≡ headerEnd → (r : InstanceRead) → r ≡ acceptedAt ins (c1 .at - n) n → FileTold width s p q e p' q' e' (FileGot r end)
-          unfolding readFile FileLeft
-          file-told z i r er = go (increasing (gp .parts .publics)) refl
-            where
-              f : File
-              f = file (gl .label) (gp .parts)
-
-              go : (b : Bool) → increasing (gp .parts .publics) ≡ b → FileTold width s p q e p' q' e' (FileGot r end)
-              go false t = absurd (let y = sym z ∙ order-is ∙ ask-no 27 _ t in omega arith)
-              go true t =
-                  let g : here ≡ got f (gp .rest) = rw (eh, gl .reads, parts-got, t) in
-                  let a = gl .count in
-                  let b = gl .past in
-                  let start : c1 .at - n ≡ labelStart = omega arith in
-                  let past : c1 .at ≡ labelPast headerEnd (gl .label) = omega arith in
-                  let last = gp .past ∙ ap (λ (m : ℕ). partsEnd m (gp .parts)) past in
-                  record {
-                    answer =
-                        ap (λ (x : InstanceRead). FileGot x end) (er ∙ (λ j. acceptedAt (gp .is j) (start j) (a j)))
-                        ∙ (λ j. FileGot (acceptedInstance width f) (cursor (last j)))
-                        ∙ sym (ap (fileAnswer width) g);
-                    left = rw g (gp .stored);
-                  }
+          pub file-told : no ≡ 0 → c .at ≡ headerEnd → (r : InstanceRead) → r ≡ acceptedAt ins (c1 .at - n) n → FileTold rule width s p q e p' q' e' (FileGot r end)
+          unfolding FileLeft
+          file-told z i r er =
+              let g : here ≡ got f (gp .rest) = asked-here ∙ after-yes _ _ no is z in
+              let a = gl .count in
+              let b = gl .past in
+              let start : c1 .at - n ≡ labelStart = omega arith in
+              let past : c1 .at ≡ labelPast headerEnd (gl .label) = omega arith in
+              let last = gp .past ∙ ap (λ (m : ℕ). partsEnd m (gp .parts)) past in
+              record {
+                answer =
+                    ap (λ (x : InstanceRead). FileGot x end) (er ∙ (λ j. acceptedAt (gp .is j) (start j) (a j)))
+                    ∙ (λ j. FileGot (acceptedInstance width f) (cursor (last j)))
+                    ∙ sym (ap (fileAnswer width) g);
+                left = rw g (gp .stored);
+              }
 
 -- a refusal
-pub file-no : (width : ℕ) (s p q e p' q' e' : List ℕ) (j k : ℕ) → j ≡ k → fileHere width s p q e ≡ stop k → FileTold width s p q e p' q' e' (FileRefused j)
+pub file-no : (rule : Rule) (width : ℕ) (s p q e p' q' e' : List ℕ) (j k : ℕ) → j ≡ k → fileHere rule width s p q e ≡ stop k
+    → FileTold rule width s p q e p' q' e' (FileRefused j)
 unfolding FileLeft
-file-no width s p q e p' q' e' j k i x = record { answer = ap FileRefused i ∙ sym (ap (fileAnswer width) x); left = rw x tt }
+file-no rule width s p q e p' q' e' j k i x = record { answer = ap FileRefused i ∙ sym (ap (fileAnswer width) x); left = rw x tt }
 
 -- ---- what a file's answer tells
 -- where it ends, and that each query has 2w cells
@@ -140,13 +163,14 @@ record FileAt (width : ℕ) (s : List ℕ) (f : File) (rest : List ℕ) : Type 0
   next : rest ≡ drop (fileEnd f) s
   cells : All (λ x. length x ≡ width + width) (f .parts .queries)
 
-file-at : (width : ℕ) (m : Rooms) (s : List ℕ) (f : File) (rest : List ℕ) → readFile version width m s ≡ got f rest → FileAt width s f rest
+file-at : (rule : Rule) (width : ℕ) (m : Rooms) (s : List ℕ) (f : File) (rest : List ℕ) → readFile rule version width m s ≡ got f rest → FileAt width s f rest
 unfolding readFile
-file-at width m s f rest e =
+file-at rule width m s f rest e =
     took (readHeader letterI version width s) _ f rest e (λ u r₁ e₁ n₁.
     took (readLabel r₁) _ f rest n₁ (λ l r₂ e₂ n₂.
     took (readParts width m r₂) _ f rest n₂ (λ ps r₃ e₃ n₃.
     asked 27 (increasing (ps .publics)) r₃ _ f rest n₃ (λ t n₄.
+    let n₅ = number-got (firstNo (rule ps)) r₃ (give (file l ps)) f rest n₄ in
     let same : file l ps ≡ f = cc in
     let last : r₃ ≡ rest = cc in
     let i₁ = header-end version width s u r₁ e₁ in
@@ -157,9 +181,9 @@ file-at width m s f rest e =
       cells = subst (λ (x : File). All (λ y. length y ≡ width + width) (x .parts .queries)) same (p .cells);
     }))))
 
-module _ (width : ℕ) (s p q e p' q' e' : List ℕ) (r : FileRead) (h : FileTold width s p q e p' q' e' r) where
-  pub file-refused : (k : ℕ) → r ≡ FileRefused k → fileHere width s p q e ≡ stop k
-  file-refused k i = go (fileHere width s p q e) (sym (h .answer) ∙ i)
+module _ (rule : Rule) (width : ℕ) (s p q e p' q' e' : List ℕ) (r : FileRead) (h : FileTold rule width s p q e p' q' e' r) where
+  pub file-refused : (k : ℕ) → r ≡ FileRefused k → fileHere rule width s p q e ≡ stop k
+  file-refused k i = go (fileHere rule width s p q e) (sym (h .answer) ∙ i)
     where
       go : (y : Got File) → fileAnswer width y ≡ FileRefused k → y ≡ stop k
       go (got f rest) z = absurd (let n : _≡_ {A = ℕ} 0 1 = cc in omega arith)
@@ -168,20 +192,20 @@ module _ (width : ℕ) (s p q e p' q' e' : List ℕ) (r : FileRead) (h : FileTol
   -- a file that was got, and stored
   pub record FileGiven (read : InstanceRead) (end : Cursor) : Type 0 where
     pub file : File
-    pub reads : fileHere width s p q e ≡ got file (drop (end .at) s)
+    pub reads : fileHere rule width s p q e ≡ got file (drop (end .at) s)
     pub is : read ≡ acceptedInstance width file
     pub stored : PartsStored (file .parts) p q e p' q' e'
     pub holds : partsOf (read .instance) p' q' e' ≡ file .parts
 
   pub file-got : (read : InstanceRead) (end : Cursor) → r ≡ FileGot read end → FileGiven read end
   unfolding FileLeft
-  file-got read end i = go (fileHere width s p q e) refl (sym (h .answer) ∙ i)
+  file-got read end i = go (fileHere rule width s p q e) refl (sym (h .answer) ∙ i)
     where
-      go : (y : Got File) → fileHere width s p q e ≡ y → fileAnswer width y ≡ FileGot read end → FileGiven read end
+      go : (y : Got File) → fileHere rule width s p q e ≡ y → fileAnswer width y ≡ FileGot read end → FileGiven read end
       go (got f rest) g z =
           let n : acceptedInstance width f ≡ read = cc in
           let c : cursor (fileEnd f) ≡ end = cc in
-          let a = file-at width (rooms (length p) (length q) (length e) 0) s f rest g in
+          let a = file-at rule width (rooms (length p) (length q) (length e) 0) s f rest g in
           let st : PartsStored (f .parts) p q e p' q' e' = subst (λ (x : Got File). FileLeft x p q e p' q' e') g (h .left) in
           record {
             file = f;
@@ -193,14 +217,14 @@ module _ (width : ℕ) (s p q e p' q' e' : List ℕ) (r : FileRead) (h : FileTol
       go (stop j) g z = absurd (let n : _≡_ {A = ℕ} 0 1 = cc in omega arith)
 
 -- ---- the whole: the file, the gate and the end
-module _ (width : ℕ) (s : List ℕ) (before : Stores) where
+module _ (rule : Rule) (width : ℕ) (s : List ℕ) (before : Stores) where
   abbrev whole : Got File
-  whole = instanceHere width s before
+  whole = instanceHere rule width s before
 
   abbrev inner : Got File
-  inner = fileHere width s (before .publics) (before .queries) (before .equations)
+  inner = fileHere rule width s (before .publics) (before .queries) (before .equations)
 
-  same-file : readFile version width (roomsOf before) s ≡ inner
+  same-file : readFile rule version width (roomsOf before) s ≡ inner
   unfolding readFile readParts
   same-file = refl
 
@@ -234,13 +258,13 @@ module _ (width : ℕ) (s : List ℕ) (before : Stores) where
         whole-yes h = rw (same-file, ef, sym gate-is ∙ z) (ended-yes s end f h)
 
   -- telling
-  pub tell-no : (after : Stores) (r : InstanceRead) (k : ℕ) → r ≡ refusedInstance k → whole ≡ stop k → InstanceTold width s before after r
+  pub tell-no : (after : Stores) (r : InstanceRead) (k : ℕ) → r ≡ refusedInstance k → whole ≡ stop k → InstanceTold rule width s before after r
   unfolding InstanceLeft
   tell-no after r k i x = record { answer = i ∙ sym (ap (instanceAnswer width) x); left = rw x tt }
 
   pub tell-yes : (after : Stores) (f : File) (rest : List ℕ) → whole ≡ got f rest → (r : InstanceRead) → r ≡ acceptedInstance width f
       → PartsStored (f .parts) (before .publics) (before .queries) (before .equations) (after .publics) (after .queries) (after .equations)
-      → after .scratch ≡ replicate (length (before .scratch)) 0 → InstanceTold width s before after r
+      → after .scratch ≡ replicate (length (before .scratch)) 0 → InstanceTold rule width s before after r
   unfolding InstanceLeft
   tell-yes after f rest x r i st sc = record { answer = i ∙ sym (ap (instanceAnswer width) x); left = rw x (record { parts = st; scratch = sc }) }
 
@@ -259,49 +283,49 @@ cleared-is before i j k l = λ x. stores (i x) (j x) (k x) (l x)
 not-accepted : (k : ℕ) → Refused k ≡ Accepted → ⊥
 not-accepted k e = let z : _≡_ {A = ℕ} 0 1 = cc in omega arith
 
-module _ (width : ℕ) (bytes : List ℕ) (before : Stores) (no : ℕ) (a : no ≡ firstNo (readAsks width (roomsOf before))) where
+module _ (rule : Rule) (width : ℕ) (bytes : List ℕ) (before : Stores) (no : ℕ) (a : no ≡ firstNo (readAsks width (roomsOf before))) where
   abbrev got-file : Got File
-  got-file = instanceGot width bytes before
+  got-file = instanceGot rule width bytes before
 
   -- a refusal leaves all 0
   no-reads : (r : InstanceRead) (k : ℕ) → got-file ≡ stop k → r ≡ instanceAnswer width got-file → (after : Stores) → after ≡ cleared before
-      → InstanceReads (instanceAnswer width) width bytes before after r
+      → InstanceReads rule (instanceAnswer width) width bytes before after r
   no-reads r k f i after c = record {
     answer = i;
     left = rw (f, c) (record { publics = refl; queries = refl; equations = refl; scratch = refl });
   }
 
   pub asked-no : (no ≡ 0 → ⊥) → (after : Stores) → after ≡ cleared before → (r : InstanceRead) → r ≡ refusedInstance no
-      → InstanceReads (instanceAnswer width) width bytes before after r
+      → InstanceReads rule (instanceAnswer width) width bytes before after r
   unfolding instanceFromBytes
   asked-no h after c r i =
-      let f = after-no (firstNo (readAsks width (roomsOf before))) (instanceHere width bytes before) no a h in
+      let f = after-no (firstNo (readAsks width (roomsOf before))) (instanceHere rule width bytes before) no a h in
       no-reads r no f (i ∙ sym (ap (instanceAnswer width) f)) after c
 
   -- the parts' questions among them
   pub asked-parts : no ≡ 0 → firstNo (readPartsAsks width (rooms (length (before .publics)) (length (before .queries)) (length (before .equations)) 0)) ≡ 0
   asked-parts z = both _ _ (sym (firstNo-append (readPartsAsks width (roomsOf before)) (storeAsks (length (before .scratch)))) ∙ sym a ∙ z) .0
 
-  whole-is : no ≡ 0 → got-file ≡ instanceHere width bytes before
+  whole-is : no ≡ 0 → got-file ≡ instanceHere rule width bytes before
   unfolding instanceFromBytes
   whole-is z = after-yes _ _ no a z
 
-  module _ (z : no ≡ 0) (after : Stores) (r : InstanceRead) (t : InstanceTold width bytes before after r) where
+  module _ (z : no ≡ 0) (after : Stores) (r : InstanceRead) (t : InstanceTold rule width bytes before after r) where
     answered : r ≡ instanceAnswer width got-file
     answered = t .answer ∙ sym (ap (instanceAnswer width) (whole-is z))
 
-    pub read-no : (k : ℕ) → r .outcome ≡ Refused k → (last : Stores) → last ≡ cleared before → InstanceReads (instanceAnswer width) width bytes before last r
+    pub read-no : (k : ℕ) → r .outcome ≡ Refused k → (last : Stores) → last ≡ cleared before → InstanceReads rule (instanceAnswer width) width bytes before last r
     read-no k o last c = go got-file refl
       where
-        go : (y : Got File) → got-file ≡ y → InstanceReads (instanceAnswer width) width bytes before last r
+        go : (y : Got File) → got-file ≡ y → InstanceReads rule (instanceAnswer width) width bytes before last r
         go (got f rest) i = absurd (not-accepted k (sym o ∙ ap (λ (x : InstanceRead). x .outcome) (answered ∙ ap (instanceAnswer width) i)))
         go (stop j) i = no-reads r j i answered last c
 
-    pub read-yes : r .outcome ≡ Accepted → InstanceReads (instanceAnswer width) width bytes before after r
+    pub read-yes : r .outcome ≡ Accepted → InstanceReads rule (instanceAnswer width) width bytes before after r
     unfolding InstanceLeft
     read-yes o = go got-file refl
       where
-        go : (y : Got File) → got-file ≡ y → InstanceReads (instanceAnswer width) width bytes before after r
+        go : (y : Got File) → got-file ≡ y → InstanceReads rule (instanceAnswer width) width bytes before after r
         go (got f rest) i =
             let l : Kept f before after = subst (λ (x : Got File). InstanceLeft x before after) (sym (whole-is z) ∙ i) (t .left) in
             record {

@@ -7,7 +7,7 @@ use native.Mathlib.Omega.{arith}
 use denote.Ref.{RefT, now}
 use lib.ListN.{length, take, drop}
 use Rattle.limits.specs.Questions.{firstNo}
-use Rattle.narg.specs.Reader.{Got, got, stop, number}
+use Rattle.narg.specs.Reader.{Got, got, stop, give, number}
 use Rattle.narg.proofs.Fields.{never}
 use Rattle.reader.specs.At.{partAt, placeAt}
 use Rattle.reader.proofs.Found.{partAt-some, placeAt-some}
@@ -16,10 +16,11 @@ use Rattle.header.specs.Form.{letterI, version}
 use Rattle.header.specs.Read.{readHeader}
 use Rattle.header.proofs.Got.{took, asked}
 use Rattle.parts.proofs.Label.{label-at}
-use Rattle.decoding.specs.Read.{Rooms, File, file, readLabel, readParts, increasing, ended, readFile, readInstance}
+use Rattle.decoding.specs.Read.{Rooms, Rule, File, file, readLabel, readParts, increasing, ended, readFile, readInstance}
 use Rattle.decoding.specs.Sound.{gotAfter}
 use Rattle.decoding.specs.Answers.{readAsks, instanceFromBytes, instanceAnswer, headerEnd, labelStart, labelRead, labelPlace, Stores, roomsOf, InstanceReads, FileReads}
 use Rattle.decoding.specs.declared.InstanceRead.{InstanceRead}
+use Rattle.decoding.proofs.After.{number-got}
 use Rattle.decoding.proofs.Files.{header-end}
 
 -- ---- where it lies
@@ -28,10 +29,10 @@ pub record Lies (s : List ℕ) (label : List ℕ) : Type 0 where
   pub inside : labelStart + length label ≤ length s
   pub is : take (length label) (drop labelStart s) ≡ label
 
-pub label-lies : (version width : ℕ) (m : Rooms) (s : List ℕ) (f : File) (rest : List ℕ) → readInstance version width m s ≡ got f rest → Lies s (f .label)
+pub label-lies : (rule : Rule) (version width : ℕ) (m : Rooms) (s : List ℕ) (f : File) (rest : List ℕ) → readInstance rule version width m s ≡ got f rest → Lies s (f .label)
 unfolding readInstance readFile
-label-lies version width m s f rest e =
-    took (readFile version width m s) _ f rest e (λ f₁ r₁ e₁ n₁.
+label-lies rule version width m s f rest e =
+    took (readFile rule version width m s) _ f rest e (λ f₁ r₁ e₁ n₁.
     took (number (gateNo (f₁ .parts) (m .scratch)) r₁) _ f rest n₁ (λ u r₂ e₂ n₂.
     took (ended r₂) _ f rest n₂ (λ v r₃ e₃ n₃.
     let same : f₁ ≡ f = cc in
@@ -39,20 +40,21 @@ label-lies version width m s f rest e =
     took (readLabel h) _ f₁ r₁ n₄ (λ l r₅ el n₅.
     took (readParts width m r₅) _ f₁ r₁ n₅ (λ ps r₆ ep n₆.
     asked 27 (increasing (ps .publics)) r₆ _ f₁ r₁ n₆ (λ t n₇.
+    let n₈ = number-got (firstNo (rule ps)) r₆ (give (file l ps)) f₁ r₁ n₇ in
     let names : file l ps ≡ f₁ = cc in
     let a = label-at s headerEnd l r₅ (ap readLabel (sym (header-end version width s w h eh)) ∙ el) in
     rw (← same, ← names) (record { inside = a .inside; is = a .is }))))))))
 
-module _ (width : ℕ) (s : List ℕ) (m : Rooms) where
+module _ (rule : Rule) (width : ℕ) (s : List ℕ) (m : Rooms) where
   abbrev g : Got File
-  g = instanceFromBytes width s m
+  g = instanceFromBytes rule width s m
 
   -- what is got was read
-  got-read : (f : File) (rest : List ℕ) → g ≡ got f rest → readInstance version width m s ≡ got f rest
+  got-read : (f : File) (rest : List ℕ) → g ≡ got f rest → readInstance rule version width m s ≡ got f rest
   unfolding instanceFromBytes
   got-read f rest e = go (firstNo (readAsks width m)) e
     where
-      go : (k : ℕ) → gotAfter k (readInstance version width m s) ≡ got f rest → readInstance version width m s ≡ got f rest
+      go : (k : ℕ) → gotAfter k (readInstance rule version width m s) ≡ got f rest → readInstance rule version width m s ≡ got f rest
       go zero i = i
       go (suc k) i = absurd (never i)
 
@@ -66,7 +68,7 @@ module _ (width : ℕ) (s : List ℕ) (m : Rooms) where
     where
       go : (y : Got File) → g ≡ y → Taken r
       go (got f rest) i =
-          let l = label-lies version width m s f rest (got-read f rest i) in
+          let l = label-lies rule version width m s f rest (got-read f rest i) in
           let a = e ∙ ap (instanceAnswer width) i in
           record {
             label = rw (a, i) (sym (partAt-some s labelStart (length (f .label)) (l .inside)) ∙ l .is);
@@ -82,11 +84,11 @@ module _ (width : ℕ) (s : List ℕ) (m : Rooms) where
           }
 
 -- an answer by place and length, and the part that a reader takes by it
-pub file-reads : (width : ℕ) (x : RefT (List ℕ)) (before after : Stores) (r : InstanceRead) → InstanceReads (instanceAnswer width) width (now x) before after r
+pub file-reads : (rule : Rule) (width : ℕ) (x : RefT (List ℕ)) (before after : Stores) (r : InstanceRead) → InstanceReads rule (instanceAnswer width) width (now x) before after r
     → (m : RefT (List ℕ)) → now m ≡ partAt (now x) (r .label .at) (r .label .len) → m .ptr ≡ placeAt (now x) (r .label .at) (r .label .len) (x .ptr)
-    → FileReads width x before after (record { outcome = r .outcome; instance = r .instance; label = m })
-file-reads width x before after r h m e p =
-    let t = label-taken width (now x) (roomsOf before) r (h .answer) in
+    → FileReads rule width x before after (record { outcome = r .outcome; instance = r .instance; label = m })
+file-reads rule width x before after r h m e p =
+    let t = label-taken rule width (now x) (roomsOf before) r (h .answer) in
     record {
       outcome = ap (λ (y : InstanceRead). y .outcome) (h .answer);
       instance = ap (λ (y : InstanceRead). y .instance) (h .answer);

@@ -1,3 +1,5 @@
+pub mod After
+pub mod Examples
 pub mod Files
 pub mod Label
 pub mod Steps

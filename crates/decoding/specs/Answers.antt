@@ -15,7 +15,7 @@ use Rattle.header.specs.Form.{version}
 pub use Rattle.items.specs.Answers.{padded}
 use Rattle.items.specs.Answers.{gotAfter, storeAfter, piecesAsks}
 use Rattle.parts.specs.Answers.{readPartsAsks, instanceRead, wordsOfPublics, wordsOfQueries, wordsOfEquations}
-use Rattle.decoding.specs.Read.{Rooms, rooms, File, readInstance, readWitness}
+use Rattle.decoding.specs.Read.{Rooms, rooms, Rule, File, readInstance, readWitness}
 use Rattle.decoding.specs.declared.Span.{Span}
 use Rattle.decoding.specs.declared.InstanceRead.{InstanceRead}
 use Rattle.decoding.specs.declared.InstanceFile.{InstanceFile}
@@ -26,9 +26,10 @@ use Rattle.decoding.specs.declared.WitnessRead.{WitnessRead}
 abbrev pub readAsks : ℕ → Rooms → List Question
 readAsks width rooms = readPartsAsks width rooms ++ storeAsks (rooms .scratch)
 
--- what a read of SFRI gets, or the number of its first no
-unfoldable pub instanceFromBytes : (width : ℕ) (bytes : List ℕ) → Rooms → Got File
-instanceFromBytes width bytes rooms = gotAfter (firstNo (readAsks width rooms)) (readInstance version width rooms bytes)
+-- what a read of SFRI gets, plain or strict by its rule, or the number of its first no
+unfoldable pub instanceFromBytes : Rule → (width : ℕ) (bytes : List ℕ) → Rooms → Got File
+instanceFromBytes rule width bytes rooms =
+    gotAfter (firstNo (readAsks width rooms)) (readInstance rule version width rooms bytes)
 
 -- what a read of SFRW gets, after 1 and 2 of its one store, or the number of its first no
 unfoldable pub witnessFromBytes : (width : ℕ) (bytes : List ℕ) → ℕ → Got (List (List ℕ))
@@ -125,18 +126,18 @@ pub record StoresAfter (g : Got File) (before after : Stores) : Type 0 where
   pub scratch : after .scratch ≡ replicate (length (before .scratch)) 0
 
 -- what a read of these bytes gets with these stores lent
-abbrev pub instanceGot : (width : ℕ) (bytes : List ℕ) → Stores → Got File
-instanceGot width bytes before = instanceFromBytes width bytes (roomsOf before)
+abbrev pub instanceGot : Rule → (width : ℕ) (bytes : List ℕ) → Stores → Got File
+instanceGot rule width bytes before = instanceFromBytes rule width bytes (roomsOf before)
 
 -- the read that answers by numbers, whatever form its answer has
-pub record InstanceReads {A : Type 0} (answerOf : Got File → A) (width : ℕ) (bytes : List ℕ) (before after : Stores) (r : A) : Type 0 where
-  pub answer : r ≡ answerOf (instanceGot width bytes before)
-  pub left : StoresAfter (instanceGot width bytes before) before after
+pub record InstanceReads (rule : Rule) {A : Type 0} (answerOf : Got File → A) (width : ℕ) (bytes : List ℕ) (before after : Stores) (r : A) : Type 0 where
+  pub answer : r ≡ answerOf (instanceGot rule width bytes before)
+  pub left : StoresAfter (instanceGot rule width bytes before) before after
 
 -- the read that answers with the label itself: its bytes, and its place in the bytes lent
-pub record FileReads (width : ℕ) (bytes : RefT (List ℕ)) (before after : Stores) (r : InstanceFile) : Type 0 where
-  pub outcome : r .outcome ≡ instanceAnswer width (instanceGot width (now bytes) before) .outcome
-  pub instance : r .instance ≡ instanceAnswer width (instanceGot width (now bytes) before) .instance
-  pub label : now (r .label) ≡ labelRead (instanceGot width (now bytes) before)
-  pub place : r .label .ptr ≡ labelPlace (instanceGot width (now bytes) before) (bytes .ptr)
-  pub left : StoresAfter (instanceGot width (now bytes) before) before after
+pub record FileReads (rule : Rule) (width : ℕ) (bytes : RefT (List ℕ)) (before after : Stores) (r : InstanceFile) : Type 0 where
+  pub outcome : r .outcome ≡ instanceAnswer width (instanceGot rule width (now bytes) before) .outcome
+  pub instance : r .instance ≡ instanceAnswer width (instanceGot rule width (now bytes) before) .instance
+  pub label : now (r .label) ≡ labelRead (instanceGot rule width (now bytes) before)
+  pub place : r .label .ptr ≡ labelPlace (instanceGot rule width (now bytes) before) (bytes .ptr)
+  pub left : StoresAfter (instanceGot rule width (now bytes) before) before after

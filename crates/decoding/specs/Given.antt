@@ -2,11 +2,14 @@
 -- anything. Only private contracts cite what is here. Assumes nothing.
 use Prim.Native.Nat.{ℕ}
 use mathlib.Core.Path.{_≡_}
+use mathlib.Core.Bool.{Bool, true, false}
 use mathlib.Core.List.{List}
 use lib.ListN.{length, replicate}
+use Rattle.limits.specs.Questions.{_▸_, ask}
 use Rattle.words.specs.Pieces.{flat}
 use Rattle.narg.specs.Reader.{Got, got, stop}
 use Rattle.narg.specs.Cursor.{cursor}
+use Rattle.allocator.specs.Slots.{Pair}
 use Rattle.instance.specs.declared.PermutationInstance.{PermutationInstance}
 use Rattle.limits.specs.declared.Outcome.the-variants.{Accepted}
 use Rattle.header.specs.Form.{version}
@@ -16,7 +19,8 @@ use Rattle.parts.specs.Answers.{labelPast, partsEnd}
 use Rattle.parts.specs.Told.{PartsStored}
 use Rattle.parts.specs.declared.PartsRead.{PartsRead}
 use Rattle.parts.specs.declared.PartsRead.the-variants.{Read as ReadParts, Refused as RefusedParts}
-use Rattle.decoding.specs.Read.{rooms, File, readFile, readInstance, readWitness}
+use Rattle.zero_wire.specs.Zero.{startsAtZero}
+use Rattle.decoding.specs.Read.{rooms, increasing, Rule, plain, strict, File, readFile, readInstance, readWitness}
 use Rattle.decoding.specs.Answers.{headerEnd, acceptedInstance, instanceAnswer, Stores, roomsOf, span}
 use Rattle.decoding.specs.declared.InstanceRead.{InstanceRead}
 use Rattle.decoding.specs.declared.FileRead.{FileRead}
@@ -36,6 +40,17 @@ fileNumberOf (Refused k) = k
 abbrev pub acceptedAt : PermutationInstance → (at len : ℕ) → InstanceRead
 acceptedAt ins at len = record { outcome = Accepted; instance = ins; label = span at len }
 
+-- ---- after the parts
+-- the rule of a read that is strict or isn't
+abbrev pub ruleOf : Bool → Rule
+ruleOf true = strict
+ruleOf false = plain
+
+-- what is asked of a wire count and pairs, strictly or not: 27, then 46
+abbrev pub askedOf : Bool → (vars : ℕ) → List Pair → ℕ
+askedOf true vars ps = ask 27 (increasing ps) ▸ ask 46 (startsAtZero vars ps)
+askedOf false vars ps = ask 27 (increasing ps)
+
 -- ---- the file: label and parts
 -- where it ends
 abbrev pub fileEnd : File → ℕ
@@ -52,13 +67,13 @@ FileLeft (got f rest) p q e p' q' e' = PartsStored (f .parts) p q e p' q' e'
 FileLeft (stop k) p q e p' q' e' = Unit {0}
 
 -- what it gets, with these stores lent
-abbrev pub fileHere : (width : ℕ) (bytes p q e : List ℕ) → Got File
-fileHere width bytes p q e = readFile version width (rooms (length p) (length q) (length e) 0) bytes
+abbrev pub fileHere : Rule → (width : ℕ) (bytes p q e : List ℕ) → Got File
+fileHere rule width bytes p q e = readFile rule version width (rooms (length p) (length q) (length e) 0) bytes
 
 -- a file read into three stores
-pub record FileTold (width : ℕ) (bytes p q e p' q' e' : List ℕ) (r : FileRead) : Type 0 where
-  pub answer : r ≡ fileAnswer width (fileHere width bytes p q e)
-  pub left : FileLeft (fileHere width bytes p q e) p q e p' q' e'
+pub record FileTold (rule : Rule) (width : ℕ) (bytes p q e p' q' e' : List ℕ) (r : FileRead) : Type 0 where
+  pub answer : r ≡ fileAnswer width (fileHere rule width bytes p q e)
+  pub left : FileLeft (fileHere rule width bytes p q e) p q e p' q' e'
 
 -- ---- the whole: the file, the gate and the end
 -- what a read leaves of the stores and the scratch
@@ -72,13 +87,13 @@ InstanceLeft (got f rest) before after = Kept f before after
 InstanceLeft (stop k) before after = Unit {0}
 
 -- what it gets, with these stores lent
-abbrev pub instanceHere : (width : ℕ) (bytes : List ℕ) → Stores → Got File
-instanceHere width bytes before = readInstance version width (roomsOf before) bytes
+abbrev pub instanceHere : Rule → (width : ℕ) (bytes : List ℕ) → Stores → Got File
+instanceHere rule width bytes before = readInstance rule version width (roomsOf before) bytes
 
 -- an instance read into its stores
-pub record InstanceTold (width : ℕ) (bytes : List ℕ) (before after : Stores) (r : InstanceRead) : Type 0 where
-  pub answer : r ≡ instanceAnswer width (instanceHere width bytes before)
-  pub left : InstanceLeft (instanceHere width bytes before) before after
+pub record InstanceTold (rule : Rule) (width : ℕ) (bytes : List ℕ) (before after : Stores) (r : InstanceRead) : Type 0 where
+  pub answer : r ≡ instanceAnswer width (instanceHere rule width bytes before)
+  pub left : InstanceLeft (instanceHere rule width bytes before) before after
 
 -- ---- the steps
 -- what their reader leaves of the trace

@@ -1,14 +1,16 @@
 -- The byte forms read, field by field in document 01's order (the source's `from_bytes`).
 --
 -- The pieces stand apart, so that a question can be put between two of them: the header (21 to 24, crate `header`), the
--- label (25) and the parts (20, 3, 4, 10; crates `parts` and `items`), their order (27), the gate (16, 12 to 15), the
--- end (28). Assumes nothing.
+-- label (25) and the parts (20, 3, 4, 10; crates `parts` and `items`), their order (27), what the read's rule asks (46
+-- of a strict read), the gate (16, 12 to 15), the end (28). Assumes nothing.
 use Prim.Native.Nat.{ℕ}
 use mathlib.Core.Bool.{Bool, true, false}
 use mathlib.Core.List.{List, [], _∷_}
+use Rattle.limits.specs.Questions.{Question, firstNo}
 use Rattle.narg.specs.Reader.{Reader, _>>=_, _>>_, give, need, number}
 use Rattle.instance.specs.Parts.{Parts}
 use Rattle.validated.specs.Validated.{gateNo}
+use Rattle.zero_wire.specs.Zero.{zeroWireAsks}
 use Rattle.header.specs.Form.{letterI, letterW}
 use Rattle.header.specs.Read.{readHeader}
 -- items and lists
@@ -22,6 +24,22 @@ unfoldable pub use Rattle.parts.specs.Read.{readLabel, readParts}
 -- 27
 abbrev pub ordered : Parts → Reader (Unit {0})
 ordered parts = need 27 (increasing (parts .publics))
+
+-- what a read asks of the parts directly after 27
+abbrev pub Rule : Type 0
+Rule = Parts → List Question
+
+-- the plain read, the source's: nothing
+abbrev pub plain : Rule
+plain parts = []
+
+-- the strict read (document 02, R-7): 46
+abbrev pub strict : Rule
+strict parts = zeroWireAsks parts
+
+-- the questions of a rule
+abbrev pub ruled : Rule → Parts → Reader (Unit {0})
+ruled rule parts = number (firstNo (rule parts))
 
 -- 16, then 12 to 15
 abbrev pub gated : ℕ → Parts → Reader (Unit {0})
@@ -46,16 +64,16 @@ pub record File : Type 0 where
 abbrev pub file : List ℕ → Parts → File
 file label parts = record { label = label; parts = parts }
 
--- header, label, parts and their order
-unfoldable pub readFile : (version width : ℕ) → Rooms → Reader File
-readFile version width rooms =
+-- header, label, parts, their order, and what the rule asks
+unfoldable pub readFile : Rule → (version width : ℕ) → Rooms → Reader File
+readFile rule version width rooms =
     readHeader letterI version width >> readLabel >>= λ label. readParts width rooms
-    >>= λ parts. ordered parts >> give (file label parts)
+    >>= λ parts. ordered parts >> ruled rule parts >> give (file label parts)
 
 -- then the gate and the end
-unfoldable pub readInstance : (version width : ℕ) → Rooms → Reader File
-readInstance version width rooms =
-    readFile version width rooms >>= λ f. gated (rooms .scratch) (f .parts) >> ended >> give f
+unfoldable pub readInstance : Rule → (version width : ℕ) → Rooms → Reader File
+readInstance rule version width rooms =
+    readFile rule version width rooms >>= λ f. gated (rooms .scratch) (f .parts) >> ended >> give f
 
 -- ---- SFRW
 -- header, steps and the end

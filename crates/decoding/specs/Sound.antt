@@ -2,7 +2,7 @@
 use Prim.Native.Nat.{ℕ, _+_, _*_, _<_}
 use mathlib.Core.Path.{_≡_}
 use mathlib.Core.Bool.{true}
-use mathlib.Core.List.{List, [], _∷_}
+use mathlib.Core.List.{List, [], _∷_, _++_}
 use lib.Dec.{leb}
 use lib.ListN.{length}
 use Rattle.limits.specs.Numbers.{prime, maxCount}
@@ -18,6 +18,7 @@ use Rattle.validated.specs.Validated.{gateAsks}
 -- what was got after some questions
 pub use Rattle.items.specs.Answers.{gotAfter}
 use Rattle.parts.specs.Read.{Rooms, increasing}
+use Rattle.decoding.specs.Read.{Rule}
 
 -- ---- sound items: wires are below 2^30, units below p
 -- of a public
@@ -70,6 +71,7 @@ roomAsks width rooms parts =
     ∷ question 10 (leb (length (equationsWords (parts .equations))) (rooms .equations))
     ∷ []
 
--- 27, then 16 and 12 to 15
-abbrev pub orderAsks : Rooms → Parts → List Question
-orderAsks rooms parts = question 27 (increasing (parts .publics)) ∷ gateAsks parts (rooms .scratch)
+-- 27, then what the read's rule asks, then 16 and 12 to 15
+abbrev pub orderAsks : Rule → Rooms → Parts → List Question
+orderAsks rule rooms parts =
+    question 27 (increasing (parts .publics)) ∷ (rule parts ++ gateAsks parts (rooms .scratch))

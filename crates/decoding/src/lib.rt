@@ -16,6 +16,7 @@ mod sfrw;
 
 pub use sfri::instance_from_bytes;
 pub use sfri::instance_from_bytes_at;
+pub use sfri::strict_instance_from_bytes_at;
 pub use sfrw::witness_from_bytes;
 
 // Where a part of the bytes lies.

@@ -4,10 +4,11 @@ ghost use mathlib.Core.Path.{_≡_};
 ghost use Prim.Native.Nat.{_-_, _≤_};
 ghost use lib.ListN.{length, replicate};
 ghost use Rattle.limits.specs.Questions.{firstNo};
+ghost use Rattle.instance.specs.Parts.{pairsAt};
 ghost use Rattle.parts.specs.Answers.{readPartsAsks};
-ghost use Rattle.decoding.specs.Read.{rooms};
+ghost use Rattle.decoding.specs.Read.{rooms, plain, strict};
 ghost use Rattle.decoding.specs.Answers.{readAsks, refusedInstance, instanceAnswer, stores, InstanceReads, FileReads};
-ghost use Rattle.decoding.specs.Given.{partsNumberOf, acceptedAt, FileTold, InstanceTold};
+ghost use Rattle.decoding.specs.Given.{partsNumberOf, acceptedAt, ruleOf, askedOf, FileTold, InstanceTold};
 use crate::FileRead;
 use crate::InstanceFile;
 use crate::InstanceRead;
@@ -65,8 +66,20 @@ fn refused(no: u32) -> InstanceRead
     }
 }
 
-// Header, label, parts, and 27, after 1 and 2.
+// 27 of the publics that were read into a store, and 46 where the read is strict.
+fn asked_file(strict: bool, ins: PermutationInstance, publics: &[u32]) -> u32
+    ensures { λ r. ⌜ r ≡ askedOf strict (ins .vars) (pairsAt (ins .publics) (now (publics .entry))) ⌝ }
+{
+    let no = parts::asked_order(0, publics, ins.publics);
+    if strict {
+        return zero_wire::asked_zero_wire(no, ins.vars, publics, ins.publics);
+    }
+    no
+}
+
+// Header, label, parts, 27, and 46 where the read is strict; after 1 and 2.
 fn read_file(
+    strict: bool,
     width: u32,
     bytes: &[u8],
     publics: &mut [u32],
@@ -74,7 +87,7 @@ fn read_file(
     equations: &mut [u32],
 ) -> FileRead
     requires { ⌜ firstNo (readPartsAsks width (rooms (length (now publics)) (length (now queries)) (length (now equations)) 0)) ≡ 0 ⌝ }
-    ensures { λ r. ⌜ FileTold width (now (bytes .entry))
+    ensures { λ r. ⌜ FileTold (ruleOf strict) width (now (bytes .entry))
         (now (publics .entry)) (now (queries .entry)) (now (equations .entry))
         (now (publics .exit)) (now (queries .exit)) (now (equations .exit)) r ⌝ }
 {
@@ -90,7 +103,7 @@ fn read_file(
     let PartsRead::Read(instance, end) = parts else {
         return FileRead::Refused(parts_number(parts));
     };
-    let no = parts::asked_order(0, publics, instance.publics);
+    let no = asked_file(strict, instance, publics);
     if no != 0 {
         return FileRead::Refused(no);
     }
@@ -99,6 +112,7 @@ fn read_file(
 
 // The file, then the gate (16, 12 to 15), then 28, after 1 and 2.
 fn read_instance(
+    strict: bool,
     width: u32,
     bytes: &[u8],
     publics: &mut [u32],
@@ -107,11 +121,11 @@ fn read_instance(
     scratch: &mut [u32],
 ) -> InstanceRead
     requires { ⌜ firstNo (readPartsAsks width (rooms (length (now publics)) (length (now queries)) (length (now equations)) 0)) ≡ 0 ⌝ }
-    ensures { λ r. ⌜ InstanceTold width (now (bytes .entry))
+    ensures { λ r. ⌜ InstanceTold (ruleOf strict) width (now (bytes .entry))
         (stores (now (publics .entry)) (now (queries .entry)) (now (equations .entry)) (now (scratch .entry)))
         (stores (now (publics .exit)) (now (queries .exit)) (now (equations .exit)) (now (scratch .exit))) r ⌝ }
 {
-    let file = read_file(width, bytes, publics, queries, equations);
+    let file = read_file(strict, width, bytes, publics, queries, equations);
     let FileRead::Read(read, end) = file else {
         return refused(file_number(file));
     };
@@ -150,10 +164,9 @@ fn asked_read(width: u32, publics: usize, queries: usize, equations: usize, scra
     limits::asked_store(d, scratch)
 }
 
-// SFRI of that width into lent stores: each part, then 0 to its store's end; all 0 where it refuses. Questions 1, 2,
-// then field by field 20 to 25, 3, 4 and 10, then 27, 16, 12 to 15, last 28. Scratch is all 0 afterwards. The label is
-// told by its place and length.
-pub fn instance_from_bytes_at(
+// SFRI of that width into lent stores, plainly or strictly: the two open reads below.
+fn instance_read(
+    strict: bool,
     width: u32,
     bytes: &[u8],
     publics: &mut [u32],
@@ -161,7 +174,7 @@ pub fn instance_from_bytes_at(
     equations: &mut [u32],
     scratch: &mut [u32],
 ) -> InstanceRead
-    ensures { λ r. ⌜ InstanceReads (instanceAnswer width) width (now (bytes .entry))
+    ensures { λ r. ⌜ InstanceReads (ruleOf strict) (instanceAnswer width) width (now (bytes .entry))
         (stores (now (publics .entry)) (now (queries .entry)) (now (equations .entry)) (now (scratch .entry)))
         (stores (now (publics .exit)) (now (queries .exit)) (now (equations .exit)) (now (scratch .exit))) r ⌝ }
 {
@@ -176,7 +189,7 @@ pub fn instance_from_bytes_at(
         clear(publics, queries, equations, scratch);
         return refused(no);
     }
-    let read = read_instance(width, bytes, publics, queries, equations, scratch);
+    let read = read_instance(strict, width, bytes, publics, queries, equations, scratch);
     let outcome = read.outcome;
     let Outcome::Accepted = outcome else {
         clear(publics, queries, equations, scratch);
@@ -185,7 +198,41 @@ pub fn instance_from_bytes_at(
     read
 }
 
-// The same read, with the label as that very part of the bytes, taken through a reader; after a refusal it is empty.
+// SFRI of that width into lent stores: each part, then 0 to its store's end; all 0 where it refuses. Questions 1, 2,
+// then field by field 20 to 25, 3, 4 and 10, then 27, 16, 12 to 15, last 28. Scratch is all 0 afterwards. The label is
+// told by its place and length.
+pub fn instance_from_bytes_at(
+    width: u32,
+    bytes: &[u8],
+    publics: &mut [u32],
+    queries: &mut [u32],
+    equations: &mut [u32],
+    scratch: &mut [u32],
+) -> InstanceRead
+    ensures { λ r. ⌜ InstanceReads plain (instanceAnswer width) width (now (bytes .entry))
+        (stores (now (publics .entry)) (now (queries .entry)) (now (equations .entry)) (now (scratch .entry)))
+        (stores (now (publics .exit)) (now (queries .exit)) (now (equations .exit)) (now (scratch .exit))) r ⌝ }
+{
+    instance_read(false, width, bytes, publics, queries, equations, scratch)
+}
+
+// The same of files that list wire 0 with value 0, as provers insist (document 02, R-7): 46 directly after 27.
+pub fn strict_instance_from_bytes_at(
+    width: u32,
+    bytes: &[u8],
+    publics: &mut [u32],
+    queries: &mut [u32],
+    equations: &mut [u32],
+    scratch: &mut [u32],
+) -> InstanceRead
+    ensures { λ r. ⌜ InstanceReads strict (instanceAnswer width) width (now (bytes .entry))
+        (stores (now (publics .entry)) (now (queries .entry)) (now (equations .entry)) (now (scratch .entry)))
+        (stores (now (publics .exit)) (now (queries .exit)) (now (equations .exit)) (now (scratch .exit))) r ⌝ }
+{
+    instance_read(true, width, bytes, publics, queries, equations, scratch)
+}
+
+// The plain read, with the label as that very part of the bytes, taken through a reader; after a refusal it is empty.
 pub fn instance_from_bytes<'a>(
     width: u32,
     bytes: &'a [u8],
@@ -194,7 +241,7 @@ pub fn instance_from_bytes<'a>(
     equations: &mut [u32],
     scratch: &mut [u32],
 ) -> InstanceFile<'a>
-    ensures { λ r. ⌜ FileReads width (bytes .entry)
+    ensures { λ r. ⌜ FileReads plain width (bytes .entry)
         (stores (now (publics .entry)) (now (queries .entry)) (now (equations .entry)) (now (scratch .entry)))
         (stores (now (publics .exit)) (now (queries .exit)) (now (equations .exit)) (now (scratch .exit))) r ⌝ }
 {

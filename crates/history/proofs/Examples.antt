@@ -36,19 +36,19 @@ use Rattle.compile.specs.declared.Compiled.{Compiled}
 use Rattle.validity.specs.Check.{checkNo}
 use Rattle.validity.specs.Valid.{isWitnessValidNo, isWitnessValid}
 use Rattle.narg.specs.Bytes.{u32Bytes}
-use Rattle.narg.specs.Reader.{word, part, below}
+use Rattle.narg.specs.Reader.{Got, word, part, below}
 use Rattle.header.specs.Form.{headerBytes}
 use Rattle.encoding.specs.Form.{instanceBytes, witnessBytes}
 use Rattle.header.specs.Read.{readMagic, readHeader}
-use Rattle.decoding.specs.Read.{readLabel, readPublics, readQueries, readEquations, readParts, readInstance, readFile, readSteps, readWitness}
+use Rattle.decoding.specs.Read.{strict, File, readLabel, readPublics, readQueries, readEquations, readParts, readInstance, readFile, readSteps, readWitness}
 use Rattle.encoding.specs.Answers.{instanceToBytesNo, witnessToBytesNo}
-use Rattle.decoding.specs.Answers.{instanceFromBytes, witnessFromBytes}
+use Rattle.decoding.specs.Answers.{instanceFromBytes, instanceAnswer, witnessFromBytes}
 use Rattle.roundtrip.proofs.Examples.{outcomes as reads, examples as on-bytes}
 use Rattle.permutation.proofs.Examples.{Examples, examples}
 use Rattle.history.specs.Sat.{Sat, Evaluates}
 use Rattle.history.specs.Calls.{Call, Allocate, Set, SetList, Record, Mint, Equate, Tickets, Entry, answer, after, noted, ledger, log}
 use Rattle.history.specs.Left.{setBy}
-use Rattle.history.specs.Whole.{FileLent, TraceLent, compiled, begin, last, lastLedger}
+use Rattle.history.specs.Whole.{FileLent, TraceLent, instanceBytesMade, compiled, publicsMade, begin, last, lastLedger}
 use Rattle.history.proofs.Outcomes.{accepted-no}
 use Rattle.history.proofs.Fresh.{tally, all-tallied}
 use Rattle.history.proofs.Theorem.{whole}
@@ -149,6 +149,18 @@ satisfied =
     whole 1 slots queries equations uses fresh-accepted calls .judged .gated [] publics scratch gate-accepted .files lentFile
     .checks refl refl (lentTrace (2 ∷ 5 ∷ 9 ∷ [])) refl refl 1 params refl 3 (omega arith) (omega arith)
     .yes .0 refl
+
+-- the strict read accepts those bytes too
+abbrev bytesA : List ℕ
+bytesA =
+    let s = last 1 slots queries equations uses calls in
+    instanceBytesMade 1 (s .queries) (s .equations) instanceA (publicsMade s [] publics scratch) lentFile
+
+pub strict-A : instanceAnswer 1 (instanceFromBytes strict 1 bytesA (lentFile .rooms)) .outcome ≡ Accepted
+unfolding ask _▸_ newRelationNo allocateVarsNo setVarNo setVarsNo addPermutationNo allocatePermutationNo addEquationNo times strays allFit usesAfter pairNo setItems setVarsRun ticketLine gramsToSteps readLine linesOf lineNo setTicketsRun allBelow answer after compiledParts publicsOf equationAt sizeAt equationsSound slotsSound follow isUtf8 compileNo compile validatedNo gateNo compilePublics publicsSound partsOf checkNo isWitnessValidNo isEvaluation permuteNo soundParameters roundsOf rowsOf soundKinds unitConstants unitRows sameWords runRounds runRound pairwise onKind timesMatrix addUnit mulUnit powerUnit seventh dotUnits instanceToBytesNo instanceBytes headerBytes u32Bytes instanceFromBytes readInstance readFile readHeader readMagic readLabel readParts readPublics readQueries readEquations word part below
+strict-A =
+    ap (λ (g : Got File). instanceAnswer 1 g .outcome)
+    (whole 1 slots queries equations uses fresh-accepted calls .judged .gated [] publics scratch gate-accepted .files lentFile .strictly refl)
 
 -- with no bytes between too
 pub satisfied-held : SatA ((2 ∷ 5 ∷ []) ∷ [])

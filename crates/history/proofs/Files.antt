@@ -2,8 +2,10 @@
 -- equals written, and the check of what was read. Assumes nothing.
 use Prim.Native.Nat.{ℕ, _+_, _*_, _-_}
 use mathlib.Core.Path.{_≡_, refl, sym, ap, ap₂, _∙_, subst}
+use mathlib.Core.Bool.{true}
 use mathlib.Core.List.{List, [], _++_}
 use native.Mathlib.Omega.{arith}
+use borrow.Author.Tests.{lt-ltb}
 use lib.Dec.{leb}
 use lib.ListN.{length, take}
 use Rattle.limits.specs.Numbers.{maxCount}
@@ -26,14 +28,17 @@ use Rattle.validated.proofs.Facts.{facts-validated}
 use Rattle.instance.proofs.Parts.{pairWords-length}
 use Rattle.header.specs.Form.{version}
 use Rattle.encoding.specs.Form.{instanceBytes}
-use Rattle.decoding.specs.Read.{File, readInstance, file}
+use Rattle.zero_wire.specs.Zero.{hasZeroWire}
+use Rattle.decoding.specs.Read.{plain, strict, File, readInstance, file}
 use Rattle.decoding.specs.Sound.{SoundFile, roomAsks, orderAsks, gotAfter}
 use Rattle.encoding.specs.Answers.{instanceToBytes, instanceToBytesNo}
 use Rattle.decoding.specs.Answers.{instanceFromBytes, instanceAnswer, publicsAfter, queriesAfter, equationsAfter, labelRead}
 use Rattle.encoding.specs.declared.Written.{Written}
 use Rattle.decoding.specs.declared.InstanceRead.{InstanceRead}
 use Rattle.encoding.proofs.Length.{length-instanceBytes}
-use Rattle.roundtrip.proofs.Reading.{after-after, read-written}
+use Rattle.decoding.proofs.After.{after-after}
+use Rattle.roundtrip.proofs.Reading.{read-written}
+use Rattle.roundtrip.proofs.Rules.{strict-written}
 use Rattle.history.specs.Ledger.{Ledger}
 use Rattle.history.specs.Calls.{State}
 use Rattle.history.specs.Left.{publicCount, fileLength, instanceLength, instanceWriteLeft, instanceReadLeft}
@@ -45,7 +50,7 @@ use Rattle.history.proofs.Outcomes.{past-yes, past-width, then, accepte
 use Rattle.history.proofs.Accepted.{InstanceWriteLeft, instanceWriteLeft-yes, instanceReadLeft-yes}
 use Rattle.history.proofs.Gate.{queries-held, equations-held-are, public-count}
 use Rattle.history.proofs.Made.{full, ps, ins, publics-wires, publics-values, HoldsWords, Sized, queries-length, parts-held, sizes-yes, sound-yes, compiles, parts-valid, publics-room, gate-holds, gate-sized}
-use Rattle.history.proofs.Sound.{in-order, sound-pairs, sound-queries, sound-equations}
+use Rattle.history.proofs.Sound.{in-order, zero-listed, sound-pairs, sound-queries, sound-equations}
 use Rattle.history.proofs.Bytes.{written-bytes, padded-held, padded-length, got-yes, instance-outcome}
 use Rattle.history.proofs.Traces.{few, trace-read}
 use Rattle.history.proofs.Checks.{checks-are}
@@ -176,16 +181,16 @@ module _ (s : State) (l : Ledger) (i : Agrees (s .relation .width) s l)
         ++ (storeAsks (f .rooms .equations) ++ storeAsks (f .rooms .scratch))))
 
     abbrev partsAsked : List Question
-    partsAsked = roomAsks w (f .rooms) parts ++ orderAsks (f .rooms) parts
+    partsAsked = roomAsks w (f .rooms) parts ++ orderAsks plain (f .rooms) parts
 
     abbrev readNo : ℕ
     readNo = firstNo sizesAsked ▸ firstNo partsAsked
 
-    got-is : instanceFromBytes w bytesMade (f .rooms) ≡ gotAfter readNo (got (file (f .label) parts) [])
+    got-is : instanceFromBytes plain w bytesMade (f .rooms) ≡ gotAfter readNo (got (file (f .label) parts) [])
     unfolding instanceFromBytes
     got-is =
-        ap (λ (b : List ℕ). gotAfter (firstNo sizesAsked) (readInstance version w (f .rooms) b)) bytes-are
-        ∙ ap (gotAfter (firstNo sizesAsked)) (read-written version w (f .rooms) (f .label) parts sound-file)
+        ap (λ (b : List ℕ). gotAfter (firstNo sizesAsked) (readInstance plain version w (f .rooms) b)) bytes-are
+        ∙ ap (gotAfter (firstNo sizesAsked)) (read-written plain version w (f .rooms) (f .label) parts sound-file)
         ∙ after-after _ _ (got (file (f .label) parts) [])
 
     read-left : readNo ≡ firstNo (instanceReadLeft w l (f .rooms))
@@ -200,12 +205,21 @@ module _ (s : State) (l : Ledger) (i : Agrees (s .relation .width) s l)
         ∙ ap₂ _▸_ (ap (λ (n : ℕ). ask 16 (leb n (f .rooms .scratch))) (i .count))
         (facts-validated parts (parts-valid s l i gateLabel publics scratch gate)))))))))
 
+    -- wire 0 was set to 0 from the start
+    lists-zero : hasZeroWire parts ≡ true
+    lists-zero =
+        let o = i .inSlots in
+        rw (lt-ltb 0 (rel .vars) (o .least)) (zero-listed (take (rel .vars) (s .slots)) (o .held 0 ∙ o .zeroth))
+
+    strict-too : instanceFromBytes strict w bytesMade (f .rooms) ≡ instanceFromBytes plain w bytesMade (f .rooms)
+    strict-too = rw bytes-are (strict-written w (f .label) parts (f .rooms) sound-file lists-zero)
+
     read-outcome : back .outcome ≡ outcomeOf readNo
     read-outcome = ap (λ (g : Got File). instanceAnswer w g .outcome) got-is ∙ instance-outcome w readNo (file (f .label) parts)
 
     -- ---- and the read accepted
     module _ (y : readNo ≡ 0) where
-      got-file : instanceFromBytes w bytesMade (f .rooms) ≡ got (file (f .label) parts) []
+      got-file : instanceFromBytes plain w bytesMade (f .rooms) ≡ got (file (f .label) parts) []
       got-file = got-is ∙ got-yes readNo (got (file (f .label) parts) []) y
 
       instance-is : back .instance ≡ ins s l i
@@ -286,5 +300,6 @@ module _ (s : State) (l : Ledger) (i : Agrees (s .relation .width) s l)
     writes = record { by-questions = refl; by-ledger = ap outcomeOf write-left };
     reads = λ a. read-outcome (written-no a) ∙ ap outcomeOf (read-left (written-no a));
     same = λ a b. same-file (written-no a) (read-no a b);
+    strictly = λ a. strict-too (written-no a);
     checks = λ a b. read-checks (written-no a) (read-no a b);
   }

@@ -4,20 +4,23 @@ use Prim.Native.Nat.{ℕ, suc, _+_, _-_, _≤_, _<_}
 use mathlib.Core.Path.{_≡_, refl}
 use mathlib.Core.Bool.{Bool, true, false, and-eq-true-iff}
 use mathlib.Core.List.{List, [], _∷_}
+use mathlib.Core.Option.{Option, none, some}
 use native.Mathlib.Omega.{arith}
 use borrow.Author.Tests.{ltb-true, lt-ltb}
 use lib.Dec.{eqb, ltb}
-use lib.ListN.{length, length-append}
+use lib.ListN.{length, length-append, getD}
 use Rattle.limits.specs.Numbers.{prime, maxCount, unassigned}
 use Rattle.limits.specs.Questions.{pick}
 use Rattle.words.specs.Store.{All, allBelow}
 use Rattle.words.specs.Pieces.{flat}
 use Rattle.allocator.specs.Slots.{Pair, pair}
+use Rattle.allocator.specs.Values.{slotUnit}
 use Rattle.expr.specs.Equation.{Term, Equation, termVars, termWeights, equationWords, equationsWords, equationsHeld}
 use Rattle.expr.proofs.Held.{length-equation}
 use Rattle.instance.specs.Parts.{pairVars, pairValues}
 use Rattle.compile.specs.Gate.{publicsFrom}
 use Rattle.held.proofs.Facts.{allBelow-facts}
+use Rattle.zero_wire.specs.Zero.{listsZero}
 use Rattle.decoding.specs.Read.{increasing}
 use Rattle.decoding.specs.Sound.{SoundPair, SoundTerm, SoundEquation, SoundPiece}
 use Rattle.history.proofs.Shapes.{all-left, all-right}
@@ -41,6 +44,15 @@ in-order i (x ∷ slots) = go (in-order (suc i) slots) (eqb x unassigned)
         → (b : Bool) → increasing (pick b (publicsFrom (suc i) slots) (pair i x ∷ publicsFrom (suc i) slots)) ≡ true
     go a true = a
     go a false = after-it (suc i) slots (pair i x) (omega arith)
+
+-- where slot 0 holds 0, they list wire 0 with value 0
+pub zero-listed : (slots : List ℕ) → slotUnit (getD slots 0 unassigned) ≡ some 0 → listsZero (publicsFrom 0 slots) ≡ true
+zero-listed [] e = absurd (let z : _≡_ {A = ℕ} 0 1 = cc in omega arith)
+zero-listed (x ∷ slots) e = go (eqb x unassigned) e
+  where
+    go : (b : Bool) → pick b none (some x) ≡ some 0 → listsZero (pick b (publicsFrom 1 slots) (pair 0 x ∷ publicsFrom 1 slots)) ≡ true
+    go true h = absurd (let z : _≡_ {A = ℕ} 0 1 = cc in omega arith)
+    go false h = let z : x ≡ 0 = cc in rw z
 
 -- ---- sound items
 pub sound-pairs : (l : List Pair) → All (λ x. x < maxCount) (pairVars l) → All (λ v. v < prime) (pairValues l) → All SoundPair l

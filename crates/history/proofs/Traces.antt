@@ -24,7 +24,8 @@ use Rattle.decoding.specs.Sound.{SoundPiece, SoundSteps, gotAfter}
 use Rattle.encoding.specs.Answers.{witnessToBytes, witnessToBytesNo}
 use Rattle.decoding.specs.Answers.{witnessFromBytes, witnessAnswer, traceAfter}
 use Rattle.encoding.proofs.Length.{length-witnessBytes}
-use Rattle.roundtrip.proofs.Reading.{after-after, read-witness-written}
+use Rattle.decoding.proofs.After.{after-after}
+use Rattle.roundtrip.proofs.Reading.{read-witness-written}
 use Rattle.history.specs.Left.{traceLength, witnessWriteLeft, witnessReadLeft}
 use Rattle.history.specs.Demand.{Accepted}
 use Rattle.history.specs.Whole.{TraceHeld, TraceLent, witnessWritten, witnessBytesMade, witnessReadBack, traceReadBack, Traced}

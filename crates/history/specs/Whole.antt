@@ -7,7 +7,8 @@
 --       those of the cells of the queries that the ledger has (`used`)
 --   (2) so do the gate and the writes, by 01's own lists of questions; and which of them, and of the reads', can
 --       still say no is told by the ledger and the sizes of what is lent alone (`gates`, `writes`, `reads`)
---   (3) what was read is what was written: width and counts, label bytes, held words, steps (`same`)
+--   (3) what was read is what was written: width and counts, label bytes, held words, steps (`same`); and the strict
+--       read gets what the plain one gets (`strictly`), so all that is said of a read holds of both
 --   (4) the check accepts or answers 31 to 35, and it accepts exactly where the ledger at the gate has an
 --       assignment as document 01 demands (`checks`)
 --
@@ -34,7 +35,7 @@ use Rattle.instance.specs.declared.PermutationInstance.{PermutationInstance}
 use Rattle.compile.specs.Gate.{GateLent, gateLent, compileAsks, compile, compilePublics}
 use Rattle.compile.specs.declared.Compiled.{Compiled}
 use Rattle.validity.specs.Valid.{stepsOf, isWitnessValid}
-use Rattle.decoding.specs.Read.{Rooms, File}
+use Rattle.decoding.specs.Read.{Rooms, plain, strict, File}
 use Rattle.encoding.specs.Answers.{writtenOf, writtenOut, instanceToBytes, instanceToBytesAsks, instanceToBytesNo, witnessToBytes, witnessToBytesAsks, witnessToBytesNo}
 use Rattle.decoding.specs.Answers.{instanceFromBytes, witnessFromBytes, instanceAnswer, publicsAfter, queriesAfter, equationsAfter, witnessAnswer, traceAfter, labelRead}
 use Rattle.encoding.specs.declared.Written.{Written}
@@ -133,7 +134,7 @@ module _ (w : ℕ) (asked stated : List ℕ) (ins : PermutationInstance) (made :
 
   -- and read: the answer, the label, and the stores
   abbrev instanceGot : Got File
-  instanceGot = instanceFromBytes w instanceBytesMade (f .rooms)
+  instanceGot = instanceFromBytes plain w instanceBytesMade (f .rooms)
 
   -- the answer, with the record that was read
   abbrev pub instanceReadBack : InstanceRead
@@ -169,6 +170,8 @@ module _ (w : ℕ) (asked stated : List ℕ) (ins : PermutationInstance) (made :
         (firstNo (instanceWriteLeft w l (f .label) (length (f .out))))
     pub reads : Accepted (instanceWritten .outcome) → instanceReadBack .outcome ≡ outcomeOf (firstNo (instanceReadLeft w l (f .rooms)))
     pub same : Accepted (instanceWritten .outcome) → Accepted (instanceReadBack .outcome) → SameFile
+    -- and strictly (document 02, R-7): the same file, or the same number, which is never 46
+    pub strictly : Accepted (instanceWritten .outcome) → instanceFromBytes strict w instanceBytesMade (f .rooms) ≡ instanceGot
     -- the check of what was read, for every trace through its bytes
     pub checks : Accepted (instanceWritten .outcome) → Accepted (instanceReadBack .outcome)
         → (t : TraceLent) → Accepted (witnessWritten w t .outcome) → Accepted (witnessReadBack w t .outcome)

@@ -26,9 +26,10 @@ use Rattle.validated.specs.Validated.{gateNo}
 use Rattle.header.specs.Form.{letterI, letterW, magic, headerBytes}
 use Rattle.encoding.specs.Form.{labelBytes, pairBytes, pieceBytes, equationBytes, partsBytes, instanceBytes, witnessBytes}
 use Rattle.header.specs.Read.{readMagic, readHeader}
-use Rattle.decoding.specs.Read.{Rooms, File, readLabel, readPair, readEquation, pairSize, pieceSize, sizeOf, readPublics, readQueries, readEquations, readParts, readSteps, increasing, file, readFile, ended, readInstance, readWitness}
+use Rattle.decoding.specs.Read.{Rooms, File, readLabel, readPair, readEquation, pairSize, pieceSize, sizeOf, readPublics, readQueries, readEquations, readParts, readSteps, increasing, Rule, file, readFile, ended, readInstance, readWitness}
 use Rattle.decoding.specs.Sound.{SoundPair, SoundEquation, SoundPiece, SoundFile, SoundSteps, roomAsks, orderAsks, gotAfter}
 use Rattle.roundtrip.proofs.Fields.{word-below, pair-back, pair-sound, equation-back, equation-sound, piece-back, piece-sound}
+use Rattle.decoding.proofs.After.{number-got, after-got, ended-got}
 use Rattle.header.proofs.Got.{took, asked, need-last, got-is, HeaderGot, header-got}
 use Rattle.roundtrip.proofs.Reading.{read-written, read-witness-written}
 
@@ -201,24 +202,11 @@ parts-back width rooms bs parts r h g =
       equations = be .sound;
     }
 
--- ---- nothing left over
-ended-got : {B : Type 0} (bs : List ℕ) (x y : B) (r : List ℕ) → (ended >> give x) bs ≡ got y r → (bs ≡ []) × (x ≡ y)
-ended-got [] x y r e = (refl, cc)
-ended-got (a ∷ bs) x y r e = absurd (never e)
-
-number-got : {B : Type 0} (k : ℕ) (bs : List ℕ) (next : Reader B) (b : B) (r : List ℕ) → (number k >> next) bs ≡ got b r → next bs ≡ got b r
-number-got zero bs next b r e = e
-number-got (suc k) bs next b r e = absurd (never e)
-
-after-got : {A : Type 0} (k : ℕ) (a b : A) (r s : List ℕ) → gotAfter k (got a r) ≡ got b s → (k ≡ 0) × (s ≡ r)
-after-got zero a b r s e = (refl, cc)
-after-got (suc k) a b r s e = absurd (never e)
-
 -- ---- SFRI
-pub record FileRead (version width : ℕ) (rooms : Rooms) (bytes : List ℕ) (label : List ℕ) (parts : Parts) (rest : List ℕ) : Type 0 where
+pub record FileRead (rule : Rule) (version width : ℕ) (rooms : Rooms) (bytes : List ℕ) (label : List ℕ) (parts : Parts) (rest : List ℕ) : Type 0 where
   pub written : instanceBytes version width label parts ≡ bytes
   pub sound : SoundFile width label parts
-  pub passes : firstNo (roomAsks width rooms parts ++ orderAsks rooms parts) ≡ 0
+  pub passes : firstNo (roomAsks width rooms parts ++ orderAsks rule rooms parts) ≡ 0
   pub ended : rest ≡ []
 
 -- a file that was read, and what is left after each part
@@ -229,19 +217,20 @@ record FileGot (version width : ℕ) (rooms : Rooms) (bs label : List ℕ) (part
   pub labelGot : readLabel afterHeader ≡ got label afterLabel
   pub partsGot : PartsGot width rooms afterLabel parts []
 
-file-got : (version width : ℕ) (rooms : Rooms) (bs label : List ℕ) (parts : Parts) (rest : List ℕ)
-    → readInstance version width rooms bs ≡ got (file label parts) rest → FileGot version width rooms bs label parts
+file-got : (rule : Rule) (version width : ℕ) (rooms : Rooms) (bs label : List ℕ) (parts : Parts) (rest : List ℕ)
+    → readInstance rule version width rooms bs ≡ got (file label parts) rest → FileGot version width rooms bs label parts
 unfolding readInstance readFile
-file-got version width rooms bs label parts rest e =
+file-got rule version width rooms bs label parts rest e =
     let f = file label parts in
-    took (readFile version width rooms bs) _ f rest e (λ x after ex e1.
+    took (readFile rule version width rooms bs) _ f rest e (λ x after ex e1.
     let n = number-got (gateNo (x .parts) (rooms .scratch)) after (ended >> give x) f rest e1 in
     let d = ended-got after x f rest n in
-    let ef : readFile version width rooms bs ≡ got f [] = got-is ex (d .1) (d .0) in
+    let ef : readFile rule version width rooms bs ≡ got f [] = got-is ex (d .1) (d .0) in
     took (readHeader letterI version width bs) _ f [] ef (λ u afterHeader eh e2.
     took (readLabel afterHeader) _ f [] e2 (λ l afterLabel el e3.
     took (readParts width rooms afterLabel) _ f [] e3 (λ ps end ep e4.
     asked 27 (increasing (ps .publics)) end _ f [] e4 (λ o e5.
+    let e6 = number-got (firstNo (rule ps)) end (give (file l ps)) f [] e5 in
     let same : file l ps ≡ f = cc in
     record {
       afterHeader = afterHeader;
@@ -274,22 +263,22 @@ file-back version width rooms bs label parts h g =
       },
     )
 
-pub written-read : (version width : ℕ) (rooms : Rooms) (bytes label : List ℕ) (parts : Parts) (rest : List ℕ) → IsBytes bytes
-    → readInstance version width rooms bytes ≡ got (file label parts) rest → FileRead version width rooms bytes label parts rest
-written-read version width rooms bytes label parts rest h e =
-    let b = file-back version width rooms bytes label parts h (file-got version width rooms bytes label parts rest e) in
-    let k = after-got (firstNo (roomAsks width rooms parts ++ orderAsks rooms parts)) (file label parts) (file label parts) [] rest
-    (sym (read-written version width rooms label parts (b .1)) ∙ ap (readInstance version width rooms) (b .0) ∙ e) in
+pub written-read : (rule : Rule) (version width : ℕ) (rooms : Rooms) (bytes label : List ℕ) (parts : Parts) (rest : List ℕ) → IsBytes bytes
+    → readInstance rule version width rooms bytes ≡ got (file label parts) rest → FileRead rule version width rooms bytes label parts rest
+written-read rule version width rooms bytes label parts rest h e =
+    let b = file-back version width rooms bytes label parts h (file-got rule version width rooms bytes label parts rest e) in
+    let k = after-got (firstNo (roomAsks width rooms parts ++ orderAsks rule rooms parts)) (file label parts) (file label parts) [] rest
+    (sym (read-written rule version width rooms label parts (b .1)) ∙ ap (readInstance rule version width rooms) (b .0) ∙ e) in
     record { written = b .0; sound = b .1; passes = k .0; ended = k .1 }
 
 -- a read accepts exactly the bytes of sound parts that pass, and gives those parts back
-pub reads-exactly : (version width : ℕ) (rooms : Rooms) (bytes label : List ℕ) (parts : Parts) → IsBytes bytes
-    → readInstance version width rooms bytes ≡ got (file label parts) [] ↔ FileRead version width rooms bytes label parts []
-reads-exactly version width rooms bytes label parts h = (
-  λ e. written-read version width rooms bytes label parts [] h e,
+pub reads-exactly : (rule : Rule) (version width : ℕ) (rooms : Rooms) (bytes label : List ℕ) (parts : Parts) → IsBytes bytes
+    → readInstance rule version width rooms bytes ≡ got (file label parts) [] ↔ FileRead rule version width rooms bytes label parts []
+reads-exactly rule version width rooms bytes label parts h = (
+  λ e. written-read rule version width rooms bytes label parts [] h e,
   λ f.
-      ap (readInstance version width rooms) (sym (f .written))
-      ∙ read-written version width rooms label parts (f .sound)
+      ap (readInstance rule version width rooms) (sym (f .written))
+      ∙ read-written rule version width rooms label parts (f .sound)
       ∙ ap (λ (k : ℕ). gotAfter k (got (file label parts) [])) (f .passes),
 )
 

@@ -1,4 +1,5 @@
 pub mod Fields
 pub mod Reading
 pub mod Back
+pub mod Rules
 pub mod Examples

@@ -2,7 +2,7 @@
 -- left, which are 10 of each store, 27, 16 and 12 to 15; the bytes of sound steps up to 10 of the trace.
 -- Assumes nothing.
 use Prim.Native.Nat.{ℕ, zero, suc, _+_, _*_, _<_}
-use mathlib.Core.Path.{_≡_, refl, ap, _∙_}
+use mathlib.Core.Path.{_≡_, refl, sym, ap, _∙_}
 use mathlib.Core.Bool.{Bool, true, false}
 use mathlib.Core.List.{List, [], _∷_, _++_, append-assoc, append-nil}
 use native.Mathlib.Omega.{arith}
@@ -11,7 +11,7 @@ use lib.Dec.{leb}
 use lib.ListN.{length}
 use Rattle.limits.specs.Numbers.{prime, maxCount}
 use Rattle.limits.specs.Questions.{ask, _▸_, Question, question, firstNo}
-use Rattle.limits.proofs.Questions.{▸-zero, zero-▸, ▸-assoc}
+use Rattle.limits.proofs.Questions.{▸-zero, zero-▸, ▸-assoc, firstNo-append}
 use Rattle.words.specs.Store.{All}
 use Rattle.words.specs.Pieces.{wordsOf}
 use Rattle.utf8.specs.Utf8.{isUtf8}
@@ -22,37 +22,14 @@ use Rattle.narg.proofs.Lists.{items-law}
 use Rattle.allocator.specs.Slots.{Pair}
 use Rattle.expr.specs.Equation.{Equation, equationsWords}
 use Rattle.instance.specs.Parts.{Parts}
-use Rattle.validated.specs.Validated.{gateNo}
+use Rattle.validated.specs.Validated.{gateAsks, gateNo}
 use Rattle.header.specs.Form.{letterI, letterW, headerBytes}
 use Rattle.encoding.specs.Form.{labelBytes, pairBytes, pieceBytes, equationBytes, partsBytes, instanceBytes, witnessBytes}
 use Rattle.header.specs.Read.{readMagic, readHeader}
-use Rattle.decoding.specs.Read.{Rooms, File, readLabel, readPair, readEquation, pairSize, pieceSize, sizeOf, readPublics, readQueries, readEquations, readParts, readSteps, increasing, gated, ended, file, readFile, readInstance, readWitness}
+use Rattle.decoding.specs.Read.{Rooms, File, readLabel, readPair, readEquation, pairSize, pieceSize, sizeOf, readPublics, readQueries, readEquations, readParts, readSteps, increasing, Rule, ruled, gated, ended, file, readFile, readInstance, readWitness}
 use Rattle.decoding.specs.Sound.{SoundPair, SoundEquation, SoundPiece, SoundFile, SoundSteps, roomAsks, orderAsks, gotAfter}
+use Rattle.decoding.proofs.After.{onGot-after, after-after, orStop-after, need-after, number-after}
 use Rattle.roundtrip.proofs.Fields.{pair-law, equation-law, piece-law, sizes-pairs, sizes-pieces, sizes-equations}
-
--- ---- readers after a number
-pub onGot-after : {A B : Type 0} (k : ℕ) (a : A) (r : List ℕ) (next : A → Reader B) → onGot (gotAfter k (got a r)) next ≡ gotAfter k (next a r)
-onGot-after zero a r next = refl
-onGot-after (suc k) a r next = refl
-
-pub after-after : {A : Type 0} (j k : ℕ) (g : Got A) → gotAfter j (gotAfter k g) ≡ gotAfter (j ▸ k) g
-unfolding _▸_
-after-after zero k g = refl
-after-after (suc j) k g = refl
-
-pub orStop-after : {A : Type 0} (k : ℕ) (b : Bool) (g : Got A) → orStop b (suc k) g ≡ gotAfter (ask (suc k) b) g
-unfolding orStop ask
-orStop-after k true g = refl
-orStop-after k false g = refl
-
-pub need-after : {B : Type 0} (k : ℕ) (b : Bool) (bs : List ℕ) (next : Reader B) → (need (suc k) b >> next) bs ≡ gotAfter (ask (suc k) b) (next bs)
-unfolding ask
-need-after k true bs next = refl
-need-after k false bs next = refl
-
-pub number-after : {B : Type 0} (k : ℕ) (bs : List ℕ) (next : Reader B) → (number k >> next) bs ≡ gotAfter k (next bs)
-number-after zero bs next = refl
-number-after (suc k) bs next = refl
 
 -- ---- header and label
 pub header-law : (last version width : ℕ) (r : List ℕ) → width < wordEnd → readHeader last version width (headerBytes last version width ++ r) ≡ got tt r
@@ -126,21 +103,23 @@ parts-law width rooms label parts r s =
       ▸-zero,
     )
 
--- ---- after the parts: 27, then 16 and 12 to 15
-abbrev fileAsks : ℕ → Rooms → Parts → List Question
-fileAsks width rooms parts = roomAsks width rooms parts ++ (question 27 (increasing (parts .publics)) ∷ [])
+-- ---- after the parts: 27, what the rule asks, then 16 and 12 to 15
+abbrev pub fileAsks : Rule → ℕ → Rooms → Parts → List Question
+fileAsks rule width rooms parts = roomAsks width rooms parts ++ (question 27 (increasing (parts .publics)) ∷ rule parts)
 
-pub file-law : (version width : ℕ) (rooms : Rooms) (label : List ℕ) (parts : Parts) → SoundFile width label parts
-    → readFile version width rooms (instanceBytes version width label parts) ≡ gotAfter (firstNo (fileAsks width rooms parts)) (got (file label parts) [])
+pub file-law : (rule : Rule) (version width : ℕ) (rooms : Rooms) (label : List ℕ) (parts : Parts) → SoundFile width label parts
+    → readFile rule version width rooms (instanceBytes version width label parts) ≡ gotAfter (firstNo (fileAsks rule width rooms parts)) (got (file label parts) [])
 unfolding readFile instanceBytes
-file-law version width rooms label parts s =
+file-law rule version width rooms label parts s =
     rw (
       header-law letterI version width (labelBytes label ++ partsBytes parts) (s .widthFits),
       label-law label (partsBytes parts) (s .labelLength) (s .labelUtf8),
       ← append-nil (partsBytes parts),
       parts-law width rooms label parts [] s,
       onGot-after _ parts [] _,
-      need-after 26 (increasing (parts .publics)) [] (give (file label parts)),
+      need-after 26 (increasing (parts .publics)) [] (ruled rule parts >> give (file label parts)),
+      number-after (firstNo (rule parts)) [] (give (file label parts)),
+      after-after,
       after-after,
     )
     (simp (▸-assoc, ▸-zero))
@@ -149,16 +128,17 @@ gate-law : (scratch : ℕ) (f : File) → (gated scratch (f .parts) >> ended >> 
 gate-law scratch f = number-after (gateNo (f .parts) scratch) [] (ended >> give f)
 
 -- ---- SFRI
-pub read-written : (version width : ℕ) (rooms : Rooms) (label : List ℕ) (parts : Parts) → SoundFile width label parts
-    → readInstance version width rooms (instanceBytes version width label parts)
-    ≡ gotAfter (firstNo (roomAsks width rooms parts ++ orderAsks rooms parts)) (got (file label parts) [])
+pub read-written : (rule : Rule) (version width : ℕ) (rooms : Rooms) (label : List ℕ) (parts : Parts) → SoundFile width label parts
+    → readInstance rule version width rooms (instanceBytes version width label parts)
+    ≡ gotAfter (firstNo (roomAsks width rooms parts ++ orderAsks rule rooms parts)) (got (file label parts) [])
 unfolding readInstance gateNo
-read-written version width rooms label parts s =
+read-written rule version width rooms label parts s =
     let f = file label parts in
-    let k = firstNo (fileAsks width rooms parts) in
+    let k = firstNo (fileAsks rule width rooms parts) in
     let n = gateNo parts (rooms .scratch) in
-    let e : k ▸ n ≡ firstNo (roomAsks width rooms parts ++ orderAsks rooms parts) = simp (▸-assoc, zero-▸, ▸-zero) in
-    ap (λ (g : Got File). onGot g (λ x. gated (rooms .scratch) (x .parts) >> ended >> give x)) (file-law version width rooms label parts s)
+    let e : k ▸ n ≡ firstNo (roomAsks width rooms parts ++ orderAsks rule rooms parts) =
+    sym (firstNo-append (fileAsks rule width rooms parts) (gateAsks parts (rooms .scratch))) in
+    ap (λ (g : Got File). onGot g (λ x. gated (rooms .scratch) (x .parts) >> ended >> give x)) (file-law rule version width rooms label parts s)
     ∙ onGot-after k f [] (λ x. gated (rooms .scratch) (x .parts) >> ended >> give x)
     ∙ ap (gotAfter k) (gate-law (rooms .scratch) f)
     ∙ after-after k n (got f [])

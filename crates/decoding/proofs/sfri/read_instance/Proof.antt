@@ -1,13 +1,53 @@
 -- `sfri::read_instance` meets its contract: the file, the gate on the parts that the stores hold, and 28.
 -- Assumes nothing.
+use Prim.Native.Nat.{ℕ}
 use mathlib.Core.Path.{ap, _∙_}
+use mathlib.Core.List.{List}
 use denote.Ref.{now}
-use Rattle.decoding.specs.Answers.{refusedInstance, stores}
-use Rattle.decoding.specs.Given.{fileNumberOf}
-use Rattle.decoding.proofs.Files.{file-refused, file-got, whole-refused, gate-refused, end-refused, whole-yes, tell-no, tell-yes}
+use Rattle.decoding.specs.Read.{Rule}
+use Rattle.decoding.specs.Answers.{refusedInstance, Stores, stores}
+use Rattle.decoding.specs.Given.{fileNumberOf, ruleOf}
+use Rattle.decoding.proofs.Files.{FileGiven, file-refused, file-got, whole-refused, gate-refused, end-refused, whole-yes, tell-no, tell-yes}
 use borrow.Author.Needs.{needs}
 use Rattle.decoding.proofs.sfri.read_instance.Statement.{statement}
 use Rattle.decoding.proofs.sfri.read_instance.Tie as tie
+
+-- ---- what was lent, and what is known at each stage
+module _ (o : tie.Start) where
+  abbrev rule : Rule
+  rule = ruleOf (o .args .strict)
+
+  abbrev width : ℕ
+  width = o .args .width
+
+  abbrev bytes : List ℕ
+  bytes = now (o .args .bytes)
+
+  abbrev before : Stores
+  before = stores (now (o .args .publics)) (now (o .args .queries)) (now (o .args .equations)) (now (o .args .scratch))
+
+abbrev start : tie.After-read-file → tie.Start
+start f = f .before .before .before .before .before .before .before .before .before
+
+-- the file was read
+abbrev reading : tie.After-file → tie.After-read-file
+reading t = t .before .before .before .before .before .before .before .before
+
+abbrev lent : tie.After-file → tie.Start
+lent t = start (reading t)
+
+abbrev endAt : tie.After-file → ℕ
+endAt t = t .file .given .0 .1 .0 .at
+
+file-read : (t : tie.After-file) → FileGiven _ _ _ _ _ _ _ _ _ _ (reading t .read-file .ensures) (t .file .given .0 .0) (t .file .given .0 .1 .0)
+file-read t = file-got _ _ _ _ _ _ _ _ _ _ (reading t .read-file .ensures) _ _ (t .file .given .1)
+
+-- and the gate asked
+abbrev gated : tie.After-asked-validated → tie.After-file
+gated v = v .before .before .before .before .before .before .before
+
+abbrev passed : tie.Else1 → tie.After-asked-validated
+passed i = i .before .before .before
 
 read-file-requires : tie.Need-read-file-requires
 read-file-requires c κs = search needs
@@ -36,12 +76,10 @@ same-length-3 c = search needs
 returns : tie.Need-returns
 returns c =
     let f = c .before .before .before .before .before .before .before .before .before .before in
-    let s = f .before .before .before .before .before .before .before .before .before in
-    let a = s .args in
-    let before = stores (now (a .publics)) (now (a .queries)) (now (a .equations)) (now (a .scratch)) in
+    let o = start f in
     let e = c .before .before .enum-told .given .1 in
-    tell-no (a .width) (now (a .bytes)) before _ _ _ (c .refused .ensures ∙ ap refusedInstance (c .before .file-number .ensures ∙ ap fileNumberOf e))
-    (whole-refused (a .width) (now (a .bytes)) before _ (file-refused _ _ _ _ _ _ _ _ _ (f .read-file .ensures) _ e))
+    tell-no (rule o) (width o) (bytes o) (before o) _ _ _ (c .refused .ensures ∙ ap refusedInstance (c .before .file-number .ensures ∙ ap fileNumberOf e))
+    (whole-refused (rule o) (width o) (bytes o) (before o) _ (file-refused _ _ _ _ _ _ _ _ _ _ (f .read-file .ensures) _ e))
 
 asked-validated-requires : tie.Need-asked-validated-requires
 asked-validated-requires c κs = search needs
@@ -63,20 +101,18 @@ same-length-7 c = search needs
 
 returns-2 : tie.Need-returns-2
 returns-2 c =
-    let fl = c .before .before .before .before .before .before .before .before .before .before .before in
-    let f = fl .before .before .before .before .before .before .before .before in
-    let s = f .before .before .before .before .before .before .before .before .before in
-    let a = s .args in
-    let before = stores (now (a .publics)) (now (a .queries)) (now (a .equations)) (now (a .scratch)) in
-    let g = file-got _ _ _ _ _ _ _ _ _ (f .read-file .ensures) _ _ (fl .file .given .1) in
-    tell-no (a .width) (now (a .bytes)) before _ _ _ (c .refused2 .ensures)
-    (gate-refused (a .width) (now (a .bytes)) before (g .file) (fl .file .given .0 .1 .0 .at) (g .reads) _ _ (g .holds) (c .before .before .before .before .asked-validated .ensures .answer) (c .before .if1 .taken))
+    let v = c .before .before .before .before in
+    let t = gated v in
+    let o = lent t in
+    let g = file-read t in
+    tell-no (rule o) (width o) (bytes o) (before o) _ _ _ (c .refused2 .ensures)
+    (gate-refused (rule o) (width o) (bytes o) (before o) (g .file) (endAt t) (g .reads) _ _ (g .holds) (v .asked-validated .ensures .answer) (c .before .if1 .taken))
 
 refused-requires-3 : tie.Need-refused-requires-3
 refused-requires-3 c κs = search needs
 
 same-length-8 : tie.Need-same-length-8
-same-length-8 c = c .before .before .before .before .before .before .before .before .before .before .before .before .before .before .before .before .before .before .before .before .before .read-file .kept .1 .1 .0
+same-length-8 c = reading (gated (passed (c .before .before .before))) .read-file .kept .1 .1 .1 .0
 
 same-length-9 : tie.Need-same-length-9
 same-length-9 c = search needs
@@ -89,14 +125,13 @@ same-length-11 c = search needs
 
 returns-3 : tie.Need-returns-3
 returns-3 c =
-    let fl = c .before .before .before .before .before .before .before .before .before .before .before .before .before in
-    let f = fl .before .before .before .before .before .before .before .before in
-    let s = f .before .before .before .before .before .before .before .before .before in
-    let a = s .args in
-    let before = stores (now (a .publics)) (now (a .queries)) (now (a .equations)) (now (a .scratch)) in
-    let g = file-got _ _ _ _ _ _ _ _ _ (f .read-file .ensures) _ _ (fl .file .given .1) in
-    tell-no (a .width) (now (a .bytes)) before _ _ _ (c .refused3 .ensures)
-    (end-refused (a .width) (now (a .bytes)) before (g .file) (fl .file .given .0 .1 .0 .at) (g .reads) _ _ (g .holds) (c .before .before .before .before .before .before .asked-validated .ensures .answer) (c .before .before .before .if1 .left) (c .before .if2 .taken))
+    let i = c .before .before .before in
+    let v = passed i in
+    let t = gated v in
+    let o = lent t in
+    let g = file-read t in
+    tell-no (rule o) (width o) (bytes o) (before o) _ _ _ (c .refused3 .ensures)
+    (end-refused (rule o) (width o) (bytes o) (before o) (g .file) (endAt t) (g .reads) _ _ (g .holds) (v .asked-validated .ensures .answer) (i .if1 .left) (c .before .if2 .taken))
 
 same-length-12 : tie.Need-same-length-12
 same-length-12 c = search needs
@@ -112,14 +147,14 @@ same-length-15 c = search needs
 
 returns-4 : tie.Need-returns-4
 returns-4 c =
-    let fl = c .before .before .before .before .before .before .before .before .before .before .before .before in
-    let f = fl .before .before .before .before .before .before .before .before in
-    let s = f .before .before .before .before .before .before .before .before .before in
-    let a = s .args in
-    let before = stores (now (a .publics)) (now (a .queries)) (now (a .equations)) (now (a .scratch)) in
-    let g = file-got _ _ _ _ _ _ _ _ _ (f .read-file .ensures) _ _ (fl .file .given .1) in
-    let v = c .before .before .before .before .before .asked-validated .ensures in
-    tell-yes (a .width) (now (a .bytes)) before _ (g .file) _ (whole-yes (a .width) (now (a .bytes)) before (g .file) (fl .file .given .0 .1 .0 .at) (g .reads) _ _ (g .holds) (v .answer) (c .before .before .if1 .left) (c .if2 .left)) _ (g .is) (g .stored) (v .scratch)
+    let i = c .before .before in
+    let v = passed i in
+    let t = gated v in
+    let o = lent t in
+    let g = file-read t in
+    tell-yes (rule o) (width o) (bytes o) (before o) _ (g .file) _
+    (whole-yes (rule o) (width o) (bytes o) (before o) (g .file) (endAt t) (g .reads) _ _ (g .holds) (v .asked-validated .ensures .answer) (i .if1 .left) (c .if2 .left))
+    _ (g .is) (g .stored) (v .asked-validated .ensures .scratch)
 
 pub read-instance-spec : {M : Type 1} → statement M
 read-instance-spec =
