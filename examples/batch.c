@@ -68,9 +68,9 @@ static uint32_t batch(const uint32_t weights[2])
     sfr_written witness = sfr_witness_to_bytes(steps.trace, LENT(trace), LENT(sfrw));
     accepted(witness.number);
 
-    /* From here on only the bytes count. */
-    sfr_instance_read read = sfr_instance_from_bytes(1, sfri, instance.len, LENT(publics), LENT(queries),
-                                                     LENT(equations), LENT(scratch));
+    /* From here on only the bytes count. Provers insist on wire 0, listed with value 0. */
+    sfr_instance_read read = sfr_strict_instance_from_bytes(1, sfri, instance.len, LENT(publics), LENT(queries),
+                                                            LENT(equations), LENT(scratch));
     accepted(read.number);
     steps = sfr_witness_from_bytes(1, sfrw, witness.len, LENT(trace));
     accepted(steps.number);

@@ -55,8 +55,8 @@ fn batch(by_hopper: u32, by_hand: u32) -> Result<u32, Refused> {
     let witness = sfr::witness_to_bytes(rec, trace, sfrw);
     let (sfri, sfrw) = (&sfri[..instance.accepted()?], &sfrw[..witness.accepted()?]);
 
-    // From here on only the bytes count.
-    let read = sfr::instance_from_bytes(1, sfri, publics, queries, equations, scratch);
+    // From here on only the bytes count. Provers insist on wire 0, listed with value 0.
+    let read = sfr::strict_instance_from_bytes(1, sfri, publics, queries, equations, scratch);
     let (ins, label) = (read.accepted()?, sfr::label(sfri, &read));
     let rec = sfr::witness_from_bytes(1, sfrw, trace).accepted()?;
     Ok(sfr::is_witness_valid(

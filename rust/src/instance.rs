@@ -73,13 +73,9 @@ pub fn instance_to_bytes(
     }
 }
 
-/// Reads SFRI of that width; [`label`] then gives the label.
-///
-/// Questions 1, 2; field by field 20 and 21 to 25; per item 20 for each word, 3 for a wire and 4
-/// for a unit, then 10; 27; 16, 12, 13; term by term 14, 15; last 28. Lent: the bytes, exactly as
-/// written; three stores, which become the words read and then 0 to their end; scratch, a word per
-/// wire. A refusal leaves the three stores and scratch all 0.
-pub fn instance_from_bytes(
+/// A read, by the C function that makes it.
+fn read_by(
+    read: sys::InstanceFromBytes,
     width: u32,
     bytes: &[u8],
     publics: &mut [u32],
@@ -89,7 +85,7 @@ pub fn instance_from_bytes(
 ) -> InstanceRead {
     // SAFETY: see the head of this file.
     unsafe {
-        sys::sfr_instance_from_bytes(
+        read(
             width,
             bytes.as_ptr(),
             bytes.len(),
@@ -105,6 +101,24 @@ pub fn instance_from_bytes(
     }
 }
 
+/// Reads SFRI of that width; [`label`] then gives the label.
+///
+/// Questions 1, 2; field by field 20 and 21 to 25; per item 20 for each word, 3 for a wire and 4
+/// for a unit, then 10; 27; 16, 12, 13; term by term 14, 15; last 28. Lent: the bytes, exactly as
+/// written; three stores, which become the words read and then 0 to their end; scratch, a word per
+/// wire. A refusal leaves the three stores and scratch all 0.
+pub fn instance_from_bytes(
+    width: u32,
+    bytes: &[u8],
+    publics: &mut [u32],
+    queries: &mut [u32],
+    equations: &mut [u32],
+    scratch: &mut [u32],
+) -> InstanceRead {
+    let read = sys::sfr_instance_from_bytes;
+    read_by(read, width, bytes, publics, queries, equations, scratch)
+}
+
 /// Reads SFRI of that width that lists wire 0 with value 0, as provers insist; [`label`] then gives
 /// the label.
 ///
@@ -118,22 +132,8 @@ pub fn strict_instance_from_bytes(
     equations: &mut [u32],
     scratch: &mut [u32],
 ) -> InstanceRead {
-    // SAFETY: see the head of this file.
-    unsafe {
-        sys::sfr_strict_instance_from_bytes(
-            width,
-            bytes.as_ptr(),
-            bytes.len(),
-            publics.as_mut_ptr(),
-            publics.len(),
-            queries.as_mut_ptr(),
-            queries.len(),
-            equations.as_mut_ptr(),
-            equations.len(),
-            scratch.as_mut_ptr(),
-            scratch.len(),
-        )
-    }
+    let read = sys::sfr_strict_instance_from_bytes;
+    read_by(read, width, bytes, publics, queries, equations, scratch)
 }
 
 /// The label of a read: the very part of `bytes`, the ones read, that holds it. None after a

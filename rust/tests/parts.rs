@@ -16,12 +16,27 @@ fn a_heading_is_the_very_label_or_name() {
     assert!(same_part(sfr::heading(label, &name[..0]), label));
 }
 
-/// An SFRI file of width 1 with that label, one wire and nothing else.
-fn file(label: &[u8]) -> Vec<u8> {
+/// An SFRI file of width 1 with that label, one wire, that public where there is one, and nothing
+/// else.
+fn file_with(label: &[u8], public: Option<[u32; 2]>) -> Vec<u8> {
     let words = |words: &[u32]| -> Vec<u8> { words.iter().flat_map(|w| w.to_le_bytes()).collect() };
     let head = words(&[1, 4, label.len() as u32]);
-    let tail = words(&[1, 0, 0, 0]);
-    [b"SFRI\x01", &head[..], label, &tail].concat()
+    let publics = public.as_ref().map_or(&[][..], |pair| &pair[..]);
+    let counts = words(&[1, public.iter().len() as u32]);
+    [
+        b"SFRI\x01",
+        &head[..],
+        label,
+        &counts,
+        &words(publics),
+        &words(&[0, 0]),
+    ]
+    .concat()
+}
+
+/// The same with no public.
+fn file(label: &[u8]) -> Vec<u8> {
+    file_with(label, None)
 }
 
 #[test]
@@ -45,6 +60,22 @@ fn a_refused_read_has_no_label() {
 }
 
 #[test]
+fn a_strict_read_wants_wire_0_with_value_0() {
+    for (public, number) in [(None, 46), (Some([0, 1]), 46), (Some([0, 0]), 0)] {
+        let bytes = file_with(b"lot 7", public);
+        let (publics, scratch) = (&mut [7; 2], &mut [7]);
+        let read = sfr::strict_instance_from_bytes(1, &bytes, publics, &mut [], &mut [], scratch);
+        assert_eq!(read.number, number, "{public:?}");
+        let label: &[u8] = if number == 0 { b"lot 7" } else { b"" };
+        assert_eq!(sfr::label(&bytes, &read), label);
+        assert_eq!((*publics, *scratch), ([0; 2], [0]));
+        // The plain read takes all three.
+        let plain = sfr::instance_from_bytes(1, &bytes, publics, &mut [], &mut [], scratch);
+        assert_eq!(plain.number, 0);
+    }
+}
+
+#[test]
 fn scaling_keeps_the_terms() {
     let list = [(1, 3), (1, PRIME - 1), (0, 0)].map(|(var, weight)| Weighted { var, weight });
     let mut terms = list;
@@ -65,7 +96,7 @@ fn scaling_keeps_the_terms() {
 #[test]
 fn every_number_has_its_question() {
     let numbers = (1..=17).chain(20..=25).chain([27, 28]).chain(31..=36);
-    for number in numbers.chain(40..=45) {
+    for number in numbers.chain(40..=46) {
         let refused = accepted(number).unwrap_err();
         assert_eq!(refused.number(), number);
         assert!(refused.question().len() > 1, "{number}");
