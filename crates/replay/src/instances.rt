@@ -112,8 +112,32 @@ fn read_answer(read: InstanceRead, bytes: &[u8], expected: &[u8], stores: bool) 
     with_record(number(outcome), low(label.len), read.instance, same)
 }
 
+// The plain or the strict read.
+fn either_read(
+    strict: bool,
+    width: u32,
+    bytes: &[u8],
+    publics: &mut [u32],
+    queries: &mut [u32],
+    equations: &mut [u32],
+    scratch: &mut [u32],
+) -> InstanceRead {
+    if strict {
+        return decoding::strict_instance_from_bytes_at(
+            width,
+            bytes,
+            publics,
+            queries,
+            equations,
+            scratch,
+        );
+    }
+    decoding::instance_from_bytes_at(width, bytes, publics, queries, equations, scratch)
+}
+
 // The read, with every store at hand.
 fn read(
+    strict: bool,
     width: u32,
     case: &[u32],
     bytes: &[u8],
@@ -123,14 +147,16 @@ fn read(
     equations: &mut [u32],
     scratch: &mut [u32],
 ) -> [u32; SIZE] {
-    let read = decoding::instance_from_bytes_at(width, bytes, publics, queries, equations, scratch);
+    let read = either_read(strict, width, bytes, publics, queries, equations, scratch);
     let a = same(list(case, SECOND_AFTER), queries);
     let b = same(list(case, THIRD_AFTER), equations);
     read_answer(read, bytes, expected, a & b & words::all_below(scratch, 1))
 }
 
-// 33: width, bytes, publics, queries, equations, scratch; the number, the label, the record, the four stores.
+// 33, and strictly 37: width, bytes, publics, queries, equations, scratch; the number, the label, the record, the four
+// stores.
 fn instance_from_bytes(
+    strict: bool,
     width: u32,
     case: &[u32],
     bytes: &[u8],
@@ -144,6 +170,7 @@ fn instance_from_bytes(
     let equations = lent(&mut b, list(case, THIRD));
     let scratch = lent(&mut c, list(case, FOURTH));
     read(
+        strict,
         width,
         case,
         bytes,
@@ -208,7 +235,8 @@ pub(crate) fn call(
     match op {
         31 => gate(given, case, label, one, two, three, list(case, FOUR), first),
         32 => instance_to_bytes(given, label, one, two, three, other),
-        33 => instance_from_bytes(word(given, 2), case, label, other, first),
+        33 => instance_from_bytes(false, word(given, 2), case, label, other, first),
+        37 => instance_from_bytes(true, word(given, 2), case, label, other, first),
         34 => public_value(given, one, word(given, 0)),
         35 => heading(case, raw),
         _ => is_witness_valid(given, case, label, one, two, three, first),

@@ -7,16 +7,16 @@ use crate::sample::text;
 use libc::STDOUT_FILENO;
 
 // The place of how many cases there are; an operation's number is below it.
-const CASES: usize = 37;
+const CASES: usize = 38;
 
 // That of how many differ.
-const DIFFERENT: usize = 38;
+const DIFFERENT: usize = 39;
 
 // That of where the last one of these begins.
-const PLACE: usize = 39;
+const PLACE: usize = 40;
 
 // How many places there are.
-const KINDS: usize = 40;
+const KINDS: usize = 41;
 
 // What is at each place.
 pub(crate) struct Tally {

@@ -43,7 +43,8 @@ fn starts_at_zero(vars: u32, publics: &[u32], n: u32) -> bool
     zero_first(publics, n)
 }
 
-// 46, after the answer so far, which 27 is among: there are wires, and the first of n pairs is wire 0 with value 0.
+// 46, after the answer so far, which 27 is among: there are wires, and the first of n pairs is wire 0 with value 0. Words
+// that the store lacks are taken to be 0, as 27 takes them.
 pub fn asked_zero_wire(no: u32, vars: u32, publics: &[u32], n: u32) -> u32
     ensures { λ r. ⌜ r ≡ no ▸ ask 46 (startsAtZero vars (pairsAt n (now (publics .entry)))) ⌝ }
 {

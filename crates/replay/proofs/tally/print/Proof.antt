@@ -8,7 +8,7 @@ abbrev Inv-loop : tie.InvT-loop
 Inv-loop names raw tally i₀ i = Unit
 
 abbrev μ-loop : tie.MeasureT-loop
-μ-loop names raw tally i₀ i = 40 - i
+μ-loop names raw tally i₀ i = 41 - i
 
 loop-holds : tie.Need-loop-holds Inv-loop μ-loop
 loop-holds c = search needs
