@@ -95,6 +95,8 @@ int main(int argc, char **argv) {
                                                  sfri_len).number);
     accepted("read SFRI", sfr_instance_from_bytes(WIDTH, sfri, sfri_len, publics, pairs, queries, cells, equations, words,
                                                   scratch, vars).number);
+    accepted("strict read SFRI", sfr_strict_instance_from_bytes(WIDTH, sfri, sfri_len, publics, pairs, queries, cells, equations,
+                                                                words, scratch, vars).number);
     const sfr_trace steps = {WIDTH, (uint32_t)items};
     accepted("write SFRW", sfr_witness_to_bytes(steps, trace, cells, sfrw, sfrw_len).number);
     accepted("read SFRW", sfr_witness_from_bytes(WIDTH, sfrw, sfrw_len, trace, cells).number);

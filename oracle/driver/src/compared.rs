@@ -2,7 +2,10 @@
 
 use std::{collections::BTreeMap, fmt::Debug};
 
-use crate::calls::{Answer, Call, LIST_KINDS, SET_KINDS};
+use crate::{
+    calls::{Answer, Call, LIST_KINDS, SET_KINDS},
+    zero_wire,
+};
 
 /// Two answers that should have been one.
 #[derive(Debug)]
@@ -33,8 +36,10 @@ pub fn holds(what: &str, yes: bool, answer: impl Debug) -> Compared {
 
 /// The gates of relations of which something was withdrawn before, told apart.
 const GATE_AFTER: &str = "gate after withdrawal";
+const STRICT_READ: &str = "strict read SFRI";
 
-/// The numbers that withdrawals, and gates after them, have to be answered by in a command.
+/// The numbers that withdrawals, gates after them and strict reads have to be answered by in a
+/// command, and those of the plain read where the strict one says 46.
 type Numbers = &'static [(&'static str, &'static [u32])];
 
 /// Where calls alone have made the record.
@@ -42,6 +47,7 @@ const MADE: Numbers = &[
     ("withdraw query", &[0, 45]),
     ("withdraw equation", &[0, 45]),
     (GATE_AFTER, &[0, 13, 15]),
+    (STRICT_READ, &[0, 27, 28, 46]),
 ];
 
 /// Where records and stores go astray too.
@@ -53,11 +59,22 @@ const ASTRAY: Numbers = &[
     (GATE_AFTER, &[0, 13, 15]),
 ];
 
+/// Where files break the strict read's rule in each of the ways, with and without a fault that is
+/// asked about later.
+const READ: Numbers = &[
+    (STRICT_READ, &[0, 12, 13, 16, 20, 27, 28, 46]),
+    (zero_wire::NO_PUBLICS, &[0, 13, 15]),
+    (zero_wire::MISSING, &[0, 12, 13]),
+    (zero_wire::UNEQUAL, &[0, 12, 13]),
+    (zero_wire::NO_WIRES, &[12]),
+];
+
 /// The numbers that have to be seen in a command.
 fn expected(command: &str) -> Numbers {
     match command {
         "self" | "whole" => MADE,
         "relation" | "shared" => ASTRAY,
+        "instance" => READ,
         _ => &[],
     }
 }
@@ -72,8 +89,12 @@ pub struct Seen {
 }
 
 impl Seen {
-    pub fn answered(&mut self, call: &'static str, number: u32) {
+    fn count(&mut self, call: &'static str, number: u32) {
         *self.answers.entry((call, number)).or_default() += 1;
+    }
+
+    pub fn answered(&mut self, call: &'static str, number: u32) {
+        self.count(call, number);
         self.total += 1;
     }
 
@@ -81,7 +102,17 @@ impl Seen {
     pub fn gated(&mut self, number: u32, struck: bool) {
         self.answered("gate", number);
         if struck {
-            *self.answers.entry((GATE_AFTER, number)).or_default() += 1;
+            self.count(GATE_AFTER, number);
+        }
+    }
+
+    /// The plain and the strict read of a file, one command, and where the strict one says 46, what
+    /// the plain one does.
+    pub fn read(&mut self, bytes: &[u8], plain: u32, strict: u32) {
+        self.answered("read SFRI", plain);
+        self.count(STRICT_READ, strict);
+        if let (46, Some(way)) = (strict, zero_wire::broken(bytes)) {
+            self.count(way, plain);
         }
     }
 
@@ -95,7 +126,7 @@ impl Seen {
     }
 
     /// A kind of set, set list or ticket text that was never seen, where others of it were, or a
-    /// number of a withdrawal, or of a gate after one.
+    /// number of a withdrawal, of a gate after one, or of a read.
     pub fn missing(&self, command: &str) -> Option<String> {
         let kinds = |name| if name == "set" { SET_KINDS } else { LIST_KINDS };
         let mut missing = self.sets.iter().flat_map(|(&name, seen)| {

@@ -17,6 +17,11 @@ fn file(words: &[u32]) -> Vec<u8> {
     bytes
 }
 
+/// The numbers of the plain and of the strict read.
+fn read(bytes: &[u8]) -> [u32; 2] {
+    held::reads(1, bytes, Room::AMPLE).map(|(number, _)| number)
+}
+
 /// The sources search held publics by halving. 01: the last pair that lists the wire. They
 /// agree on publics that strictly increase, which are all that a gate or a read lets by;
 /// on a wire listed twice in a row, the standard library promises neither pair.
@@ -40,7 +45,7 @@ fn more_wires_than_any_scratch() {
     let bytes = file(&[(1 << 30) + 1, 0, 0, 0]);
     assert_eq!(bytes.len(), 33);
     assert!(source::instance_from_bytes(1, &bytes).is_ok());
-    assert_eq!(held::read(1, &bytes, Room::AMPLE).0, 16);
+    assert_eq!(read(&bytes)[0], 16);
 }
 
 /// One message for a unit that is cut off and for one that is too large. 01: 20 and 4.
@@ -49,10 +54,26 @@ fn one_message_for_two_numbers() {
     let cut = file(&[1, 1, 0]);
     let large = file(&[1, 1, 0, reading::P]);
     for (bytes, number) in [(cut, 20), (large, 4)] {
-        assert_eq!(held::read(1, &bytes, Room::AMPLE).0, number);
+        assert_eq!(read(&bytes)[0], number);
         let message = source::instance_from_bytes(1, &bytes).err();
         assert_eq!(message.as_deref(), Some("malformed encoding: unit value"));
     }
+}
+
+/// The sources read files that don't list wire 0, or with another value, or that have no wires, and
+/// have no other read. 02: 46 of the strict one, before the gate's numbers, which the sources give
+/// where wire 0 is listed and there are no wires.
+#[test]
+fn files_without_the_zero_wire() {
+    let read_there = |bytes: &[u8]| source::instance_from_bytes(1, bytes).is_ok();
+    for words in [&[1, 0, 0, 0][..], &[1, 1, 0, 1, 0, 0], &[0, 0, 0, 0]] {
+        let bytes = file(words);
+        assert_eq!((read_there(&bytes), read(&bytes)), (true, [0, 46]));
+    }
+    let bytes = file(&[0, 1, 0, 0, 0, 0]);
+    assert_eq!((read_there(&bytes), read(&bytes)), (false, [12, 46]));
+    let kept = file(&[1, 1, 0, 0, 0, 0]);
+    assert_eq!((read_there(&kept), read(&kept)), (true, [0, 0]));
 }
 
 /// Where the sources panic, 01 gives a number; what is left behind is the same.

@@ -1,6 +1,6 @@
 //! Random lists of calls, sheets, labels and damaged bytes.
 
-use std::collections::BTreeSet;
+use std::collections::{BTreeMap, BTreeSet};
 
 use reading::{MAX_COUNT, P, UNASSIGNED};
 use source::{Params, Parts};
@@ -571,6 +571,50 @@ pub fn ungated_trace(
     }
     let words = vec![1; (width * width) as usize];
     (trace, Params { rounds: 0, words })
+}
+
+/// Parts that no gate has seen whose publics list wire 0 with value 0, or break this rule of the
+/// strict read in one of the ways, and increase, but for now and then.
+pub fn zero_wire(rng: &mut Rng, width: u32) -> Parts {
+    let mut parts = ungated(rng, width);
+    let pairs = parts.publics.chunks(2).map(|pair| (pair[0], pair[1]));
+    let mut publics: BTreeMap<u32, u32> = pairs.collect();
+    publics.insert(0, 0);
+    match rng.below(8) {
+        0 => publics.clear(),
+        1 => {
+            publics.remove(&0);
+            publics.insert(1, rng.unit());
+        }
+        2 => {
+            publics.insert(0, *rng.pick(&[1, 2, P - 1]));
+        }
+        3 => parts.vars_count = 0,
+        _ => {}
+    }
+    let words = publics.into_iter().flat_map(|(var, unit)| [var, unit]);
+    parts.publics = words.collect();
+    if rng.once_in(8) && !parts.publics.is_empty() {
+        parts.publics.extend_from_within(..2);
+    }
+    if rng.once_in(3) {
+        // Terms come to be asked about, and now and then one beyond the wires first.
+        parts.queries.clear();
+        if rng.once_in(2) {
+            let beyond = vec![(parts.vars_count, 1)];
+            parts.equations.insert(0, (beyond, 0));
+        }
+    }
+    parts
+}
+
+/// Parts of either kind.
+pub fn parts(rng: &mut Rng, width: u32) -> Parts {
+    if rng.once_in(2) {
+        ungated(rng, width)
+    } else {
+        zero_wire(rng, width)
+    }
 }
 
 /// A trace with one fault.

@@ -16,7 +16,7 @@ pub fn lent(params: &Params) -> reading::Params<'_> {
 }
 
 /// An instance as the second reading holds it.
-#[derive(Clone, Debug)]
+#[derive(Clone, Debug, PartialEq)]
 pub struct Held {
     pub ins: Instance,
     pub label: Vec<u8>,
@@ -74,12 +74,20 @@ pub fn gate(state: &State, label: &str, room: Room) -> (u32, Held) {
     (answer.number, held)
 }
 
-/// An SFRI read.
-pub fn read(width: u32, bytes: &[u8], room: Room) -> (u32, Held) {
+/// Both SFRI reads, the plain one and the strict one.
+pub fn reads(width: u32, bytes: &[u8], room: Room) -> [(u32, Held); 2] {
+    let reads: [reading::Read; 2] = [
+        reading::instance_from_bytes,
+        reading::strict_instance_from_bytes,
+    ];
+    reads.map(|by| read(by, width, bytes, room))
+}
+
+fn read(by: reading::Read, width: u32, bytes: &[u8], room: Room) -> (u32, Held) {
     let mut publics = vec![DIRT; room.publics];
     let mut queries = vec![DIRT; room.queries];
     let mut equations = vec![DIRT; room.equations];
-    let answer = reading::instance_from_bytes(
+    let answer = by(
         width,
         bytes,
         &mut publics,
@@ -160,6 +168,24 @@ impl Held {
             rest = &after[1..];
         }
         0
+    }
+
+    /// What a refused read leaves: no record, no label, and these stores all 0.
+    pub fn refused(&self) -> Self {
+        let zeros = |store: &[u32]| vec![0; store.len()];
+        Self {
+            ins: Instance::default(),
+            label: Vec::new(),
+            publics: zeros(&self.publics),
+            queries: zeros(&self.queries),
+            equations: zeros(&self.equations),
+        }
+    }
+
+    /// As many bytes as an SFRI write can take.
+    pub fn most_bytes(&self) -> usize {
+        let words = self.publics.len() + self.queries.len() + self.equations.len();
+        33 + self.label.len() + 4 * words
     }
 
     /// An SFRI write into so many bytes: the number and the bytes written.

@@ -20,6 +20,7 @@ mod rng;
 mod sample;
 mod sheets;
 mod tickets;
+mod zero_wire;
 
 use std::process::ExitCode;
 

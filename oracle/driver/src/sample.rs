@@ -29,8 +29,8 @@ use crate::{
 use case::{Case, FIRST, FIRST_AFTER, TEXT};
 
 /// Random cases of leaves, of scans for UTF-8, of calls on a relation, of tickets and each call on a
-/// trace, of each call on an instance, of calls on a shared allocator, and of states behind a digest,
-/// where no count is given: with the fixed ones they stay below 1 MiB.
+/// trace, of each call on an instance, of calls on a shared allocator, of states behind a digest, and
+/// of strict reads, where no count is given: with the fixed ones they stay below 1 MiB.
 const LEAVES: u64 = 1_600;
 const SCANS: u64 = 120;
 const RELATIONS: u64 = 900;
@@ -38,9 +38,10 @@ const TRACES: u64 = 100;
 const INSTANCES: u64 = 150;
 const SHARED: u64 = 180;
 const INVERSES: u64 = 80;
+const STRICT_READS: u64 = 80;
 
 /// What the cases of an operation are.
-const OPERATIONS: [(u32, &str); 33] = [
+const OPERATIONS: [(u32, &str); 34] = [
     (1, "sums"),
     (2, "products"),
     (3, "texts"),
@@ -74,6 +75,7 @@ const OPERATIONS: [(u32, &str); 33] = [
     (34, "values in publics"),
     (35, "headings"),
     (36, "checks"),
+    (37, "strict reads of SFRI"),
 ];
 
 /// Document 01's and RFC 3629's texts.
@@ -107,7 +109,7 @@ const BAD: [&[u8]; 14] = [
 ];
 
 /// An operation's number is below this.
-const OPERATION_END: usize = 37;
+const OPERATION_END: usize = 38;
 
 /// The lines that follow those of the operations.
 const TOTALS: [&str; 3] = [
@@ -124,6 +126,7 @@ pub fn run(options: &Options) -> bool {
     let mut shared = Rng::new(options.seed ^ (1 << 62));
     let mut scans = Rng::new(!options.seed ^ (1 << 62));
     let mut inverses = Rng::new(options.seed ^ (1 << 61));
+    let mut strict = Rng::new(!options.seed ^ (1 << 61));
     let mut sample = Sample::default();
     sample.names();
     sample.fixed();
@@ -158,6 +161,10 @@ pub fn run(options: &Options) -> bool {
     sample.fixed_inverses();
     for _ in 0..options.count.unwrap_or(INVERSES) {
         sample.random_inverse(&mut inverses);
+    }
+    sample.fixed_strict_reads();
+    for _ in 0..options.count.unwrap_or(STRICT_READS) {
+        sample.random_strict_read(&mut strict);
     }
     sample.words.push(0);
     let bytes: Vec<u8> = sample

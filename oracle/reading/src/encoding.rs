@@ -32,6 +32,10 @@ pub struct InstanceRead<'a> {
     pub label: &'a [u8],
 }
 
+/// An SFRI read, plain or strict: width, bytes, publics, queries, equations and scratch.
+pub type Read =
+    for<'a> fn(u32, &'a [u8], &mut [u32], &mut [u32], &mut [u32], &mut [u32]) -> InstanceRead<'a>;
+
 /// Writes SFRI. Questions 1, 2, 11, 10; held parts are written gated or not.
 pub fn instance_to_bytes(
     ins: Instance,
@@ -235,11 +239,45 @@ pub fn instance_from_bytes<'a>(
     equations: &mut [u32],
     scratch: &mut [u32],
 ) -> InstanceRead<'a> {
+    let rule = |_, _: &Parts| Ok(());
+    read_by(rule, width, bytes, publics, queries, equations, scratch)
+}
+
+/// Reads SFRI that lists wire 0 with value 0 (02, R-7): all as above, and 46 directly after 27.
+pub fn strict_instance_from_bytes<'a>(
+    width: u32,
+    bytes: &'a [u8],
+    publics: &mut [u32],
+    queries: &mut [u32],
+    equations: &mut [u32],
+    scratch: &mut [u32],
+) -> InstanceRead<'a> {
+    let rule = ask_zero_wire;
+    read_by(rule, width, bytes, publics, queries, equations, scratch)
+}
+
+/// What a read asks of the wire count and the parts directly after 27.
+type Rule = fn(u32, &Parts) -> Asked;
+
+/// 46: there are wires, and wire 0 is listed with value 0. No wire is listed twice, by 27.
+fn ask_zero_wire(vars_count: u32, parts: &Parts) -> Asked {
+    ask(46, vars_count > 0 && parts.publics.contains(&(0, 0)))
+}
+
+fn read_by<'a>(
+    rule: Rule,
+    width: u32,
+    bytes: &'a [u8],
+    publics: &mut [u32],
+    queries: &mut [u32],
+    equations: &mut [u32],
+    scratch: &mut [u32],
+) -> InstanceRead<'a> {
     publics.fill(0);
     queries.fill(0);
     equations.fill(0);
     scratch.fill(0);
-    match read_instance(width, bytes, publics, queries, equations, scratch) {
+    match read_instance(rule, width, bytes, publics, queries, equations, scratch) {
         Err(number) => InstanceRead {
             number,
             instance: Instance::default(),
@@ -271,6 +309,7 @@ fn fill(store: &mut [u32], words: &[u32]) {
 }
 
 fn read_instance<'a>(
+    rule: Rule,
     width: u32,
     bytes: &'a [u8],
     publics: &[u32],
@@ -292,6 +331,7 @@ fn read_instance<'a>(
     };
     let vars: Vec<u32> = parts.publics.iter().map(|&(var, _)| var).collect();
     ask(27, vars.windows(2).all(|pair| pair[0] < pair[1]))?;
+    rule(vars_count, &parts)?;
     ask(16, fits(vars_count, 1, scratch))?;
     ask_validated(vars_count, &parts)?;
     fields.end()?;

@@ -9,6 +9,7 @@ use crate::{
     generate::{self, Generator},
     held::{self, Held, Room},
     rng::Rng,
+    zero_wire,
 };
 
 /// One instance on both sides.
@@ -39,12 +40,14 @@ impl Run<'_> {
         both(number, held, relation.compile())
     }
 
-    /// An SFRI read; the instances where it accepts.
+    /// Both SFRI reads; the instances where the plain one accepts.
     pub fn read(&mut self, width: u32, bytes: &[u8], room: Room) -> Outcome<Option<Both>> {
         self.log
             .say(|| format!("Read({width}, {bytes:?}), {room:?}"));
-        let (number, held) = held::read(width, bytes, room);
-        self.seen.answered("read SFRI", number);
+        let [plain, strict] = held::reads(width, bytes, room);
+        self.seen.read(bytes, plain.0, strict.0);
+        zero_wire::compare(bytes, &plain, &strict)?;
+        let (number, held) = plain;
         if number == 10 {
             self.apart.room += 1;
             return Ok(None);
@@ -154,7 +157,7 @@ impl Run<'_> {
     /// Parts that no gate has seen.
     pub fn ungated(&mut self, generator: &mut Generator) -> Compared {
         let width = generator.width;
-        let parts = generate::ungated(&mut generator.rng, width);
+        let parts = generate::parts(&mut generator.rng, width);
         self.log.say(|| format!("Ungated {parts:?}"));
         let held = Held::from_parts(width, &parts);
         let instance = source::ungated(width, &parts);

@@ -17,11 +17,12 @@ use crate::{
     calls::{Answer, Call, State},
     compared::{same, Compared, Log, Outcome, Seen},
     generate::{self, Generator, Mood},
-    held::Room,
+    held::{self, Room},
     lists,
     options::Options,
     plant,
     rng::Rng,
+    zero_wire,
 };
 
 /// What the sources answer otherwise, or cannot answer at all, counted.
@@ -124,6 +125,8 @@ impl Run<'_> {
                 ("expected", held.honest_number()),
             )?;
         }
+        let [plain, strict] = held::reads(generator.width, &instance.to_bytes(), Room::AMPLE);
+        zero_wire::compare_gated(&plain, &strict)?;
         self.instance(generator, &held, &*instance, &trace)
     }
 }

@@ -3,7 +3,11 @@
 use source::{Params, Parts};
 
 use super::{best, evaluate, table, timed, Line};
-use crate::{held::Held, library::instance::to_library, rng::Rng};
+use crate::{
+    held::Held,
+    library::instance::{to_library, Read, READS},
+    rng::Rng,
+};
 
 pub const WIDTH: u32 = 8;
 const W: usize = WIDTH as usize;
@@ -129,7 +133,7 @@ enum Kept {
 fn kept(items: usize, kept: Kept) -> (Held, Box<dyn source::Instance>) {
     let mut parts = Honest::new(items, 0).parts;
     if kept == Kept::Queries {
-        parts.publics.clear();
+        parts.publics.truncate(2);
     }
     if matches!(kept, Kept::Publics | Kept::Equations) {
         // No more wires than publics, and every term's wire is one of them.
@@ -162,7 +166,7 @@ pub fn tables(last: usize) {
     );
     sfri(
         "SFRI, queries alone",
-        "An item is a query: 64 bytes.",
+        "An item is a query: 64 bytes. Wire 0 alone is public.",
         last,
         Kept::Queries,
     );
@@ -215,12 +219,14 @@ pub fn tables(last: usize) {
 }
 
 fn sfri(name: &str, note: &str, last: usize, keep: Kept) {
-    let read = format!("{name}: read");
     let reading =
         "The source makes a list for each equation's terms, and lists that grow as it reads.";
-    table(&read, &format!("{note} {reading}"), last, |items| {
-        read_instance(items, keep)
-    });
+    let strictly = "The source has the plain read alone.";
+    let [(plain, _), (strict, _)] = READS;
+    for (call, more, by) in [("read", reading, plain), ("strict read", strictly, strict)] {
+        let (name, note) = (format!("{name}: {call}"), format!("{note} {more}"));
+        table(&name, &note, last, |items| read_instance(by, items, keep));
+    }
     let write = format!("{name}: write");
     let writing = "The source writes to bytes that grow; the library asks 11 of all held words, and is lent the bytes.";
     table(&write, &format!("{note} {writing}"), last, |items| {
@@ -228,7 +234,7 @@ fn sfri(name: &str, note: &str, last: usize, keep: Kept) {
     });
 }
 
-fn read_instance(items: usize, keep: Kept) -> Line {
+fn read_instance(by: Read, items: usize, keep: Kept) -> Line {
     let (held, instance) = kept(items, keep);
     let bytes = instance.to_bytes();
     let (publics, queries, equations) = held.words();
@@ -243,8 +249,7 @@ fn read_instance(items: usize, keep: Kept) -> Line {
     let library = timed(
         || (),
         |()| {
-            let answer =
-                sfr::instance_from_bytes(WIDTH, &bytes, publics, queries, equations, scratch);
+            let answer = by(WIDTH, &bytes, publics, queries, equations, scratch);
             assert_eq!(answer.number, 0);
             answer
         },

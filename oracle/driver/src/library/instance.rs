@@ -1,4 +1,5 @@
-//! `instance`: the gate, an instance's bytes both ways, and values in held publics.
+//! `instance`: the gate, an instance's bytes both ways, read plainly and strictly, and values in
+//! held publics.
 
 use reading::Instance;
 
@@ -40,6 +41,18 @@ pub fn from_library(ins: sfr::Instance) -> Instance {
         publics: ins.publics,
     }
 }
+
+/// An SFRI read of the library, plain or strict.
+pub type Read = fn(u32, &[u8], &mut [u32], &mut [u32], &mut [u32], &mut [u32]) -> sfr::InstanceRead;
+
+/// The plain read and the strict one, by the library and by the second reading.
+pub const READS: [(Read, reading::Read); 2] = [
+    (sfr::instance_from_bytes, reading::instance_from_bytes),
+    (
+        sfr::strict_instance_from_bytes,
+        reading::strict_instance_from_bytes,
+    ),
+];
 
 fn list(seed: u64, seen: &mut Seen, log: &Log) -> Compared {
     let mut generator = Generator::new(Rng::new(seed));
@@ -104,7 +117,8 @@ pub fn gate(
     Ok((reading.number, held))
 }
 
-/// Values, a write, and reads of what was written, whole and damaged.
+/// Values, a write, and reads of what was written and of a file that may break the strict read's
+/// rule.
 fn instance(rng: &mut Rng, held: &Held, seen: &mut Seen, log: &Log) -> Compared {
     let bytes = write(rng, held, seen, log)?;
     for _ in 0..2 {
@@ -113,11 +127,20 @@ fn instance(rng: &mut Rng, held: &Held, seen: &mut Seen, log: &Log) -> Compared 
         value(rng, &other, seen, log)?;
         write(rng, &other, seen, log)?;
     }
+    read_damaged(rng, held, &bytes, seen, log)?;
+    let width = held.ins.width;
+    let held = Held::from_parts(width, &generate::zero_wire(rng, width));
+    let (_, bytes) = held.write(held.most_bytes());
+    read_damaged(rng, &held, &bytes, seen, log)
+}
+
+/// Reads of an instance's bytes, whole and damaged.
+fn read_damaged(rng: &mut Rng, held: &Held, bytes: &[u8], seen: &mut Seen, log: &Log) -> Compared {
     let later = (17 + held.label.len()..bytes.len()).step_by(4);
     let fields: Vec<usize> = [5, 9, 13].into_iter().chain(later).collect();
     for i in 0..4 {
-        let damaged = generate::damaged_file(rng, &bytes, &fields);
-        let bytes = if i == 0 { &bytes } else { &damaged };
+        let damaged = generate::damaged_file(rng, bytes, &fields);
+        let bytes = if i == 0 { bytes } else { &damaged };
         read(rng, held, bytes, seen, log)?;
     }
     Ok(())
@@ -141,8 +164,7 @@ fn value(rng: &mut Rng, held: &Held, seen: &mut Seen, log: &Log) -> Compared {
 
 /// The bytes written; none after a refusal.
 fn write(rng: &mut Rng, held: &Held, seen: &mut Seen, log: &Log) -> Outcome<Vec<u8>> {
-    let words = held.publics.len() + held.queries.len() + held.equations.len();
-    let mut room = 33 + held.label.len() + 4 * words;
+    let mut room = held.most_bytes();
     if rng.once_in(3) {
         // Just what it takes, or one byte less or more.
         let (_, exact) = held.write(room);
@@ -174,7 +196,7 @@ fn write(rng: &mut Rng, held: &Held, seen: &mut Seen, log: &Log) -> Outcome<Vec<
     Ok(expected)
 }
 
-/// A read into stores that are ample, or near what the instance takes.
+/// Both reads into stores that are ample, or near what the instance takes.
 fn read(rng: &mut Rng, held: &Held, bytes: &[u8], seen: &mut Seen, log: &Log) -> Compared {
     let ins = held.ins;
     let width = if rng.once_in(10) {
@@ -200,13 +222,27 @@ fn read(rng: &mut Rng, held: &Held, bytes: &[u8], seen: &mut Seen, log: &Log) ->
         });
     }
     log.say(|| format!("Read({width}, {bytes:?}) into {lens:?} words"));
+    let [plain, strict] = READS;
+    let plain = read_into(plain, "read SFRI", width, bytes, lens)?;
+    let strict = read_into(strict, "strict read SFRI", width, bytes, lens)?;
+    seen.read(bytes, plain, strict);
+    Ok(())
+}
+
+/// A read by both sides: its number.
+fn read_into(
+    (library, reading): (Read, reading::Read),
+    name: &str,
+    width: u32,
+    bytes: &[u8],
+    lens: [usize; 4],
+) -> Outcome<u32> {
     let mut given = lens.map(|len| vec![DIRT; len]);
     let mut expected = given.clone();
     let [publics, queries, equations, scratch] = &mut given;
-    let library = sfr::instance_from_bytes(width, bytes, publics, queries, equations, scratch);
+    let library = library(width, bytes, publics, queries, equations, scratch);
     let [publics, queries, equations, scratch] = &mut expected;
-    let reading = reading::instance_from_bytes(width, bytes, publics, queries, equations, scratch);
-    seen.answered("read SFRI", reading.number);
+    let reading = reading(width, bytes, publics, queries, equations, scratch);
     let span = library.label;
     let label = bytes.get(span.at..span.at + span.len);
     let answer = (
@@ -217,11 +253,8 @@ fn read(rng: &mut Rng, held: &Held, bytes: &[u8], seen: &mut Seen, log: &Log) ->
     let library = (answer, given);
     let label = (reading.label, place(bytes, reading.label));
     let answer = (reading.number, reading.instance, Some(label));
-    same(
-        "read SFRI",
-        ("library", library),
-        ("reading", (answer, expected)),
-    )
+    same(name, ("library", library), ("reading", (answer, expected)))?;
+    Ok(reading.number)
 }
 
 /// Where a part of the bytes starts; 0 where it has none.

@@ -7,7 +7,10 @@
 
 use reading::{Instance, On, Relation, Share, Trace, MAX_COUNT};
 
-use super::{instance::to_library, large, tickets, witness};
+use super::{
+    instance::{to_library, Read, READS},
+    large, tickets, witness,
+};
 use crate::{
     calls::called,
     compared::{same, Compared},
@@ -299,11 +302,9 @@ fn cleared(cases: &mut usize) -> Compared {
         params: &PARAMS,
         ..Lent::default()
     };
-    let bytes: Vec<u8> = b"SFRI\x01"
-        .iter()
-        .copied()
-        .chain(file(&[1, 4, 0, 1, 0, 0, 0]))
-        .collect();
+    // No publics, which the strict read refuses, and wire 0 with value 0.
+    let files: [Vec<u8>; 2] = [&[1, 4, 0, 1, 0, 0, 0][..], &[1, 4, 0, 1, 1, 0, 0, 0, 0]]
+        .map(|words| b"SFRI\x01".iter().copied().chain(file(words)).collect());
     let mut slots = vec![0u32; LIMIT + 1];
     for len in [LIMIT, LIMIT + 1] {
         let store = &mut long[..len];
@@ -314,9 +315,13 @@ fn cleared(cases: &mut usize) -> Compared {
         read_trace(store)?;
         go_back(&PARAMS, &[0], store)?;
         for place in 0..4 {
-            read(&bytes, store, place)?;
+            for by in READS {
+                for bytes in &files {
+                    read(by, bytes, store, place)?;
+                }
+            }
         }
-        *cases += 11;
+        *cases += 23;
     }
     Ok(())
 }
@@ -375,7 +380,7 @@ fn read_trace(store: &mut [u32]) -> Compared {
 }
 
 /// An SFRI read with the long store in one of its four places.
-fn read(bytes: &[u8], store: &mut [u32], place: usize) -> Compared {
+fn read(by: (Read, reading::Read), bytes: &[u8], store: &mut [u32], place: usize) -> Compared {
     let mut answers = Vec::new();
     for library in [true, false] {
         let mut few = [[7; 2]; 3];
@@ -393,9 +398,9 @@ fn read(bytes: &[u8], store: &mut [u32], place: usize) -> Compared {
             _ => (a, b, c, store),
         };
         let number = if library {
-            sfr::instance_from_bytes(1, bytes, publics, queries, equations, scratch).number
+            by.0(1, bytes, publics, queries, equations, scratch).number
         } else {
-            reading::instance_from_bytes(1, bytes, publics, queries, equations, scratch).number
+            by.1(1, bytes, publics, queries, equations, scratch).number
         };
         let left = [publics, queries, equations, scratch].map(|store| ends(store));
         answers.push((number, left));

@@ -5,7 +5,7 @@
 use source::{Instance, Params, Relation};
 
 use super::{
-    instance::{from_library, to_library},
+    instance::{from_library, to_library, Read, READS},
     side, witness,
 };
 use crate::{
@@ -20,6 +20,7 @@ use crate::{
     lists,
     options::Options,
     rng::Rng,
+    zero_wire,
 };
 
 pub fn run(options: &Options) -> bool {
@@ -34,12 +35,17 @@ pub struct Run<'a> {
     pub log: &'a Log,
 }
 
+/// Both SFRI reads by the library, the plain one and the strict one.
+fn reads(width: u32, bytes: &[u8]) -> [(u32, Held); 2] {
+    READS.map(|(by, _)| read(by, width, bytes))
+}
+
 /// An SFRI read by the library, into ample stores.
-fn read(width: u32, bytes: &[u8]) -> (u32, Held) {
+fn read(by: Read, width: u32, bytes: &[u8]) -> (u32, Held) {
     let room = || vec![DIRT; Room::AMPLE.publics];
     let (mut publics, mut queries, mut equations) = (room(), room(), room());
     let scratch = &mut room();
-    let answer = sfr::instance_from_bytes(
+    let answer = by(
         width,
         bytes,
         &mut publics,
@@ -93,7 +99,7 @@ impl Run<'_> {
         self.judged(&mut generator, &state, &label, &*relation)?;
 
         // Parts that no gate has seen.
-        let parts = generate::ungated(&mut generator.rng, width);
+        let parts = generate::parts(&mut generator.rng, width);
         self.log.say(|| format!("Ungated {parts:?}"));
         let held = Held::from_parts(width, &parts);
         let instance = source::ungated(width, &parts);
@@ -124,6 +130,8 @@ impl Run<'_> {
                 ("expected", held.honest_number()),
             )?;
         }
+        let [plain, strict] = reads(generator.width, &instance.to_bytes());
+        zero_wire::compare_gated(&plain, &strict)?;
         self.instance(generator, &held, &*instance, &trace)
     }
 
@@ -228,11 +236,14 @@ impl Run<'_> {
         Ok(())
     }
 
-    /// An SFRI read; the instances where it accepts. Room has no counterpart in the source.
+    /// Both SFRI reads; the instances where the plain one accepts. Room has no counterpart in the
+    /// source.
     fn read(&mut self, width: u32, bytes: &[u8]) -> Outcome<Option<Both>> {
         self.log.say(|| format!("Read({width}, {bytes:?})"));
-        let (number, held) = read(width, bytes);
-        self.seen.answered("read SFRI", number);
+        let [plain, strict] = reads(width, bytes);
+        self.seen.read(bytes, plain.0, strict.0);
+        zero_wire::compare(bytes, &plain, &strict)?;
+        let (number, held) = plain;
         match number {
             10 | 16 => Ok(None),
             _ => both(number, held, source::instance_from_bytes(width, bytes)),

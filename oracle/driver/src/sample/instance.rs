@@ -1,6 +1,6 @@
-//! Operations 31 to 36 of a sample: the gate, an instance's bytes written and read, a wire's
-//! value in publics, the heading and the check, with all that is lent to the call and with what
-//! the second reading says of it.
+//! Operations 31 to 37 of a sample: the gate, an instance's bytes written and read, a wire's
+//! value in publics, the heading, the check and the strict read, with all that is lent to the call
+//! and with what the second reading says of it.
 
 use reading::{Instance, Share, MAX_COUNT};
 use source::{Params, Parts};
@@ -21,6 +21,51 @@ use crate::{
     held::{self, Held, Room},
     rng::Rng,
 };
+
+/// A read's operation and what the second reading has for it.
+type Read = (u32, reading::Read);
+const PLAIN: Read = (33, reading::instance_from_bytes);
+const STRICT: Read = (37, reading::strict_instance_from_bytes);
+
+/// Wires and publics that keep the rule of wire 0, and that break it in each of the ways.
+const ZERO_WIRES: [(u32, &[u32]); 6] = [
+    (3, &[0, 0]),
+    (3, &[]),
+    (3, &[1, 0]),
+    (3, &[0, 1]),
+    (0, &[0, 0]),
+    (0, &[]),
+];
+/// Numbers of what a file may get wrong besides, before 46 is asked and after it; 0 for nothing.
+const FAULTS: [u32; 10] = [0, 10, 20, 27, 16, 12, 13, 14, 15, 28];
+
+/// A file of width 1 with these wires and publics and a fault, and the stores to read it into.
+fn faulty(vars_count: u32, publics: &[u32], fault: u32) -> (Vec<u8>, [usize; 4]) {
+    let mut parts = Parts {
+        vars_count,
+        publics: publics.to_vec(),
+        ..Parts::default()
+    };
+    match fault {
+        27 => parts.publics.extend([2, 0, 2, 0]),
+        12 => parts.publics.extend([3, 0]),
+        13 => parts.queries.extend([0, 3]),
+        14 => parts.equations.push((vec![(3, 1)], 0)),
+        15 => parts.equations.push((vec![(2, 1)], 0)),
+        _ => parts.equations.push((vec![], 0)),
+    }
+    let held = Held::from_parts(1, &parts);
+    let (_, mut bytes) = held.write(held.most_bytes());
+    let mut rooms = [6, 2, 4, 3];
+    match fault {
+        10 => rooms[2] = 1,
+        16 => rooms[3] = 2,
+        20 => bytes.truncate(bytes.len() - 1),
+        28 => bytes.push(0),
+        _ => {}
+    }
+    (bytes, rooms)
+}
 
 /// The words of an instance's record behind two arguments.
 fn given(arguments: [u32; 2], ins: Instance) -> [u32; 8] {
@@ -126,18 +171,18 @@ impl Sample {
         self.push(case.answer(&[answer.number, answer.len as u32]));
     }
 
-    fn read_instance(&mut self, width: u32, bytes: &[u8], rooms: [usize; 4]) {
+    fn read_instance(&mut self, by: Read, width: u32, bytes: &[u8], rooms: [usize; 4]) {
+        let (operation, read) = by;
         let mut stores = rooms.map(|room| vec![DIRT; room]);
         let [publics, queries, equations, scratch] = &mut stores;
-        let case = Case::new(33)
+        let case = Case::new(operation)
             .given(&[0, 0, width])
             .bytes(TEXT, bytes)
             .list(FIRST, publics)
             .list(SECOND, queries)
             .list(THIRD, equations)
             .list(FOURTH, scratch);
-        let answer =
-            reading::instance_from_bytes(width, bytes, publics, queries, equations, scratch);
+        let answer = read(width, bytes, publics, queries, equations, scratch);
         let len = answer.label.len() as u32;
         let case = case
             .answer(&given([answer.number, len], answer.instance))
@@ -147,6 +192,29 @@ impl Sample {
             .list(THIRD_AFTER, equations);
         self.push(case);
         assert!(scratch.iter().all(|&word| word == 0), "scratch is all 0");
+    }
+
+    /// Strict reads of files that keep the rule of wire 0, in several widths; and of small ones that
+    /// keep it and that break it, each with every fault besides.
+    pub fn fixed_strict_reads(&mut self) {
+        for width in 1..=6 {
+            let parts = Parts {
+                label: "µ".repeat(width),
+                vars_count: 3,
+                publics: vec![0, 0, 2, 5],
+                queries: vec![1; 2 * width],
+                equations: vec![(vec![(1, 3)], 6)],
+            };
+            let held = Held::from_parts(width as u32, &parts);
+            let (_, bytes) = held.write(held.most_bytes());
+            self.read_instance(STRICT, width as u32, &bytes, [5, 2 * width, 6, 3]);
+        }
+        for (vars_count, publics) in ZERO_WIRES {
+            for fault in FAULTS {
+                let (bytes, rooms) = faulty(vars_count, publics, fault);
+                self.read_instance(STRICT, 1, &bytes, rooms);
+            }
+        }
     }
 
     fn public_value(&mut self, held: &Held, var: u32) {
@@ -215,7 +283,7 @@ impl Sample {
             let trace = generator.trace(&gated);
             self.random_public_value(looks, &gated);
             self.random_write_instance(writes, &gated);
-            self.random_read_instance(rng, &gated);
+            self.random_read_instance(PLAIN, rng, &gated);
             return self.random_check(rng, &gated, trace, &generator.params);
         }
         let parts = generate::ungated(rng, width);
@@ -223,7 +291,7 @@ impl Sample {
         let held = Held::from_parts(width, &parts);
         self.random_public_value(looks, &held);
         self.random_write_instance(writes, &held);
-        self.random_read_instance(rng, &held);
+        self.random_read_instance(PLAIN, rng, &held);
         self.random_check(rng, &held, trace, &params);
     }
 
@@ -273,17 +341,15 @@ impl Sample {
             1..=5 => astray::held(rng, &mut held),
             _ => {}
         }
-        let words = held.publics.len() + held.queries.len() + held.equations.len();
-        let most = 33 + held.label.len() + 4 * words;
+        let most = held.most_bytes();
         let (number, bytes) = held.write(most);
         let exact = if number == 0 { bytes.len() } else { most };
         self.write_instance(&held, output(rng, exact));
     }
 
     /// A read of the instance's bytes, whole or damaged.
-    fn random_read_instance(&mut self, rng: &mut Rng, held: &Held) {
-        let words = held.publics.len() + held.queries.len() + held.equations.len();
-        let (_, bytes) = held.write(33 + held.label.len() + 4 * words);
+    fn random_read_instance(&mut self, by: Read, rng: &mut Rng, held: &Held) {
+        let (_, bytes) = held.write(held.most_bytes());
         let later = (17 + held.label.len()..bytes.len()).step_by(4);
         let fields: Vec<usize> = [5, 9, 13].into_iter().chain(later).collect();
         let mut damaged = damaged(rng, &bytes, &fields);
@@ -303,7 +369,14 @@ impl Sample {
             let at = rng.below(4);
             rooms[at] = astray::near_len(rng, rooms[at]);
         }
-        self.read_instance(width, bytes, rooms);
+        self.read_instance(by, width, bytes, rooms);
+    }
+
+    /// A strict read of a file that keeps the rule of wire 0 or breaks it, whole or damaged.
+    pub fn random_strict_read(&mut self, rng: &mut Rng) {
+        let width = small_width(rng);
+        let held = Held::from_parts(width, &generate::zero_wire(rng, width));
+        self.random_read_instance(STRICT, rng, &held);
     }
 
     fn random_check(&mut self, rng: &mut Rng, held: &Held, trace: Vec<u32>, params: &Params) {

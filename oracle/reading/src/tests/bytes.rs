@@ -2,14 +2,6 @@
 
 use super::*;
 
-/// An SFRI file without a label whose words after that are these.
-fn file(width: u32, words: &[u32]) -> Vec<u8> {
-    let words = [&[width, 4, 0], words].concat();
-    let mut bytes = b"SFRI\x01".to_vec();
-    bytes.extend(words.iter().flat_map(|word| word.to_le_bytes()));
-    bytes
-}
-
 #[test]
 fn written_exactly() {
     let a = instance_a();

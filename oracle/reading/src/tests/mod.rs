@@ -8,6 +8,7 @@ mod gate;
 mod inverse;
 mod relation;
 mod shared;
+mod strict;
 mod ticket;
 mod utf8;
 mod withdraw;
@@ -143,7 +144,7 @@ impl Stores {
 }
 
 /// An instance with its stores.
-#[derive(Clone)]
+#[derive(Clone, Debug, PartialEq)]
 struct Held {
     ins: Instance,
     label: Vec<u8>,
@@ -219,11 +220,24 @@ fn instance_a() -> Held {
     held
 }
 
+/// An SFRI file without a label whose words after that are these.
+fn file(width: u32, words: &[u32]) -> Vec<u8> {
+    let words = [&[width, 4, 0], words].concat();
+    let mut bytes = b"SFRI\x01".to_vec();
+    bytes.extend(words.iter().flat_map(|word| word.to_le_bytes()));
+    bytes
+}
+
+/// The plain SFRI read.
+fn read(width: u32, bytes: &[u8], lens: [usize; 4]) -> (u32, Held) {
+    read_by(instance_from_bytes, width, bytes, lens)
+}
+
 /// An SFRI read into stores of the given lengths, dirty before: the number, the record, the
 /// label and the words. Scratch must come back all 0, and a refusal must clear the stores.
-fn read(width: u32, bytes: &[u8], lens: [usize; 4]) -> (u32, Held) {
+fn read_by(read: Read, width: u32, bytes: &[u8], lens: [usize; 4]) -> (u32, Held) {
     let [mut publics, mut queries, mut equations, mut scratch] = lens.map(|len| vec![DIRT; len]);
-    let answer = instance_from_bytes(
+    let answer = read(
         width,
         bytes,
         &mut publics,
