@@ -16,27 +16,18 @@ fn a_heading_is_the_very_label_or_name() {
     assert!(same_part(sfr::heading(label, &name[..0]), label));
 }
 
-/// An SFRI file of width 1 with that label, one wire, that public where there is one, and nothing
-/// else.
-fn file_with(label: &[u8], public: Option<[u32; 2]>) -> Vec<u8> {
+/// An SFRI file of width 1 with that label, so many wires, these publics and nothing else.
+fn file_of(label: &[u8], wires: u32, publics: &[u32]) -> Vec<u8> {
     let words = |words: &[u32]| -> Vec<u8> { words.iter().flat_map(|w| w.to_le_bytes()).collect() };
     let head = words(&[1, 4, label.len() as u32]);
-    let publics = public.as_ref().map_or(&[][..], |pair| &pair[..]);
-    let counts = words(&[1, public.iter().len() as u32]);
-    [
-        b"SFRI\x01",
-        &head[..],
-        label,
-        &counts,
-        &words(publics),
-        &words(&[0, 0]),
-    ]
-    .concat()
+    let counts = words(&[wires, publics.len() as u32 / 2]);
+    let (publics, rest) = (words(publics), words(&[0, 0]));
+    [b"SFRI\x01", &head[..], label, &counts, &publics, &rest].concat()
 }
 
-/// The same with no public.
+/// The same with one wire and no publics.
 fn file(label: &[u8]) -> Vec<u8> {
-    file_with(label, None)
+    file_of(label, 1, &[])
 }
 
 #[test]
@@ -61,15 +52,21 @@ fn a_refused_read_has_no_label() {
 
 #[test]
 fn a_strict_read_wants_wire_0_with_value_0() {
-    for (public, number) in [(None, 46), (Some([0, 1]), 46), (Some([0, 0]), 0)] {
-        let bytes = file_with(b"lot 7", public);
-        let (publics, scratch) = (&mut [7; 2], &mut [7]);
+    let kept: &[u32] = &[0, 0, 1, 5];
+    let broken: [(u32, &[u32]); 4] = [(2, &[]), (2, &[1, 0]), (2, &[0, 1]), (0, &[])];
+    for (wires, pairs) in broken.into_iter().chain([(2, kept)]) {
+        let bytes = file_of(b"lot 7", wires, pairs);
+        let (publics, scratch) = (&mut [7; 5], &mut [7; 2]);
         let read = sfr::strict_instance_from_bytes(1, &bytes, publics, &mut [], &mut [], scratch);
-        assert_eq!(read.number, number, "{public:?}");
-        let label: &[u8] = if number == 0 { b"lot 7" } else { b"" };
+        let (number, label, left): (_, &[u8], _) = if pairs == kept {
+            (0, b"lot 7", [0, 0, 1, 5, 0])
+        } else {
+            (46, b"", [0; 5])
+        };
+        assert_eq!((read.number, *publics), (number, left), "{wires} {pairs:?}");
         assert_eq!(sfr::label(&bytes, &read), label);
-        assert_eq!((*publics, *scratch), ([0; 2], [0]));
-        // The plain read takes all three.
+        assert_eq!(*scratch, [0; 2]);
+        // The plain read takes all of them.
         let plain = sfr::instance_from_bytes(1, &bytes, publics, &mut [], &mut [], scratch);
         assert_eq!(plain.number, 0);
     }

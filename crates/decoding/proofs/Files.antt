@@ -1,6 +1,6 @@
 -- An instance read: the ends of reading the file and the whole; what is answered, and what is left of the stores.
 -- Assumes nothing.
-use Prim.Native.Nat.{ℕ, zero, suc, _+_, _-_, _≤_, _<_}
+use Prim.Native.Nat.{ℕ, _+_, _-_, _≤_, _<_}
 use mathlib.Core.Path.{_≡_, refl, sym, ap, _∙_, subst}
 use mathlib.Core.Bool.{Bool, true, false}
 use mathlib.Core.List.{List}
@@ -12,7 +12,7 @@ use Rattle.limits.specs.Asks.{storeAsks}
 use Rattle.limits.specs.declared.Outcome.the-variants.{Accepted, Refused}
 use Rattle.limits.proofs.Questions.{both, firstNo-append, zero-▸, ▸-zero}
 use Rattle.words.specs.Store.{All}
-use Rattle.narg.specs.Reader.{Got, got, stop, _>>_, give}
+use Rattle.narg.specs.Reader.{Got, got, stop, _>>_, give, number}
 use Rattle.narg.specs.Cursor.{cursor}
 use Rattle.narg.specs.declared.Cursor.{Cursor}
 use Rattle.instance.specs.Parts.{Parts, pairsAt, partsOf}
@@ -26,17 +26,17 @@ use Rattle.header.specs.declared.Field.the-variants.{Read as ReadField}
 use Rattle.header.proofs.Got.{took, asked, field-got}
 use Rattle.items.specs.Answers.{gotAfter}
 use Rattle.items.proofs.Lists.{after-no, after-yes}
-use Rattle.parts.specs.Answers.{readPartsAsks, instanceRead, labelPast, labelField, partsFrom, partsEnd, PartsReads}
+use Rattle.parts.specs.Answers.{readPartsAsks, labelPast, labelField, partsFrom, partsEnd, PartsReads}
 use Rattle.parts.specs.Told.{PartsStored, partsHere}
 use Rattle.parts.specs.declared.PartsRead.{PartsRead}
 use Rattle.parts.proofs.Label.{LabelGot, label-at}
 use Rattle.parts.proofs.Parts.{from-here, PartsGot, parts-at, pairs-held, parts-held}
 use Rattle.zero_wire.proofs.Zero.{starts-where-listed}
-use Rattle.decoding.specs.Read.{Rooms, rooms, Rule, ruled, File, file, readLabel, readParts, increasing, isEmpty, ended, readFile, readInstance}
+use Rattle.decoding.specs.Read.{Rooms, rooms, Rule, File, file, readLabel, readParts, increasing, isEmpty, ended, readFile, readInstance}
 use Rattle.decoding.specs.Answers.{readAsks, instanceFromBytes, headerEnd, labelStart, acceptedInstance, refusedInstance, instanceAnswer, Stores, stores, roomsOf, instanceGot, InstanceReads}
-use Rattle.decoding.specs.Given.{acceptedAt, ruleOf, askedOf, fileEnd, fileAnswer, FileLeft, fileHere, FileTold, Kept, InstanceLeft, instanceHere, InstanceTold}
+use Rattle.decoding.specs.Given.{acceptedAt, ruleOf, ruleNo, fileEnd, fileAnswer, FileLeft, fileHere, FileTold, Kept, InstanceLeft, instanceHere, InstanceTold}
 use Rattle.decoding.specs.declared.InstanceRead.{InstanceRead}
-use Rattle.decoding.proofs.After.{need-after, number-after, after-after, number-got}
+use Rattle.decoding.proofs.After.{need-after, number-after, after-after}
 use Rattle.decoding.specs.declared.FileRead.{FileRead}
 use Rattle.decoding.specs.declared.FileRead.the-variants.{Read as FileGot, Refused as FileRefused}
 
@@ -65,32 +65,10 @@ ended-left s end b h = rw (empty-left s end h)
 pub ended-yes : {B : Type 0} (s : List ℕ) (end : ℕ) (b : B) → length s ≤ end → (ended >> give b) (drop end s) ≡ got b (drop end s)
 ended-yes s end b h = rw (drop-of-length-le s h)
 
--- ---- after the parts
-same-after : (b : Bool) (j k : ℕ) → (b ≡ true → j ≡ k) → ask 27 b ▸ j ≡ ask 27 b ▸ k
-unfolding ask _▸_
-same-after true j k h = h refl
-same-after false j k h = refl
-
--- what is asked of the words that a store holds is what the rule asks of the parts
-asked-is : (strict : Bool) (parts : Parts)
-    → askedOf strict (parts .vars) (parts .publics) ≡ ask 27 (increasing (parts .publics)) ▸ firstNo (ruleOf strict parts)
-asked-is false parts = sym (▸-zero _)
-asked-is true parts =
-    same-after (increasing (parts .publics)) _ _ (λ o. ap (ask 46) (sym (starts-where-listed parts o)) ∙ sym (▸-zero _))
-
--- of parts that were read into stores
-pub asked-parts-are : (strict : Bool) (width : ℕ) (parts : Parts) (ins : PermutationInstance) → ins ≡ instanceRead width parts
-    → (p q e p' q' e' : List ℕ) → PartsStored parts p q e p' q' e'
-    → askedOf strict (ins .vars) (pairsAt (ins .publics) p') ≡ ask 27 (increasing (parts .publics)) ▸ firstNo (ruleOf strict parts)
-asked-parts-are strict width parts ins is p q e p' q' e' st =
-    ap (λ (n : ℕ). askedOf strict n (pairsAt (ins .publics) p')) (ap (λ (x : PermutationInstance). x .vars) is)
-    ∙ ap (askedOf strict (parts .vars)) (pairs-held width parts ins is p q e p' q' e' st)
-    ∙ asked-is strict parts
-
 -- ---- the file
-module _ (rule : Rule) (width : ℕ) (s p q e : List ℕ) (yes : firstNo (readPartsAsks width (rooms (length p) (length q) (length e) 0)) ≡ 0) where
+module _ (width : ℕ) (s p q e : List ℕ) (yes : firstNo (readPartsAsks width (rooms (length p) (length q) (length e) 0)) ≡ 0) where
   abbrev here : Got File
-  here = fileHere rule width s p q e
+  here = fileHere width s p q e
 
   pub header-no : (k : ℕ) → readHeader letterI version width s ≡ stop k → here ≡ stop k
   unfolding readFile
@@ -121,23 +99,22 @@ module _ (rule : Rule) (width : ℕ) (s p q e : List ℕ) (yes : firstNo (readPa
         abbrev f : File
         f = file (gl .label) (gp .parts)
 
-        -- after the parts: what is asked of them
-        asked-here : here ≡ gotAfter (ask 27 (increasing (gp .parts .publics)) ▸ firstNo (rule (gp .parts))) (got f (gp .rest))
+        -- after the parts: 27
+        order-here : here ≡ gotAfter (ask 27 (increasing (gp .parts .publics))) (got f (gp .rest))
         unfolding readFile
-        asked-here =
-            rw (eh, gl .reads, parts-got)
-            (need-after 26 (increasing (gp .parts .publics)) (gp .rest) (ruled rule (gp .parts) >> give f)
-            ∙ ap (gotAfter (ask 27 (increasing (gp .parts .publics)))) (number-after (firstNo (rule (gp .parts))) (gp .rest) (give f))
-            ∙ after-after (ask 27 (increasing (gp .parts .publics))) _ _)
+        order-here = rw (eh, gl .reads, parts-got) (need-after 26 (increasing (gp .parts .publics)) (gp .rest) (give f))
 
-        module _ (no : ℕ) (is : no ≡ ask 27 (increasing (gp .parts .publics)) ▸ firstNo (rule (gp .parts))) where
-          pub rule-no : (no ≡ 0 → ⊥) → here ≡ stop no
-          rule-no h = asked-here ∙ after-no _ _ no is h
+        module _ (no : ℕ) (ao : no ≡ 0 ▸ ask 27 (increasing (pairsAt (ins .publics) p'))) where
+          order-is : no ≡ ask 27 (increasing (gp .parts .publics))
+          order-is = ao ∙ zero-▸ _ ∙ ap (λ l. ask 27 (increasing l)) (pairs-held width (gp .parts) ins (gp .is) p q e p' q' e' (gp .stored))
 
-          pub file-told : no ≡ 0 → c .at ≡ headerEnd → (r : InstanceRead) → r ≡ acceptedAt ins (c1 .at - n) n → FileTold rule width s p q e p' q' e' (FileGot r end)
+          pub order-no : (no ≡ 0 → ⊥) → here ≡ stop no
+          order-no h = order-here ∙ after-no _ _ no order-is h
+
+          pub file-told : no ≡ 0 → c .at ≡ headerEnd → (r : InstanceRead) → r ≡ acceptedAt ins (c1 .at - n) n → FileTold width s p q e p' q' e' (FileGot r end)
           unfolding FileLeft
           file-told z i r er =
-              let g : here ≡ got f (gp .rest) = asked-here ∙ after-yes _ _ no is z in
+              let g : here ≡ got f (gp .rest) = order-here ∙ after-yes _ _ no order-is z in
               let a = gl .count in
               let b = gl .past in
               let start : c1 .at - n ≡ labelStart = omega arith in
@@ -152,38 +129,39 @@ module _ (rule : Rule) (width : ℕ) (s p q e : List ℕ) (yes : firstNo (readPa
               }
 
 -- a refusal
-pub file-no : (rule : Rule) (width : ℕ) (s p q e p' q' e' : List ℕ) (j k : ℕ) → j ≡ k → fileHere rule width s p q e ≡ stop k
-    → FileTold rule width s p q e p' q' e' (FileRefused j)
+pub file-no : (width : ℕ) (s p q e p' q' e' : List ℕ) (j k : ℕ) → j ≡ k → fileHere width s p q e ≡ stop k
+    → FileTold width s p q e p' q' e' (FileRefused j)
 unfolding FileLeft
-file-no rule width s p q e p' q' e' j k i x = record { answer = ap FileRefused i ∙ sym (ap (fileAnswer width) x); left = rw x tt }
+file-no width s p q e p' q' e' j k i x = record { answer = ap FileRefused i ∙ sym (ap (fileAnswer width) x); left = rw x tt }
 
 -- ---- what a file's answer tells
--- where it ends, and that each query has 2w cells
+-- where it ends, that its publics increase, and that each query has 2w cells
 record FileAt (width : ℕ) (s : List ℕ) (f : File) (rest : List ℕ) : Type 0 where
+  order : increasing (f .parts .publics) ≡ true
   next : rest ≡ drop (fileEnd f) s
   cells : All (λ x. length x ≡ width + width) (f .parts .queries)
 
-file-at : (rule : Rule) (width : ℕ) (m : Rooms) (s : List ℕ) (f : File) (rest : List ℕ) → readFile rule version width m s ≡ got f rest → FileAt width s f rest
+file-at : (width : ℕ) (m : Rooms) (s : List ℕ) (f : File) (rest : List ℕ) → readFile version width m s ≡ got f rest → FileAt width s f rest
 unfolding readFile
-file-at rule width m s f rest e =
+file-at width m s f rest e =
     took (readHeader letterI version width s) _ f rest e (λ u r₁ e₁ n₁.
     took (readLabel r₁) _ f rest n₁ (λ l r₂ e₂ n₂.
     took (readParts width m r₂) _ f rest n₂ (λ ps r₃ e₃ n₃.
     asked 27 (increasing (ps .publics)) r₃ _ f rest n₃ (λ t n₄.
-    let n₅ = number-got (firstNo (rule ps)) r₃ (give (file l ps)) f rest n₄ in
     let same : file l ps ≡ f = cc in
     let last : r₃ ≡ rest = cc in
     let i₁ = header-end version width s u r₁ e₁ in
     let i₂ = label-at s headerEnd l r₂ (ap readLabel (sym i₁) ∙ e₂) .next in
     let p = parts-at width m s (labelPast headerEnd l) ps r₃ (ap (readParts width m) (sym i₂) ∙ e₃) in
     record {
+      order = subst (λ (x : File). increasing (x .parts .publics) ≡ true) same t;
       next = sym last ∙ p .next ∙ ap (λ (x : File). drop (fileEnd x) s) same;
       cells = subst (λ (x : File). All (λ y. length y ≡ width + width) (x .parts .queries)) same (p .cells);
     }))))
 
-module _ (rule : Rule) (width : ℕ) (s p q e p' q' e' : List ℕ) (r : FileRead) (h : FileTold rule width s p q e p' q' e' r) where
-  pub file-refused : (k : ℕ) → r ≡ FileRefused k → fileHere rule width s p q e ≡ stop k
-  file-refused k i = go (fileHere rule width s p q e) (sym (h .answer) ∙ i)
+module _ (width : ℕ) (s p q e p' q' e' : List ℕ) (r : FileRead) (h : FileTold width s p q e p' q' e' r) where
+  pub file-refused : (k : ℕ) → r ≡ FileRefused k → fileHere width s p q e ≡ stop k
+  file-refused k i = go (fileHere width s p q e) (sym (h .answer) ∙ i)
     where
       go : (y : Got File) → fileAnswer width y ≡ FileRefused k → y ≡ stop k
       go (got f rest) z = absurd (let n : _≡_ {A = ℕ} 0 1 = cc in omega arith)
@@ -192,20 +170,22 @@ module _ (rule : Rule) (width : ℕ) (s p q e p' q' e' : List ℕ) (r : FileRead
   -- a file that was got, and stored
   pub record FileGiven (read : InstanceRead) (end : Cursor) : Type 0 where
     pub file : File
-    pub reads : fileHere rule width s p q e ≡ got file (drop (end .at) s)
+    pub reads : fileHere width s p q e ≡ got file (drop (end .at) s)
     pub is : read ≡ acceptedInstance width file
     pub stored : PartsStored (file .parts) p q e p' q' e'
     pub holds : partsOf (read .instance) p' q' e' ≡ file .parts
+    pub pairs : pairsAt (read .instance .publics) p' ≡ file .parts .publics
+    pub order : increasing (file .parts .publics) ≡ true
 
   pub file-got : (read : InstanceRead) (end : Cursor) → r ≡ FileGot read end → FileGiven read end
   unfolding FileLeft
-  file-got read end i = go (fileHere rule width s p q e) refl (sym (h .answer) ∙ i)
+  file-got read end i = go (fileHere width s p q e) refl (sym (h .answer) ∙ i)
     where
-      go : (y : Got File) → fileHere rule width s p q e ≡ y → fileAnswer width y ≡ FileGot read end → FileGiven read end
+      go : (y : Got File) → fileHere width s p q e ≡ y → fileAnswer width y ≡ FileGot read end → FileGiven read end
       go (got f rest) g z =
           let n : acceptedInstance width f ≡ read = cc in
           let c : cursor (fileEnd f) ≡ end = cc in
-          let a = file-at rule width (rooms (length p) (length q) (length e) 0) s f rest g in
+          let a = file-at width (rooms (length p) (length q) (length e) 0) s f rest g in
           let st : PartsStored (f .parts) p q e p' q' e' = subst (λ (x : Got File). FileLeft x p q e p' q' e') g (h .left) in
           record {
             file = f;
@@ -213,18 +193,26 @@ module _ (rule : Rule) (width : ℕ) (s p q e p' q' e' : List ℕ) (r : FileRead
             is = sym n;
             stored = st;
             holds = parts-held width (f .parts) (read .instance) (ap (λ (x : InstanceRead). x .instance) (sym n)) p q e p' q' e' st (a .cells);
+            pairs = pairs-held width (f .parts) (read .instance) (ap (λ (x : InstanceRead). x .instance) (sym n)) p q e p' q' e' st;
+            order = a .order;
           }
       go (stop j) g z = absurd (let n : _≡_ {A = ℕ} 0 1 = cc in omega arith)
 
--- ---- the whole: the file, the gate and the end
+-- ---- what the rule asks, by the pairs that a store holds
+pub rule-is : (strict : Bool) (parts : Parts) → increasing (parts .publics) ≡ true
+    → ruleNo strict (parts .vars) (parts .publics) ≡ firstNo (ruleOf strict parts)
+rule-is true parts o = ap (ask 46) (sym (starts-where-listed parts o)) ∙ sym (▸-zero _)
+rule-is false parts o = refl
+
+-- ---- the whole: the file, the rule, the gate and the end
 module _ (rule : Rule) (width : ℕ) (s : List ℕ) (before : Stores) where
   abbrev whole : Got File
   whole = instanceHere rule width s before
 
   abbrev inner : Got File
-  inner = fileHere rule width s (before .publics) (before .queries) (before .equations)
+  inner = fileHere width s (before .publics) (before .queries) (before .equations)
 
-  same-file : readFile rule version width (roomsOf before) s ≡ inner
+  same-file : readFile version width (roomsOf before) s ≡ inner
   unfolding readFile readParts
   same-file = refl
 
@@ -233,29 +221,30 @@ module _ (rule : Rule) (width : ℕ) (s : List ℕ) (before : Stores) where
   whole-refused k f = rw (same-file, f)
 
   module _ (f : File) (end : ℕ) (ef : inner ≡ got f (drop end s)) where
-    gate-number : (k : ℕ) → gateNo (f .parts) (length (before .scratch)) ≡ suc k → whole ≡ stop (suc k)
-    unfolding readInstance
-    gate-number k g = rw (same-file, ef, g)
+    abbrev gate : ℕ
+    gate = gateNo (f .parts) (length (before .scratch))
 
-    module _ (no : ℕ) (ps : Parts) (same : ps ≡ f .parts) (a : no ≡ 0 ▸ gateNo ps (length (before .scratch))) where
-      gate-is : no ≡ gateNo (f .parts) (length (before .scratch))
-      gate-is = a ∙ zero-▸ _ ∙ ap (λ (x : Parts). gateNo x (length (before .scratch))) same
+    asked-here : whole ≡ gotAfter (firstNo (rule (f .parts)) ▸ gate) ((ended >> give f) (drop end s))
+    unfolding readInstance
+    asked-here =
+        rw (same-file, ef)
+        (number-after (firstNo (rule (f .parts))) (drop end s) (number gate >> ended >> give f)
+        ∙ ap (gotAfter (firstNo (rule (f .parts)))) (number-after gate (drop end s) (ended >> give f))
+        ∙ after-after (firstNo (rule (f .parts))) gate _)
+
+    module _ (no first : ℕ) (ps : Parts) (same : ps ≡ f .parts) (b : first ≡ firstNo (rule (f .parts))) (a : no ≡ first ▸ gateNo ps (length (before .scratch))) where
+      asked-is : no ≡ firstNo (rule (f .parts)) ▸ gate
+      asked-is = a ∙ (λ j. b j ▸ gateNo (same j) (length (before .scratch)))
 
       pub gate-refused : (no ≡ 0 → ⊥) → whole ≡ stop no
-      gate-refused n = go no gate-is n
-        where
-          go : (k : ℕ) → k ≡ gateNo (f .parts) (length (before .scratch)) → (k ≡ 0 → ⊥) → whole ≡ stop k
-          go zero g h = absurd (h refl)
-          go (suc k) g h = gate-number k (sym g)
+      gate-refused h = asked-here ∙ after-no _ _ no asked-is h
 
       module _ (z : no ≡ 0) where
         pub end-refused : end < length s → whole ≡ stop 28
-        unfolding readInstance
-        end-refused h = rw (same-file, ef, sym gate-is ∙ z) (ended-left s end f h)
+        end-refused h = asked-here ∙ after-yes _ _ no asked-is z ∙ ended-left s end f h
 
         pub whole-yes : length s ≤ end → whole ≡ got f (drop end s)
-        unfolding readInstance
-        whole-yes h = rw (same-file, ef, sym gate-is ∙ z) (ended-yes s end f h)
+        whole-yes h = asked-here ∙ after-yes _ _ no asked-is z ∙ ended-yes s end f h
 
   -- telling
   pub tell-no : (after : Stores) (r : InstanceRead) (k : ℕ) → r ≡ refusedInstance k → whole ≡ stop k → InstanceTold rule width s before after r

@@ -1,14 +1,13 @@
 -- The label of an accepted read is the part of the bytes behind the header and the length, so that what a reader takes
 -- there is the label. Assumes nothing.
-use Prim.Native.Nat.{ℕ, zero, suc, _+_, _≤_}
+use Prim.Native.Nat.{ℕ, _+_, _≤_}
 use mathlib.Core.Path.{_≡_, refl, sym, ap, _∙_}
 use mathlib.Core.List.{List}
 use native.Mathlib.Omega.{arith}
 use denote.Ref.{RefT, now}
 use lib.ListN.{length, take, drop}
 use Rattle.limits.specs.Questions.{firstNo}
-use Rattle.narg.specs.Reader.{Got, got, stop, give, number}
-use Rattle.narg.proofs.Fields.{never}
+use Rattle.narg.specs.Reader.{Got, got, stop, _>>_, give, number}
 use Rattle.reader.specs.At.{partAt, placeAt}
 use Rattle.reader.proofs.Found.{partAt-some, placeAt-some}
 use Rattle.validated.specs.Validated.{gateNo}
@@ -17,10 +16,9 @@ use Rattle.header.specs.Read.{readHeader}
 use Rattle.header.proofs.Got.{took, asked}
 use Rattle.parts.proofs.Label.{label-at}
 use Rattle.decoding.specs.Read.{Rooms, Rule, File, file, readLabel, readParts, increasing, ended, readFile, readInstance}
-use Rattle.decoding.specs.Sound.{gotAfter}
 use Rattle.decoding.specs.Answers.{readAsks, instanceFromBytes, instanceAnswer, headerEnd, labelStart, labelRead, labelPlace, Stores, roomsOf, InstanceReads, FileReads}
 use Rattle.decoding.specs.declared.InstanceRead.{InstanceRead}
-use Rattle.decoding.proofs.After.{number-got}
+use Rattle.decoding.proofs.After.{number-got, after-some, ended-got}
 use Rattle.decoding.proofs.Files.{header-end}
 
 -- ---- where it lies
@@ -32,18 +30,17 @@ pub record Lies (s : List ℕ) (label : List ℕ) : Type 0 where
 pub label-lies : (rule : Rule) (version width : ℕ) (m : Rooms) (s : List ℕ) (f : File) (rest : List ℕ) → readInstance rule version width m s ≡ got f rest → Lies s (f .label)
 unfolding readInstance readFile
 label-lies rule version width m s f rest e =
-    took (readFile rule version width m s) _ f rest e (λ f₁ r₁ e₁ n₁.
-    took (number (gateNo (f₁ .parts) (m .scratch)) r₁) _ f rest n₁ (λ u r₂ e₂ n₂.
-    took (ended r₂) _ f rest n₂ (λ v r₃ e₃ n₃.
-    let same : f₁ ≡ f = cc in
+    took (readFile version width m s) _ f rest e (λ f₁ r₁ e₁ n₁.
+    let n₂ = number-got (firstNo (rule (f₁ .parts))) r₁ (number (gateNo (f₁ .parts) (m .scratch)) >> ended >> give f₁) f rest n₁ in
+    let n₃ = number-got (gateNo (f₁ .parts) (m .scratch)) r₁ (ended >> give f₁) f rest n₂ in
+    let same : f₁ ≡ f = ended-got r₁ f₁ f rest n₃ .1 in
     took (readHeader letterI version width s) _ f₁ r₁ e₁ (λ w h eh n₄.
     took (readLabel h) _ f₁ r₁ n₄ (λ l r₅ el n₅.
     took (readParts width m r₅) _ f₁ r₁ n₅ (λ ps r₆ ep n₆.
     asked 27 (increasing (ps .publics)) r₆ _ f₁ r₁ n₆ (λ t n₇.
-    let n₈ = number-got (firstNo (rule ps)) r₆ (give (file l ps)) f₁ r₁ n₇ in
     let names : file l ps ≡ f₁ = cc in
     let a = label-at s headerEnd l r₅ (ap readLabel (sym (header-end version width s w h eh)) ∙ el) in
-    rw (← same, ← names) (record { inside = a .inside; is = a .is }))))))))
+    rw (← same, ← names) (record { inside = a .inside; is = a .is }))))))
 
 module _ (rule : Rule) (width : ℕ) (s : List ℕ) (m : Rooms) where
   abbrev g : Got File
@@ -52,11 +49,7 @@ module _ (rule : Rule) (width : ℕ) (s : List ℕ) (m : Rooms) where
   -- what is got was read
   got-read : (f : File) (rest : List ℕ) → g ≡ got f rest → readInstance rule version width m s ≡ got f rest
   unfolding instanceFromBytes
-  got-read f rest e = go (firstNo (readAsks width m)) e
-    where
-      go : (k : ℕ) → gotAfter k (readInstance rule version width m s) ≡ got f rest → readInstance rule version width m s ≡ got f rest
-      go zero i = i
-      go (suc k) i = absurd (never i)
+  got-read f rest e = after-some (firstNo (readAsks width m)) _ f rest e .1
 
   -- the part that a reader takes by the answer is the label, where the contract says that it lies
   pub record Taken (r : InstanceRead) : Type 0 where

@@ -5,7 +5,7 @@ use mathlib.Core.Path.{_≡_}
 use mathlib.Core.Bool.{Bool, true, false}
 use mathlib.Core.List.{List}
 use lib.ListN.{length, replicate}
-use Rattle.limits.specs.Questions.{_▸_, ask}
+use Rattle.limits.specs.Questions.{ask}
 use Rattle.words.specs.Pieces.{flat}
 use Rattle.narg.specs.Reader.{Got, got, stop}
 use Rattle.narg.specs.Cursor.{cursor}
@@ -20,7 +20,7 @@ use Rattle.parts.specs.Told.{PartsStored}
 use Rattle.parts.specs.declared.PartsRead.{PartsRead}
 use Rattle.parts.specs.declared.PartsRead.the-variants.{Read as ReadParts, Refused as RefusedParts}
 use Rattle.zero_wire.specs.Zero.{startsAtZero}
-use Rattle.decoding.specs.Read.{rooms, increasing, Rule, plain, strict, File, readFile, readInstance, readWitness}
+use Rattle.decoding.specs.Read.{rooms, Rule, plainRule, strictRule, File, readFile, readInstance, readWitness}
 use Rattle.decoding.specs.Answers.{headerEnd, acceptedInstance, instanceAnswer, Stores, roomsOf, span}
 use Rattle.decoding.specs.declared.InstanceRead.{InstanceRead}
 use Rattle.decoding.specs.declared.FileRead.{FileRead}
@@ -40,16 +40,15 @@ fileNumberOf (Refused k) = k
 abbrev pub acceptedAt : PermutationInstance → (at len : ℕ) → InstanceRead
 acceptedAt ins at len = record { outcome = Accepted; instance = ins; label = span at len }
 
--- ---- after the parts
--- the rule of a read that is strict or isn't
+-- ---- the rule of a read that is strict or isn't
 abbrev pub ruleOf : Bool → Rule
-ruleOf true = strict
-ruleOf false = plain
+ruleOf true = strictRule
+ruleOf false = plainRule
 
--- what is asked of a wire count and pairs, strictly or not: 27, then 46
-abbrev pub askedOf : Bool → (vars : ℕ) → List Pair → ℕ
-askedOf true vars ps = ask 27 (increasing ps) ▸ ask 46 (startsAtZero vars ps)
-askedOf false vars ps = ask 27 (increasing ps)
+-- its number for a wire count and pairs that increase
+abbrev pub ruleNo : Bool → (vars : ℕ) → List Pair → ℕ
+ruleNo true vars ps = ask 46 (startsAtZero vars ps)
+ruleNo false vars ps = 0
 
 -- ---- the file: label and parts
 -- where it ends
@@ -67,13 +66,13 @@ FileLeft (got f rest) p q e p' q' e' = PartsStored (f .parts) p q e p' q' e'
 FileLeft (stop k) p q e p' q' e' = Unit {0}
 
 -- what it gets, with these stores lent
-abbrev pub fileHere : Rule → (width : ℕ) (bytes p q e : List ℕ) → Got File
-fileHere rule width bytes p q e = readFile rule version width (rooms (length p) (length q) (length e) 0) bytes
+abbrev pub fileHere : (width : ℕ) (bytes p q e : List ℕ) → Got File
+fileHere width bytes p q e = readFile version width (rooms (length p) (length q) (length e) 0) bytes
 
 -- a file read into three stores
-pub record FileTold (rule : Rule) (width : ℕ) (bytes p q e p' q' e' : List ℕ) (r : FileRead) : Type 0 where
-  pub answer : r ≡ fileAnswer width (fileHere rule width bytes p q e)
-  pub left : FileLeft (fileHere rule width bytes p q e) p q e p' q' e'
+pub record FileTold (width : ℕ) (bytes p q e p' q' e' : List ℕ) (r : FileRead) : Type 0 where
+  pub answer : r ≡ fileAnswer width (fileHere width bytes p q e)
+  pub left : FileLeft (fileHere width bytes p q e) p q e p' q' e'
 
 -- ---- the whole: the file, the gate and the end
 -- what a read leaves of the stores and the scratch

@@ -30,12 +30,12 @@ abbrev pub Rule : Type 0
 Rule = Parts → List Question
 
 -- the plain read, the source's: nothing
-abbrev pub plain : Rule
-plain parts = []
+abbrev pub plainRule : Rule
+plainRule parts = []
 
 -- the strict read (document 02, R-7): 46
-abbrev pub strict : Rule
-strict parts = zeroWireAsks parts
+abbrev pub strictRule : Rule
+strictRule parts = zeroWireAsks parts
 
 -- the questions of a rule
 abbrev pub ruled : Rule → Parts → Reader (Unit {0})
@@ -64,16 +64,17 @@ pub record File : Type 0 where
 abbrev pub file : List ℕ → Parts → File
 file label parts = record { label = label; parts = parts }
 
--- header, label, parts, their order, and what the rule asks
-unfoldable pub readFile : Rule → (version width : ℕ) → Rooms → Reader File
-readFile rule version width rooms =
+-- header, label, parts and their order
+unfoldable pub readFile : (version width : ℕ) → Rooms → Reader File
+readFile version width rooms =
     readHeader letterI version width >> readLabel >>= λ label. readParts width rooms
-    >>= λ parts. ordered parts >> ruled rule parts >> give (file label parts)
+    >>= λ parts. ordered parts >> give (file label parts)
 
--- then the gate and the end
+-- then what the rule asks, the gate and the end
 unfoldable pub readInstance : Rule → (version width : ℕ) → Rooms → Reader File
 readInstance rule version width rooms =
-    readFile rule version width rooms >>= λ f. gated (rooms .scratch) (f .parts) >> ended >> give f
+    readFile version width rooms
+    >>= λ f. ruled rule (f .parts) >> gated (rooms .scratch) (f .parts) >> ended >> give f
 
 -- ---- SFRW
 -- header, steps and the end

@@ -6,9 +6,9 @@ ghost use lib.ListN.{length, replicate};
 ghost use Rattle.limits.specs.Questions.{firstNo};
 ghost use Rattle.instance.specs.Parts.{pairsAt};
 ghost use Rattle.parts.specs.Answers.{readPartsAsks};
-ghost use Rattle.decoding.specs.Read.{rooms, plain, strict};
+ghost use Rattle.decoding.specs.Read.{rooms, plainRule, strictRule};
 ghost use Rattle.decoding.specs.Answers.{readAsks, refusedInstance, instanceAnswer, stores, InstanceReads, FileReads};
-ghost use Rattle.decoding.specs.Given.{partsNumberOf, acceptedAt, ruleOf, askedOf, FileTold, InstanceTold};
+ghost use Rattle.decoding.specs.Given.{partsNumberOf, acceptedAt, ruleOf, ruleNo, FileTold, InstanceTold};
 use crate::FileRead;
 use crate::InstanceFile;
 use crate::InstanceRead;
@@ -66,20 +66,18 @@ fn refused(no: u32) -> InstanceRead
     }
 }
 
-// 27 of the publics that were read into a store, and 46 where the read is strict.
-fn asked_file(strict: bool, ins: PermutationInstance, publics: &[u32]) -> u32
-    ensures { λ r. ⌜ r ≡ askedOf strict (ins .vars) (pairsAt (ins .publics) (now (publics .entry))) ⌝ }
+// What a read asks directly after 27, of publics that were read into a store: 46 where it is strict.
+fn asked_rule(strict: bool, ins: PermutationInstance, publics: &[u32]) -> u32
+    ensures { λ r. ⌜ r ≡ ruleNo strict (ins .vars) (pairsAt (ins .publics) (now (publics .entry))) ⌝ }
 {
-    let no = parts::asked_order(0, publics, ins.publics);
     if strict {
-        return zero_wire::asked_zero_wire(no, ins.vars, publics, ins.publics);
+        return zero_wire::asked_zero_wire(0, ins.vars, publics, ins.publics);
     }
-    no
+    0
 }
 
-// Header, label, parts, 27, and 46 where the read is strict; after 1 and 2.
+// Header, label, parts, and 27, after 1 and 2.
 fn read_file(
-    strict: bool,
     width: u32,
     bytes: &[u8],
     publics: &mut [u32],
@@ -87,7 +85,7 @@ fn read_file(
     equations: &mut [u32],
 ) -> FileRead
     requires { ⌜ firstNo (readPartsAsks width (rooms (length (now publics)) (length (now queries)) (length (now equations)) 0)) ≡ 0 ⌝ }
-    ensures { λ r. ⌜ FileTold (ruleOf strict) width (now (bytes .entry))
+    ensures { λ r. ⌜ FileTold width (now (bytes .entry))
         (now (publics .entry)) (now (queries .entry)) (now (equations .entry))
         (now (publics .exit)) (now (queries .exit)) (now (equations .exit)) r ⌝ }
 {
@@ -103,34 +101,35 @@ fn read_file(
     let PartsRead::Read(instance, end) = parts else {
         return FileRead::Refused(parts_number(parts));
     };
-    let no = asked_file(strict, instance, publics);
+    let no = parts::asked_order(0, publics, instance.publics);
     if no != 0 {
         return FileRead::Refused(no);
     }
     FileRead::Read(accepted(instance, after, len), end)
 }
 
-// The file, then the gate (16, 12 to 15), then 28, after 1 and 2.
+// The file, then 46 where the read is strict, the gate (16, 12 to 15) and 28, after 1 and 2.
 fn read_instance(
-    strict: bool,
     width: u32,
     bytes: &[u8],
     publics: &mut [u32],
     queries: &mut [u32],
     equations: &mut [u32],
     scratch: &mut [u32],
+    strict: bool,
 ) -> InstanceRead
     requires { ⌜ firstNo (readPartsAsks width (rooms (length (now publics)) (length (now queries)) (length (now equations)) 0)) ≡ 0 ⌝ }
     ensures { λ r. ⌜ InstanceTold (ruleOf strict) width (now (bytes .entry))
         (stores (now (publics .entry)) (now (queries .entry)) (now (equations .entry)) (now (scratch .entry)))
         (stores (now (publics .exit)) (now (queries .exit)) (now (equations .exit)) (now (scratch .exit))) r ⌝ }
 {
-    let file = read_file(strict, width, bytes, publics, queries, equations);
+    let file = read_file(width, bytes, publics, queries, equations);
     let FileRead::Read(read, end) = file else {
         return refused(file_number(file));
     };
     let ins = read.instance;
-    let no = validated::asked_validated(0, ins, publics, queries, equations, scratch);
+    let rule = asked_rule(strict, ins, publics);
+    let no = validated::asked_validated(rule, ins, publics, queries, equations, scratch);
     if no != 0 {
         return refused(no);
     }
@@ -164,15 +163,15 @@ fn asked_read(width: u32, publics: usize, queries: usize, equations: usize, scra
     limits::asked_store(d, scratch)
 }
 
-// SFRI of that width into lent stores, plainly or strictly: the two open reads below.
-fn instance_read(
-    strict: bool,
+// SFRI of that width into lent stores, strictly or not: the two open reads below.
+fn instance_from_bytes_with(
     width: u32,
     bytes: &[u8],
     publics: &mut [u32],
     queries: &mut [u32],
     equations: &mut [u32],
     scratch: &mut [u32],
+    strict: bool,
 ) -> InstanceRead
     ensures { λ r. ⌜ InstanceReads (ruleOf strict) (instanceAnswer width) width (now (bytes .entry))
         (stores (now (publics .entry)) (now (queries .entry)) (now (equations .entry)) (now (scratch .entry)))
@@ -189,7 +188,7 @@ fn instance_read(
         clear(publics, queries, equations, scratch);
         return refused(no);
     }
-    let read = read_instance(strict, width, bytes, publics, queries, equations, scratch);
+    let read = read_instance(width, bytes, publics, queries, equations, scratch, strict);
     let outcome = read.outcome;
     let Outcome::Accepted = outcome else {
         clear(publics, queries, equations, scratch);
@@ -209,11 +208,11 @@ pub fn instance_from_bytes_at(
     equations: &mut [u32],
     scratch: &mut [u32],
 ) -> InstanceRead
-    ensures { λ r. ⌜ InstanceReads plain (instanceAnswer width) width (now (bytes .entry))
+    ensures { λ r. ⌜ InstanceReads plainRule (instanceAnswer width) width (now (bytes .entry))
         (stores (now (publics .entry)) (now (queries .entry)) (now (equations .entry)) (now (scratch .entry)))
         (stores (now (publics .exit)) (now (queries .exit)) (now (equations .exit)) (now (scratch .exit))) r ⌝ }
 {
-    instance_read(false, width, bytes, publics, queries, equations, scratch)
+    instance_from_bytes_with(width, bytes, publics, queries, equations, scratch, false)
 }
 
 // The same of files that list wire 0 with value 0, as provers insist (document 02, R-7): 46 directly after 27.
@@ -225,11 +224,11 @@ pub fn strict_instance_from_bytes_at(
     equations: &mut [u32],
     scratch: &mut [u32],
 ) -> InstanceRead
-    ensures { λ r. ⌜ InstanceReads strict (instanceAnswer width) width (now (bytes .entry))
+    ensures { λ r. ⌜ InstanceReads strictRule (instanceAnswer width) width (now (bytes .entry))
         (stores (now (publics .entry)) (now (queries .entry)) (now (equations .entry)) (now (scratch .entry)))
         (stores (now (publics .exit)) (now (queries .exit)) (now (equations .exit)) (now (scratch .exit))) r ⌝ }
 {
-    instance_read(true, width, bytes, publics, queries, equations, scratch)
+    instance_from_bytes_with(width, bytes, publics, queries, equations, scratch, true)
 }
 
 // The plain read, with the label as that very part of the bytes, taken through a reader; after a refusal it is empty.
@@ -241,7 +240,7 @@ pub fn instance_from_bytes<'a>(
     equations: &mut [u32],
     scratch: &mut [u32],
 ) -> InstanceFile<'a>
-    ensures { λ r. ⌜ FileReads plain width (bytes .entry)
+    ensures { λ r. ⌜ FileReads plainRule width (bytes .entry)
         (stores (now (publics .entry)) (now (queries .entry)) (now (equations .entry)) (now (scratch .entry)))
         (stores (now (publics .exit)) (now (queries .exit)) (now (equations .exit)) (now (scratch .exit))) r ⌝ }
 {

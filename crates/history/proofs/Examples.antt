@@ -40,7 +40,7 @@ use Rattle.narg.specs.Reader.{Got, word, part, below}
 use Rattle.header.specs.Form.{headerBytes}
 use Rattle.encoding.specs.Form.{instanceBytes, witnessBytes}
 use Rattle.header.specs.Read.{readMagic, readHeader}
-use Rattle.decoding.specs.Read.{strict, File, readLabel, readPublics, readQueries, readEquations, readParts, readInstance, readFile, readSteps, readWitness}
+use Rattle.decoding.specs.Read.{strictRule, File, readLabel, readPublics, readQueries, readEquations, readParts, readInstance, readFile, readSteps, readWitness}
 use Rattle.encoding.specs.Answers.{instanceToBytesNo, witnessToBytesNo}
 use Rattle.decoding.specs.Answers.{instanceFromBytes, instanceAnswer, witnessFromBytes}
 use Rattle.roundtrip.proofs.Examples.{outcomes as reads, examples as on-bytes}
@@ -156,7 +156,7 @@ bytesA =
     let s = last 1 slots queries equations uses calls in
     instanceBytesMade 1 (s .queries) (s .equations) instanceA (publicsMade s [] publics scratch) lentFile
 
-pub strict-A : instanceAnswer 1 (instanceFromBytes strict 1 bytesA (lentFile .rooms)) .outcome ≡ Accepted
+pub strict-A : instanceAnswer 1 (instanceFromBytes strictRule 1 bytesA (lentFile .rooms)) .outcome ≡ Accepted
 unfolding ask _▸_ newRelationNo allocateVarsNo setVarNo setVarsNo addPermutationNo allocatePermutationNo addEquationNo times strays allFit usesAfter pairNo setItems setVarsRun ticketLine gramsToSteps readLine linesOf lineNo setTicketsRun allBelow answer after compiledParts publicsOf equationAt sizeAt equationsSound slotsSound follow isUtf8 compileNo compile validatedNo gateNo compilePublics publicsSound partsOf checkNo isWitnessValidNo isEvaluation permuteNo soundParameters roundsOf rowsOf soundKinds unitConstants unitRows sameWords runRounds runRound pairwise onKind timesMatrix addUnit mulUnit powerUnit seventh dotUnits instanceToBytesNo instanceBytes headerBytes u32Bytes instanceFromBytes readInstance readFile readHeader readMagic readLabel readParts readPublics readQueries readEquations word part below
 strict-A =
     ap (λ (g : Got File). instanceAnswer 1 g .outcome)

@@ -29,7 +29,7 @@ use Rattle.instance.proofs.Parts.{pairWords-length}
 use Rattle.header.specs.Form.{version}
 use Rattle.encoding.specs.Form.{instanceBytes}
 use Rattle.zero_wire.specs.Zero.{hasZeroWire}
-use Rattle.decoding.specs.Read.{plain, strict, File, readInstance, file}
+use Rattle.decoding.specs.Read.{plainRule, strictRule, File, readInstance, file}
 use Rattle.decoding.specs.Sound.{SoundFile, roomAsks, orderAsks, gotAfter}
 use Rattle.encoding.specs.Answers.{instanceToBytes, instanceToBytesNo}
 use Rattle.decoding.specs.Answers.{instanceFromBytes, instanceAnswer, publicsAfter, queriesAfter, equationsAfter, labelRead}
@@ -181,16 +181,16 @@ module _ (s : State) (l : Ledger) (i : Agrees (s .relation .width) s l)
         ++ (storeAsks (f .rooms .equations) ++ storeAsks (f .rooms .scratch))))
 
     abbrev partsAsked : List Question
-    partsAsked = roomAsks w (f .rooms) parts ++ orderAsks plain (f .rooms) parts
+    partsAsked = roomAsks w (f .rooms) parts ++ orderAsks plainRule (f .rooms) parts
 
     abbrev readNo : ℕ
     readNo = firstNo sizesAsked ▸ firstNo partsAsked
 
-    got-is : instanceFromBytes plain w bytesMade (f .rooms) ≡ gotAfter readNo (got (file (f .label) parts) [])
+    got-is : instanceFromBytes plainRule w bytesMade (f .rooms) ≡ gotAfter readNo (got (file (f .label) parts) [])
     unfolding instanceFromBytes
     got-is =
-        ap (λ (b : List ℕ). gotAfter (firstNo sizesAsked) (readInstance plain version w (f .rooms) b)) bytes-are
-        ∙ ap (gotAfter (firstNo sizesAsked)) (read-written plain version w (f .rooms) (f .label) parts sound-file)
+        ap (λ (b : List ℕ). gotAfter (firstNo sizesAsked) (readInstance plainRule version w (f .rooms) b)) bytes-are
+        ∙ ap (gotAfter (firstNo sizesAsked)) (read-written plainRule version w (f .rooms) (f .label) parts sound-file)
         ∙ after-after _ _ (got (file (f .label) parts) [])
 
     read-left : readNo ≡ firstNo (instanceReadLeft w l (f .rooms))
@@ -211,7 +211,7 @@ module _ (s : State) (l : Ledger) (i : Agrees (s .relation .width) s l)
         let o = i .inSlots in
         rw (lt-ltb 0 (rel .vars) (o .least)) (zero-listed (take (rel .vars) (s .slots)) (o .held 0 ∙ o .zeroth))
 
-    strict-too : instanceFromBytes strict w bytesMade (f .rooms) ≡ instanceFromBytes plain w bytesMade (f .rooms)
+    strict-too : instanceFromBytes strictRule w bytesMade (f .rooms) ≡ instanceFromBytes plainRule w bytesMade (f .rooms)
     strict-too = rw bytes-are (strict-written w (f .label) parts (f .rooms) sound-file lists-zero)
 
     read-outcome : back .outcome ≡ outcomeOf readNo
@@ -219,7 +219,7 @@ module _ (s : State) (l : Ledger) (i : Agrees (s .relation .width) s l)
 
     -- ---- and the read accepted
     module _ (y : readNo ≡ 0) where
-      got-file : instanceFromBytes plain w bytesMade (f .rooms) ≡ got (file (f .label) parts) []
+      got-file : instanceFromBytes plainRule w bytesMade (f .rooms) ≡ got (file (f .label) parts) []
       got-file = got-is ∙ got-yes readNo (got (file (f .label) parts) []) y
 
       instance-is : back .instance ≡ ins s l i

@@ -35,7 +35,7 @@ use Rattle.instance.specs.declared.PermutationInstance.{PermutationInstance}
 use Rattle.compile.specs.Gate.{GateLent, gateLent, compileAsks, compile, compilePublics}
 use Rattle.compile.specs.declared.Compiled.{Compiled}
 use Rattle.validity.specs.Valid.{stepsOf, isWitnessValid}
-use Rattle.decoding.specs.Read.{Rooms, plain, strict, File}
+use Rattle.decoding.specs.Read.{Rooms, plainRule, strictRule, File}
 use Rattle.encoding.specs.Answers.{writtenOf, writtenOut, instanceToBytes, instanceToBytesAsks, instanceToBytesNo, witnessToBytes, witnessToBytesAsks, witnessToBytesNo}
 use Rattle.decoding.specs.Answers.{instanceFromBytes, witnessFromBytes, instanceAnswer, publicsAfter, queriesAfter, equationsAfter, witnessAnswer, traceAfter, labelRead}
 use Rattle.encoding.specs.declared.Written.{Written}
@@ -134,7 +134,7 @@ module _ (w : ℕ) (asked stated : List ℕ) (ins : PermutationInstance) (made :
 
   -- and read: the answer, the label, and the stores
   abbrev instanceGot : Got File
-  instanceGot = instanceFromBytes plain w instanceBytesMade (f .rooms)
+  instanceGot = instanceFromBytes plainRule w instanceBytesMade (f .rooms)
 
   -- the answer, with the record that was read
   abbrev pub instanceReadBack : InstanceRead
@@ -171,7 +171,7 @@ module _ (w : ℕ) (asked stated : List ℕ) (ins : PermutationInstance) (made :
     pub reads : Accepted (instanceWritten .outcome) → instanceReadBack .outcome ≡ outcomeOf (firstNo (instanceReadLeft w l (f .rooms)))
     pub same : Accepted (instanceWritten .outcome) → Accepted (instanceReadBack .outcome) → SameFile
     -- and strictly (document 02, R-7): the same file, or the same number, which is never 46
-    pub strictly : Accepted (instanceWritten .outcome) → instanceFromBytes strict w instanceBytesMade (f .rooms) ≡ instanceGot
+    pub strictly : Accepted (instanceWritten .outcome) → instanceFromBytes strictRule w instanceBytesMade (f .rooms) ≡ instanceGot
     -- the check of what was read, for every trace through its bytes
     pub checks : Accepted (instanceWritten .outcome) → Accepted (instanceReadBack .outcome)
         → (t : TraceLent) → Accepted (witnessWritten w t .outcome) → Accepted (witnessReadBack w t .outcome)

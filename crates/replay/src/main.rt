@@ -20,8 +20,8 @@
 // heading, write and read SFRI and check 150 each, most at widths 1 to 3, sound and led astray; the writes with every
 // number that a record, a store or an output of these sizes can bring about, and with every byte of the output; of gates
 // besides 12 with right and wrong use counts. Of states behind a digest it has 96 fixed cases, every width and every
-// question among them, and 80 random ones; of strict reads 66 fixed ones, each way to break the rule of wire 0 with each
-// fault besides among them, and 80 random ones.
+// question among them, and 80 random ones; of strict reads 66 fixed ones, each way to break the rule of wire 0 alone and
+// with one of nine faults among them, and 80 random ones.
 //
 // Every case is a list of lists, so that one way of taking it apart and of comparing serves all calls. A line is
 // printed for each operation, and last how many answers were replayed and how many are different. A fault of the sample,

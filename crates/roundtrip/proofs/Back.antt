@@ -1,6 +1,6 @@
 -- What was read is what was written: bytes that a read accepts are the bytes of the parts that it gives, which
 -- are sound, nothing is left over, and no question says no of them. With `read-written`: a read accepts exactly
--- the bytes of sound parts that pass 10, 27, 16 and 12 to 15, and gives those parts back.
+-- the bytes of sound parts that pass 10, 27, what the rule asks, 16 and 12 to 15, and gives those parts back.
 -- Assumes nothing.
 use Prim.Native.Nat.{ℕ, zero, suc, _+_, _<_}
 use mathlib.Core.Path.{_≡_, refl, sym, ap, _∙_}
@@ -222,15 +222,15 @@ file-got : (rule : Rule) (version width : ℕ) (rooms : Rooms) (bs label : List 
 unfolding readInstance readFile
 file-got rule version width rooms bs label parts rest e =
     let f = file label parts in
-    took (readFile rule version width rooms bs) _ f rest e (λ x after ex e1.
-    let n = number-got (gateNo (x .parts) (rooms .scratch)) after (ended >> give x) f rest e1 in
+    took (readFile version width rooms bs) _ f rest e (λ x after ex e1.
+    let r = number-got (firstNo (rule (x .parts))) after (number (gateNo (x .parts) (rooms .scratch)) >> ended >> give x) f rest e1 in
+    let n = number-got (gateNo (x .parts) (rooms .scratch)) after (ended >> give x) f rest r in
     let d = ended-got after x f rest n in
-    let ef : readFile rule version width rooms bs ≡ got f [] = got-is ex (d .1) (d .0) in
+    let ef : readFile version width rooms bs ≡ got f [] = got-is ex (d .1) (d .0) in
     took (readHeader letterI version width bs) _ f [] ef (λ u afterHeader eh e2.
     took (readLabel afterHeader) _ f [] e2 (λ l afterLabel el e3.
     took (readParts width rooms afterLabel) _ f [] e3 (λ ps end ep e4.
     asked 27 (increasing (ps .publics)) end _ f [] e4 (λ o e5.
-    let e6 = number-got (firstNo (rule ps)) end (give (file l ps)) f [] e5 in
     let same : file l ps ≡ f = cc in
     record {
       afterHeader = afterHeader;

@@ -16,7 +16,7 @@ use Rattle.validated.specs.Validated.{gateNo}
 use Rattle.header.specs.Form.{version, headerBytes}
 use Rattle.encoding.specs.Form.{instanceBytes}
 use Rattle.header.specs.Read.{readMagic, readHeader}
-use Rattle.decoding.specs.Read.{rooms, plain, File, file, readLabel, readPublics, readQueries, readEquations, readParts, readFile, readInstance}
+use Rattle.decoding.specs.Read.{rooms, plainRule, File, file, readLabel, readPublics, readQueries, readEquations, readParts, readFile, readInstance}
 
 -- instance A of document 01, with any publics: width 1, 3 wires, query 1 to 2, equation 3 · wire 1 = 6
 abbrev withPublics : List Pair → Parts
@@ -35,7 +35,7 @@ bytesOf label parts = instanceBytes version 1 label parts
 
 -- read with stores that hold just that
 abbrev reading : List ℕ → Got File
-reading bytes = readInstance plain version 1 (rooms 4 2 4 3) bytes
+reading bytes = readInstance plainRule version 1 (rooms 4 2 4 3) bytes
 
 -- what reading comes to: 0, or the refusal's number
 abbrev outcome : Got File → ℕ

@@ -1,9 +1,9 @@
 -- What was written is read: the bytes of sound parts are read as those parts, up to the questions that are
--- left, which are 10 of each store, 27, 16 and 12 to 15; the bytes of sound steps up to 10 of the trace.
+-- left, which are 10 of each store, 27, what the rule asks, 16 and 12 to 15; the bytes of sound steps up to 10 of the trace.
 -- Assumes nothing.
-use Prim.Native.Nat.{ℕ, zero, suc, _+_, _*_, _<_}
+use Prim.Native.Nat.{ℕ, _+_, _*_, _<_}
 use mathlib.Core.Path.{_≡_, refl, sym, ap, _∙_}
-use mathlib.Core.Bool.{Bool, true, false}
+use mathlib.Core.Bool.{true}
 use mathlib.Core.List.{List, [], _∷_, _++_, append-assoc, append-nil}
 use native.Mathlib.Omega.{arith}
 use borrow.Author.Tests.{eq-eqb}
@@ -11,12 +11,12 @@ use lib.Dec.{leb}
 use lib.ListN.{length}
 use Rattle.limits.specs.Numbers.{prime, maxCount}
 use Rattle.limits.specs.Questions.{ask, _▸_, Question, question, firstNo}
-use Rattle.limits.proofs.Questions.{▸-zero, zero-▸, ▸-assoc, firstNo-append}
+use Rattle.limits.proofs.Questions.{▸-zero, ▸-assoc, firstNo-append}
 use Rattle.words.specs.Store.{All}
 use Rattle.words.specs.Pieces.{wordsOf}
 use Rattle.utf8.specs.Utf8.{isUtf8}
 use Rattle.narg.specs.Bytes.{wordEnd, u32Bytes}
-use Rattle.narg.specs.Reader.{Got, got, Reader, onGot, orStop, _>>=_, _>>_, give, need, number, word, wire, unit, times, items, each, sizes}
+use Rattle.narg.specs.Reader.{Got, got, Reader, onGot, _>>=_, _>>_, give, word, wire, unit, times, items, each, sizes}
 use Rattle.narg.proofs.Fields.{word-law, part-law}
 use Rattle.narg.proofs.Lists.{items-law}
 use Rattle.allocator.specs.Slots.{Pair}
@@ -104,45 +104,48 @@ parts-law width rooms label parts r s =
     )
 
 -- ---- after the parts: 27, what the rule asks, then 16 and 12 to 15
-abbrev pub fileAsks : Rule → ℕ → Rooms → Parts → List Question
-fileAsks rule width rooms parts = roomAsks width rooms parts ++ (question 27 (increasing (parts .publics)) ∷ rule parts)
+abbrev pub fileAsks : ℕ → Rooms → Parts → List Question
+fileAsks width rooms parts = roomAsks width rooms parts ++ (question 27 (increasing (parts .publics)) ∷ [])
 
-pub file-law : (rule : Rule) (version width : ℕ) (rooms : Rooms) (label : List ℕ) (parts : Parts) → SoundFile width label parts
-    → readFile rule version width rooms (instanceBytes version width label parts) ≡ gotAfter (firstNo (fileAsks rule width rooms parts)) (got (file label parts) [])
+pub file-law : (version width : ℕ) (rooms : Rooms) (label : List ℕ) (parts : Parts) → SoundFile width label parts
+    → readFile version width rooms (instanceBytes version width label parts) ≡ gotAfter (firstNo (fileAsks width rooms parts)) (got (file label parts) [])
 unfolding readFile instanceBytes
-file-law rule version width rooms label parts s =
+file-law version width rooms label parts s =
     rw (
       header-law letterI version width (labelBytes label ++ partsBytes parts) (s .widthFits),
       label-law label (partsBytes parts) (s .labelLength) (s .labelUtf8),
       ← append-nil (partsBytes parts),
       parts-law width rooms label parts [] s,
       onGot-after _ parts [] _,
-      need-after 26 (increasing (parts .publics)) [] (ruled rule parts >> give (file label parts)),
-      number-after (firstNo (rule parts)) [] (give (file label parts)),
-      after-after,
+      need-after 26 (increasing (parts .publics)) [] (give (file label parts)),
       after-after,
     )
     (simp (▸-assoc, ▸-zero))
 
-gate-law : (scratch : ℕ) (f : File) → (gated scratch (f .parts) >> ended >> give f) [] ≡ gotAfter (gateNo (f .parts) scratch) (got f [])
-gate-law scratch f = number-after (gateNo (f .parts) scratch) [] (ended >> give f)
+-- then what the rule asks and the gate
+rest-law : (rule : Rule) (scratch : ℕ) (f : File)
+    → (ruled rule (f .parts) >> gated scratch (f .parts) >> ended >> give f) [] ≡ gotAfter (firstNo (rule (f .parts) ++ gateAsks (f .parts) scratch)) (got f [])
+unfolding gateNo
+rest-law rule scratch f =
+    number-after (firstNo (rule (f .parts))) [] (gated scratch (f .parts) >> ended >> give f)
+    ∙ ap (gotAfter (firstNo (rule (f .parts)))) (number-after (gateNo (f .parts) scratch) [] (ended >> give f))
+    ∙ after-after (firstNo (rule (f .parts))) (gateNo (f .parts) scratch) (got f [])
+    ∙ ap (λ (k : ℕ). gotAfter k (got f [])) (sym (firstNo-append (rule (f .parts)) (gateAsks (f .parts) scratch)))
 
 -- ---- SFRI
 pub read-written : (rule : Rule) (version width : ℕ) (rooms : Rooms) (label : List ℕ) (parts : Parts) → SoundFile width label parts
     → readInstance rule version width rooms (instanceBytes version width label parts)
     ≡ gotAfter (firstNo (roomAsks width rooms parts ++ orderAsks rule rooms parts)) (got (file label parts) [])
-unfolding readInstance gateNo
+unfolding readInstance
 read-written rule version width rooms label parts s =
     let f = file label parts in
-    let k = firstNo (fileAsks rule width rooms parts) in
-    let n = gateNo parts (rooms .scratch) in
-    let e : k ▸ n ≡ firstNo (roomAsks width rooms parts ++ orderAsks rule rooms parts) =
-    sym (firstNo-append (fileAsks rule width rooms parts) (gateAsks parts (rooms .scratch))) in
-    ap (λ (g : Got File). onGot g (λ x. gated (rooms .scratch) (x .parts) >> ended >> give x)) (file-law rule version width rooms label parts s)
-    ∙ onGot-after k f [] (λ x. gated (rooms .scratch) (x .parts) >> ended >> give x)
-    ∙ ap (gotAfter k) (gate-law (rooms .scratch) f)
-    ∙ after-after k n (got f [])
-    ∙ ap (λ (m : ℕ). gotAfter m (got f [])) e
+    let k = firstNo (fileAsks width rooms parts) in
+    let asks = rule parts ++ gateAsks parts (rooms .scratch) in
+    ap (λ (g : Got File). onGot g (λ x. ruled rule (x .parts) >> gated (rooms .scratch) (x .parts) >> ended >> give x)) (file-law version width rooms label parts s)
+    ∙ onGot-after k f [] (λ x. ruled rule (x .parts) >> gated (rooms .scratch) (x .parts) >> ended >> give x)
+    ∙ ap (gotAfter k) (rest-law rule (rooms .scratch) f)
+    ∙ after-after k (firstNo asks) (got f [])
+    ∙ ap (λ (m : ℕ). gotAfter m (got f [])) (sym (firstNo-append (fileAsks width rooms parts) asks))
 
 -- ---- SFRW
 pub steps-law : (width room : ℕ) (steps : List (List ℕ)) (r : List ℕ) → SoundSteps width steps

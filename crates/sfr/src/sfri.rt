@@ -1,8 +1,8 @@
 // The byte form of an instance, for C.
 
-ghost use Rattle.encoding.specs.Answers.{InstanceWrites};
 ghost use mathlib.Core.Path.{_≡_};
-ghost use Rattle.decoding.specs.Read.{plain, strict};
+ghost use Rattle.encoding.specs.Answers.{InstanceWrites};
+ghost use Rattle.decoding.specs.Read.{plainRule, strictRule};
 ghost use Rattle.decoding.specs.Answers.{stores, InstanceReads};
 ghost use Rattle.sfr.specs.Trace.{writtenAnswer};
 ghost use Rattle.sfr.specs.Sfri.{readOf, readAnswer};
@@ -61,7 +61,7 @@ pub extern "C" fn sfr_instance_from_bytes(
     equations: &mut [u32],
     scratch: &mut [u32],
 ) -> SfrInstanceRead
-    ensures { λ r. ⌜ InstanceReads plain (readAnswer width) width (now (bytes .entry))
+    ensures { λ r. ⌜ InstanceReads plainRule (readAnswer width) width (now (bytes .entry))
         (stores (now (publics .entry)) (now (queries .entry)) (now (equations .entry)) (now (scratch .entry)))
         (stores (now (publics .exit)) (now (queries .exit)) (now (equations .exit)) (now (scratch .exit))) r ⌝ }
 {
@@ -85,7 +85,7 @@ pub extern "C" fn sfr_strict_instance_from_bytes(
     equations: &mut [u32],
     scratch: &mut [u32],
 ) -> SfrInstanceRead
-    ensures { λ r. ⌜ InstanceReads strict (readAnswer width) width (now (bytes .entry))
+    ensures { λ r. ⌜ InstanceReads strictRule (readAnswer width) width (now (bytes .entry))
         (stores (now (publics .entry)) (now (queries .entry)) (now (equations .entry)) (now (scratch .entry)))
         (stores (now (publics .exit)) (now (queries .exit)) (now (equations .exit)) (now (scratch .exit))) r ⌝ }
 {

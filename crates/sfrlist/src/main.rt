@@ -3,8 +3,8 @@
 // It takes the file on standard input, at most 65,536 bytes (more is answer 10, before all else), reads it at
 // the width that its bytes 5 to 8 give (1 where they are missing) into stores of 16,384 words, and prints the
 // read's answer and, where that is 0, the width and the counts of wires, publics, queries and equations. The
-// reading is the strict one, `decoding::strict_instance_from_bytes_at`: a file that doesn't list wire 0 with value 0
-// is answer 46. What is here only fetches and prints.
+// reading is the strict one, `decoding::strict_instance_from_bytes_at`, in which 46 follows 27: has the file wires, and
+// does it list wire 0 with value 0? What is here only fetches and prints.
 
 use decoding::InstanceRead;
 use instance::PermutationInstance;

@@ -3,10 +3,10 @@
 -- Assumes nothing.
 use Prim.Native.Nat.{ℕ, zero, suc, _<_}
 use mathlib.Core.Path.{_≡_, refl, sym, ap, _∙_}
-use mathlib.Core.Bool.{Bool, true, false, _&&_, _||_, and-eq-true-iff}
+use mathlib.Core.Bool.{Bool, true, false, _&&_, _||_, and-eq-true-iff, or-false}
 use mathlib.Core.List.{List, [], _∷_}
 use native.Mathlib.Omega.{arith}
-use borrow.Author.Tests.{lt-ltb, ltb-true, ne-eqb}
+use borrow.Author.Tests.{lt-ltb, ltb-true, eq-eqb, ne-eqb}
 use lib.Dec.{eqb, ltb}
 use lib.ListN.{getD}
 use Rattle.allocator.specs.Slots.{Pair, pair}
@@ -22,10 +22,6 @@ none-later p (q ∷ ps) h o =
     let i = and-eq-true-iff (ltb (p .var) (q .var)) _ .0 o in
     let l = ltb-true (p .var) (q .var) (i .0) in
     rw (ne-eqb (p .var) 0 (λ e. omega arith)) (none-later q ps (omega arith) (i .1))
-
-or-false : (b : Bool) → (b || false) ≡ b
-or-false true = refl
-or-false false = refl
 
 pub first-lists : (ps : List Pair) → increasing ps ≡ true → listsZero ps ≡ zeroFirst ps
 first-lists [] o = refl
@@ -52,12 +48,12 @@ first-words (suc n) s h = refl
 pub first-none : (n : ℕ) (s : List ℕ) → n ≡ 0 → false ≡ zeroFirst (pairsAt n s)
 first-none n s h = rw h
 
-module _ (n : ℕ) (s : List ℕ) (h : n ≡ 0 → ⊥) (b : Bool) (e : b ≡ eqb (getD s 0 0) 0) where
-  pub wire-no : b ≡ false → false ≡ zeroFirst (pairsAt n s)
-  wire-no f = sym (first-words n s h ∙ rw (← e, f))
+module _ (n : ℕ) (s : List ℕ) (h : n ≡ 0 → ⊥) where
+  pub wire-no : (getD s 0 0 ≡ 0 → ⊥) → false ≡ zeroFirst (pairsAt n s)
+  wire-no w = sym (first-words n s h ∙ rw (ne-eqb (getD s 0 0) 0 w))
 
-  pub value-left : b ≡ true → (r : Bool) → r ≡ eqb (getD s 1 0) 0 → r ≡ zeroFirst (pairsAt n s)
-  value-left f r i = i ∙ sym (first-words n s h ∙ rw (← e, f))
+  pub value-left : getD s 0 0 ≡ 0 → eqb (getD s 1 0) 0 ≡ zeroFirst (pairsAt n s)
+  value-left w = sym (first-words n s h ∙ rw (eq-eqb (getD s 0 0) 0 w))
 
 -- ---- with the wire count
 pub no-wires : (vars : ℕ) (ps : List Pair) → vars ≡ 0 → false ≡ startsAtZero vars ps

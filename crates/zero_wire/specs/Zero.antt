@@ -30,6 +30,6 @@ abbrev pub zeroFirst : List Pair → Bool
 zeroFirst [] = false
 zeroFirst (p ∷ ps) = isZeroPair p
 
--- so asked of a wire count and pairs
+-- so asked of a wire count and pairs; where 27 says yes, that is `hasZeroWire` (proofs/Zero.starts-where-listed)
 abbrev pub startsAtZero : (vars : ℕ) → List Pair → Bool
 startsAtZero vars ps = ltb 0 vars && zeroFirst ps

@@ -59,14 +59,15 @@ const ASTRAY: Numbers = &[
     (GATE_AFTER, &[0, 13, 15]),
 ];
 
-/// Where files break the strict read's rule in each of the ways, with and without a fault that is
-/// asked about later.
+/// Where files break the strict read's rule in each of the ways: nothing else is wrong with some, some
+/// have bytes left over, which is asked last, and some another fault that is asked about later. No
+/// public is beyond the wires where there is none, and no scratch too short where there are no wires.
 const READ: Numbers = &[
     (STRICT_READ, &[0, 12, 13, 16, 20, 27, 28, 46]),
-    (zero_wire::NO_PUBLICS, &[0, 13, 15]),
-    (zero_wire::MISSING, &[0, 12, 13]),
-    (zero_wire::UNEQUAL, &[0, 12, 13]),
-    (zero_wire::NO_WIRES, &[12]),
+    (zero_wire::NO_PUBLICS, &[0, 13, 15, 16, 28]),
+    (zero_wire::MISSING, &[0, 12, 13, 16, 28]),
+    (zero_wire::UNEQUAL, &[0, 12, 13, 16, 28]),
+    (zero_wire::NO_WIRES, &[0, 12, 28]),
 ];
 
 /// The numbers that have to be seen in a command.

@@ -76,11 +76,7 @@ pub fn gate(state: &State, label: &str, room: Room) -> (u32, Held) {
 
 /// Both SFRI reads, the plain one and the strict one.
 pub fn reads(width: u32, bytes: &[u8], room: Room) -> [(u32, Held); 2] {
-    let reads: [reading::Read; 2] = [
-        reading::instance_from_bytes,
-        reading::strict_instance_from_bytes,
-    ];
-    reads.map(|by| read(by, width, bytes, room))
+    reading::READS.map(|by| read(by, width, bytes, room))
 }
 
 fn read(by: reading::Read, width: u32, bytes: &[u8], room: Room) -> (u32, Held) {

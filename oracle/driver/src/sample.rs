@@ -119,53 +119,12 @@ const TOTALS: [&str; 3] = [
 ];
 
 pub fn run(options: &Options) -> bool {
-    let mut rng = Rng::new(options.seed);
-    let mut writes = Rng::new(!options.seed);
-    let mut more = Rng::new(options.seed ^ (1 << 63));
-    let mut tickets = Rng::new(!options.seed ^ (1 << 63));
-    let mut shared = Rng::new(options.seed ^ (1 << 62));
-    let mut scans = Rng::new(!options.seed ^ (1 << 62));
-    let mut inverses = Rng::new(options.seed ^ (1 << 61));
-    let mut strict = Rng::new(!options.seed ^ (1 << 61));
     let mut sample = Sample::default();
+    let rng = &mut Rng::new(options.seed);
     sample.names();
-    sample.fixed();
-    for _ in 0..options.count.unwrap_or(LEAVES) {
-        sample.random(&mut rng);
-    }
-    sample.fixed_scans();
-    for _ in 0..options.count.unwrap_or(SCANS) {
-        sample.scan(&leaf::random_label(&mut scans, 150));
-    }
-    sample.fixed_relations();
-    sample.fixed_tickets();
-    for _ in 0..options.count.unwrap_or(RELATIONS) {
-        sample.random_relation(&mut rng);
-    }
-    for _ in 0..options.count.unwrap_or(TRACES) {
-        sample.random_trace(&mut rng, &mut writes);
-        sample.random_permute(&mut more);
-        sample.random_scaled(&mut more);
-        sample.random_tickets(&mut tickets);
-    }
-    sample.fixed_gates();
-    sample.fixed_public_values();
-    for _ in 0..options.count.unwrap_or(INSTANCES) {
-        sample.random_instance(&mut rng, &mut writes, &mut more);
-        sample.random_heading(&mut more);
-    }
-    sample.fixed_shared();
-    for _ in 0..options.count.unwrap_or(SHARED) {
-        sample.random_shared(&mut shared);
-    }
-    sample.fixed_inverses();
-    for _ in 0..options.count.unwrap_or(INVERSES) {
-        sample.random_inverse(&mut inverses);
-    }
-    sample.fixed_strict_reads();
-    for _ in 0..options.count.unwrap_or(STRICT_READS) {
-        sample.random_strict_read(&mut strict);
-    }
+    sample.leaves(options, rng);
+    sample.calls(options, rng);
+    sample.more_calls(options);
     sample.words.push(0);
     let bytes: Vec<u8> = sample
         .words
@@ -203,6 +162,62 @@ impl Sample {
         lines.extend(TOTALS.map(String::from));
         let lists: Vec<Vec<u32>> = lines.iter().map(|l| case::packed(l.as_bytes())).collect();
         self.words.extend(case::laid_out(0, &lists));
+    }
+
+    /// Leaves and scans, fixed and random.
+    fn leaves(&mut self, options: &Options, rng: &mut Rng) {
+        let mut scans = Rng::new(!options.seed ^ (1 << 62));
+        self.fixed();
+        for _ in 0..options.count.unwrap_or(LEAVES) {
+            self.random(rng);
+        }
+        self.fixed_scans();
+        for _ in 0..options.count.unwrap_or(SCANS) {
+            self.scan(&leaf::random_label(&mut scans, 150));
+        }
+    }
+
+    /// Calls on a relation, a trace and an instance, and tickets, fixed and random.
+    fn calls(&mut self, options: &Options, rng: &mut Rng) {
+        let mut writes = Rng::new(!options.seed);
+        let mut more = Rng::new(options.seed ^ (1 << 63));
+        let mut tickets = Rng::new(!options.seed ^ (1 << 63));
+        self.fixed_relations();
+        self.fixed_tickets();
+        for _ in 0..options.count.unwrap_or(RELATIONS) {
+            self.random_relation(rng);
+        }
+        for _ in 0..options.count.unwrap_or(TRACES) {
+            self.random_trace(rng, &mut writes);
+            self.random_permute(&mut more);
+            self.random_scaled(&mut more);
+            self.random_tickets(&mut tickets);
+        }
+        self.fixed_gates();
+        self.fixed_public_values();
+        for _ in 0..options.count.unwrap_or(INSTANCES) {
+            self.random_instance(rng, &mut writes, &mut more);
+            self.random_heading(&mut more);
+        }
+    }
+
+    /// Calls on a shared allocator, states behind a digest and strict reads, fixed and random.
+    fn more_calls(&mut self, options: &Options) {
+        let mut shared = Rng::new(options.seed ^ (1 << 62));
+        let mut inverses = Rng::new(options.seed ^ (1 << 61));
+        let mut strict = Rng::new(!options.seed ^ (1 << 61));
+        self.fixed_shared();
+        for _ in 0..options.count.unwrap_or(SHARED) {
+            self.random_shared(&mut shared);
+        }
+        self.fixed_inverses();
+        for _ in 0..options.count.unwrap_or(INVERSES) {
+            self.random_inverse(&mut inverses);
+        }
+        self.fixed_strict_reads();
+        for _ in 0..options.count.unwrap_or(STRICT_READS) {
+            self.random_strict_read(&mut strict);
+        }
     }
 
     /// A case more; what it answers begins with the number that it expects (of a scan, with whether

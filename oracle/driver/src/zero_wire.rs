@@ -7,7 +7,8 @@ use crate::{
     leaf,
 };
 
-/// The ways to break the rule, under which a run counts what the plain read says of such files.
+/// The ways to break the rule, under which a run counts what the plain read says of such files. One
+/// without wires counts as that, whatever it lists; the plain read accepts some that list nothing.
 pub const NO_PUBLICS: &str = "strict 46: no publics";
 pub const MISSING: &str = "strict 46: no wire 0";
 pub const UNEQUAL: &str = "strict 46: 0 isn't 0";
@@ -19,10 +20,10 @@ pub fn broken(bytes: &[u8]) -> Option<&'static str> {
     let after_label = 17 + u128::from(word(13)?);
     let [vars_count, publics, var, value] = [0, 4, 8, 12].map(|at| word(after_label + at));
     match (vars_count?, publics?, var?, value?) {
+        (0, ..) => Some(NO_WIRES),
         (_, 0, ..) => Some(NO_PUBLICS),
         (_, _, 1.., _) => Some(MISSING),
         (.., 1..) => Some(UNEQUAL),
-        (0, ..) => Some(NO_WIRES),
         _ => None,
     }
 }

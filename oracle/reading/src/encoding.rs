@@ -36,6 +36,9 @@ pub struct InstanceRead<'a> {
 pub type Read =
     for<'a> fn(u32, &'a [u8], &mut [u32], &mut [u32], &mut [u32], &mut [u32]) -> InstanceRead<'a>;
 
+/// The plain read and the strict one.
+pub const READS: [Read; 2] = [instance_from_bytes, strict_instance_from_bytes];
+
 /// Writes SFRI. Questions 1, 2, 11, 10; held parts are written gated or not.
 pub fn instance_to_bytes(
     ins: Instance,
@@ -240,7 +243,7 @@ pub fn instance_from_bytes<'a>(
     scratch: &mut [u32],
 ) -> InstanceRead<'a> {
     let rule = |_, _: &Parts| Ok(());
-    read_by(rule, width, bytes, publics, queries, equations, scratch)
+    read_under(rule, width, bytes, publics, queries, equations, scratch)
 }
 
 /// Reads SFRI that lists wire 0 with value 0 (02, R-7): all as above, and 46 directly after 27.
@@ -253,7 +256,7 @@ pub fn strict_instance_from_bytes<'a>(
     scratch: &mut [u32],
 ) -> InstanceRead<'a> {
     let rule = ask_zero_wire;
-    read_by(rule, width, bytes, publics, queries, equations, scratch)
+    read_under(rule, width, bytes, publics, queries, equations, scratch)
 }
 
 /// What a read asks of the wire count and the parts directly after 27.
@@ -264,7 +267,9 @@ fn ask_zero_wire(vars_count: u32, parts: &Parts) -> Asked {
     ask(46, vars_count > 0 && parts.publics.contains(&(0, 0)))
 }
 
-fn read_by<'a>(
+/// An SFRI read under this rule: all that is lent becomes 0, and where nothing is refused the output
+/// stores begin with what was read.
+fn read_under<'a>(
     rule: Rule,
     width: u32,
     bytes: &'a [u8],

@@ -31,7 +31,7 @@ mod tests;
 pub use allocator::{allocate_vars, is_allocated, new, set_var, set_vars, value};
 pub use encoding::{
     instance_from_bytes, instance_to_bytes, strict_instance_from_bytes, witness_from_bytes,
-    witness_to_bytes, InstanceRead, Read, TraceAnswer, Written,
+    witness_to_bytes, InstanceRead, Read, TraceAnswer, Written, READS,
 };
 pub use field::{add, mul};
 pub use instance::{compile, heading, public_value, InstanceAnswer};

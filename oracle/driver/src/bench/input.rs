@@ -5,7 +5,7 @@ use source::{Params, Parts};
 use super::{best, evaluate, table, timed, Line};
 use crate::{
     held::Held,
-    library::instance::{to_library, Read, READS},
+    library::instance::{to_library, LibraryRead, LIBRARY_READS},
     rng::Rng,
 };
 
@@ -222,7 +222,7 @@ fn sfri(name: &str, note: &str, last: usize, keep: Kept) {
     let reading =
         "The source makes a list for each equation's terms, and lists that grow as it reads.";
     let strictly = "The source has the plain read alone.";
-    let [(plain, _), (strict, _)] = READS;
+    let [plain, strict] = LIBRARY_READS;
     for (call, more, by) in [("read", reading, plain), ("strict read", strictly, strict)] {
         let (name, note) = (format!("{name}: {call}"), format!("{note} {more}"));
         table(&name, &note, last, |items| read_instance(by, items, keep));
@@ -234,7 +234,7 @@ fn sfri(name: &str, note: &str, last: usize, keep: Kept) {
     });
 }
 
-fn read_instance(by: Read, items: usize, keep: Kept) -> Line {
+fn read_instance(by: LibraryRead, items: usize, keep: Kept) -> Line {
     let (held, instance) = kept(items, keep);
     let bytes = instance.to_bytes();
     let (publics, queries, equations) = held.words();

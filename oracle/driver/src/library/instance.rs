@@ -43,16 +43,12 @@ pub fn from_library(ins: sfr::Instance) -> Instance {
 }
 
 /// An SFRI read of the library, plain or strict.
-pub type Read = fn(u32, &[u8], &mut [u32], &mut [u32], &mut [u32], &mut [u32]) -> sfr::InstanceRead;
+pub type LibraryRead =
+    fn(u32, &[u8], &mut [u32], &mut [u32], &mut [u32], &mut [u32]) -> sfr::InstanceRead;
 
-/// The plain read and the strict one, by the library and by the second reading.
-pub const READS: [(Read, reading::Read); 2] = [
-    (sfr::instance_from_bytes, reading::instance_from_bytes),
-    (
-        sfr::strict_instance_from_bytes,
-        reading::strict_instance_from_bytes,
-    ),
-];
+/// The plain read and the strict one, as `reading::READS` are.
+pub const LIBRARY_READS: [LibraryRead; 2] =
+    [sfr::instance_from_bytes, sfr::strict_instance_from_bytes];
 
 fn list(seed: u64, seen: &mut Seen, log: &Log) -> Compared {
     let mut generator = Generator::new(Rng::new(seed));
@@ -129,19 +125,28 @@ fn instance(rng: &mut Rng, held: &Held, seen: &mut Seen, log: &Log) -> Compared 
     }
     read_damaged(rng, held, &bytes, seen, log)?;
     let width = held.ins.width;
-    let held = Held::from_parts(width, &generate::zero_wire(rng, width));
+    let mut parts = generate::zero_wire(rng, width);
+    if rng.once_in(2) {
+        // So bare that the plain read may accept it without wires too.
+        parts.vars_count = rng.below(2) as u32;
+        parts.queries.clear();
+        parts.equations.clear();
+    }
+    let held = Held::from_parts(width, &parts);
     let (_, bytes) = held.write(held.most_bytes());
     read_damaged(rng, &held, &bytes, seen, log)
 }
 
-/// Reads of an instance's bytes, whole and damaged.
+/// Reads of an instance's bytes, whole, with a byte left over, and damaged.
 fn read_damaged(rng: &mut Rng, held: &Held, bytes: &[u8], seen: &mut Seen, log: &Log) -> Compared {
     let later = (17 + held.label.len()..bytes.len()).step_by(4);
     let fields: Vec<usize> = [5, 9, 13].into_iter().chain(later).collect();
-    for i in 0..4 {
+    read(rng, held, bytes, seen, log)?;
+    let longer = [bytes, &[rng.byte()]].concat();
+    read(rng, held, &longer, seen, log)?;
+    for _ in 0..3 {
         let damaged = generate::damaged_file(rng, bytes, &fields);
-        let bytes = if i == 0 { bytes } else { &damaged };
-        read(rng, held, bytes, seen, log)?;
+        read(rng, held, &damaged, seen, log)?;
     }
     Ok(())
 }
@@ -222,16 +227,16 @@ fn read(rng: &mut Rng, held: &Held, bytes: &[u8], seen: &mut Seen, log: &Log) ->
         });
     }
     log.say(|| format!("Read({width}, {bytes:?}) into {lens:?} words"));
-    let [plain, strict] = READS;
-    let plain = read_into(plain, "read SFRI", width, bytes, lens)?;
-    let strict = read_into(strict, "strict read SFRI", width, bytes, lens)?;
+    let by = |i| (LIBRARY_READS[i], reading::READS[i]);
+    let plain = read_into(by(0), "read SFRI", width, bytes, lens)?;
+    let strict = read_into(by(1), "strict read SFRI", width, bytes, lens)?;
     seen.read(bytes, plain, strict);
     Ok(())
 }
 
 /// A read by both sides: its number.
 fn read_into(
-    (library, reading): (Read, reading::Read),
+    (library, reading): (LibraryRead, reading::Read),
     name: &str,
     width: u32,
     bytes: &[u8],

@@ -8,7 +8,7 @@
 use reading::{Instance, On, Relation, Share, Trace, MAX_COUNT};
 
 use super::{
-    instance::{to_library, Read, READS},
+    instance::{to_library, LibraryRead, LIBRARY_READS},
     large, tickets, witness,
 };
 use crate::{
@@ -315,7 +315,7 @@ fn cleared(cases: &mut usize) -> Compared {
         read_trace(store)?;
         go_back(&PARAMS, &[0], store)?;
         for place in 0..4 {
-            for by in READS {
+            for by in LIBRARY_READS.into_iter().zip(reading::READS) {
                 for bytes in &files {
                     read(by, bytes, store, place)?;
                 }
@@ -380,7 +380,12 @@ fn read_trace(store: &mut [u32]) -> Compared {
 }
 
 /// An SFRI read with the long store in one of its four places.
-fn read(by: (Read, reading::Read), bytes: &[u8], store: &mut [u32], place: usize) -> Compared {
+fn read(
+    by: (LibraryRead, reading::Read),
+    bytes: &[u8],
+    store: &mut [u32],
+    place: usize,
+) -> Compared {
     let mut answers = Vec::new();
     for library in [true, false] {
         let mut few = [[7; 2]; 3];

@@ -5,7 +5,7 @@
 use source::{Instance, Params, Relation};
 
 use super::{
-    instance::{from_library, to_library, Read, READS},
+    instance::{from_library, to_library, LibraryRead, LIBRARY_READS},
     side, witness,
 };
 use crate::{
@@ -37,11 +37,11 @@ pub struct Run<'a> {
 
 /// Both SFRI reads by the library, the plain one and the strict one.
 fn reads(width: u32, bytes: &[u8]) -> [(u32, Held); 2] {
-    READS.map(|(by, _)| read(by, width, bytes))
+    LIBRARY_READS.map(|by| read(by, width, bytes))
 }
 
 /// An SFRI read by the library, into ample stores.
-fn read(by: Read, width: u32, bytes: &[u8]) -> (u32, Held) {
+fn read(by: LibraryRead, width: u32, bytes: &[u8]) -> (u32, Held) {
     let room = || vec![DIRT; Room::AMPLE.publics];
     let (mut publics, mut queries, mut equations) = (room(), room(), room());
     let scratch = &mut room();

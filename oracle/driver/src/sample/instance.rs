@@ -23,9 +23,9 @@ use crate::{
 };
 
 /// A read's operation and what the second reading has for it.
-type Read = (u32, reading::Read);
-const PLAIN: Read = (33, reading::instance_from_bytes);
-const STRICT: Read = (37, reading::strict_instance_from_bytes);
+type Replayed = (u32, reading::Read);
+const PLAIN: Replayed = (33, reading::READS[0]);
+const STRICT: Replayed = (37, reading::READS[1]);
 
 /// Wires and publics that keep the rule of wire 0, and that break it in each of the ways.
 const ZERO_WIRES: [(u32, &[u32]); 6] = [
@@ -171,7 +171,7 @@ impl Sample {
         self.push(case.answer(&[answer.number, answer.len as u32]));
     }
 
-    fn read_instance(&mut self, by: Read, width: u32, bytes: &[u8], rooms: [usize; 4]) {
+    fn read_instance(&mut self, by: Replayed, width: u32, bytes: &[u8], rooms: [usize; 4]) {
         let (operation, read) = by;
         let mut stores = rooms.map(|room| vec![DIRT; room]);
         let [publics, queries, equations, scratch] = &mut stores;
@@ -195,7 +195,8 @@ impl Sample {
     }
 
     /// Strict reads of files that keep the rule of wire 0, in several widths; and of small ones that
-    /// keep it and that break it, each with every fault besides.
+    /// keep it and that break it, each as it is and with one of nine faults besides. Of files without
+    /// wires 16 is none, and 15 comes as 14.
     pub fn fixed_strict_reads(&mut self) {
         for width in 1..=6 {
             let parts = Parts {
@@ -348,7 +349,7 @@ impl Sample {
     }
 
     /// A read of the instance's bytes, whole or damaged.
-    fn random_read_instance(&mut self, by: Read, rng: &mut Rng, held: &Held) {
+    fn random_read_instance(&mut self, by: Replayed, rng: &mut Rng, held: &Held) {
         let (_, bytes) = held.write(held.most_bytes());
         let later = (17 + held.label.len()..bytes.len()).step_by(4);
         let fields: Vec<usize> = [5, 9, 13].into_iter().chain(later).collect();

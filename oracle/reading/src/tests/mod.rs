@@ -230,12 +230,12 @@ fn file(width: u32, words: &[u32]) -> Vec<u8> {
 
 /// The plain SFRI read.
 fn read(width: u32, bytes: &[u8], lens: [usize; 4]) -> (u32, Held) {
-    read_by(instance_from_bytes, width, bytes, lens)
+    read_dirty(instance_from_bytes, width, bytes, lens)
 }
 
 /// An SFRI read into stores of the given lengths, dirty before: the number, the record, the
 /// label and the words. Scratch must come back all 0, and a refusal must clear the stores.
-fn read_by(read: Read, width: u32, bytes: &[u8], lens: [usize; 4]) -> (u32, Held) {
+fn read_dirty(read: Read, width: u32, bytes: &[u8], lens: [usize; 4]) -> (u32, Held) {
     let [mut publics, mut queries, mut equations, mut scratch] = lens.map(|len| vec![DIRT; len]);
     let answer = read(
         width,

@@ -21,8 +21,7 @@ const NEITHER: &[u32] = &[0, 0];
 /// Both reads of a file of width 1: plain and strict.
 fn both(parts: &[&[u32]], lens: [usize; 4]) -> [(u32, Held); 2] {
     let bytes = file(1, &parts.concat());
-    let reads: [Read; 2] = [instance_from_bytes, strict_instance_from_bytes];
-    reads.map(|read| read_by(read, 1, &bytes, lens))
+    READS.map(|read| read_dirty(read, 1, &bytes, lens))
 }
 
 fn numbers(parts: &[&[u32]], lens: [usize; 4]) -> [u32; 2] {
@@ -48,7 +47,7 @@ fn the_rule_kept_is_the_plain_read() {
     let mut a = instance_a();
     a.label = "µ".as_bytes().to_vec();
     let plain = read(1, &a.bytes(), AMPLE);
-    let strict = read_by(strict_instance_from_bytes, 1, &a.bytes(), AMPLE);
+    let strict = read_dirty(strict_instance_from_bytes, 1, &a.bytes(), AMPLE);
     assert_eq!((plain.0, strict), (0, plain));
 }
 
@@ -74,7 +73,7 @@ fn what_comes_before() {
         assert_eq!(numbers(&[publics, NEITHER], AMPLE), [27; 2], "{publics:?}");
     }
     // The width, and what a file begins with.
-    let read = |width, bytes: &[u8]| read_by(strict_instance_from_bytes, width, bytes, AMPLE).0;
+    let read = |width, bytes: &[u8]| read_dirty(strict_instance_from_bytes, width, bytes, AMPLE).0;
     let bytes = file(1, &[3, 0, 0, 0]);
     assert_eq!([read(0, &bytes), read(2, &bytes)], [1, 23]);
     assert_eq!(read(1, b"SFRW"), 21);

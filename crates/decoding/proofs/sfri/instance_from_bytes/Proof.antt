@@ -60,7 +60,7 @@ use Rattle.reader.proofs.take as take
 use Rattle.reader.proofs.take.Symbol as take-def
 use Rattle.reader.proofs.take.Symbol.{name as #reader·take}
 use Rattle.reader.proofs.take.Met as take-thm
-use Rattle.decoding.specs.Read.{plain as asks-nothing}
+use Rattle.decoding.specs.Read.{plainRule}
 use Rattle.decoding.specs.Answers.{instanceAnswer, Stores, stores, InstanceReads, FileReads}
 use Rattle.decoding.specs.declared.InstanceRead.{InstanceRead}
 use Rattle.decoding.specs.declared.InstanceFile.{InstanceFile}
@@ -142,18 +142,6 @@ module _ {M : Type 1} (𝓤 : URA M) (H : Heap 𝓤) (A : Atoms 𝓤) (W : Given
   abbrev Post : Val → SProp 𝓤
   Post = walkOf 𝓤 H A file.ended stayed (file.clauses 𝓤 H A mem run) .post ((κs, (q₀, (q₁, (q₂, (q₃, (q₄, tt))))), tt, a, vs), tt)
 
-  abbrev OwnP : Fml
-  OwnP = MutSlice (named 1) κ₁ u32 .own yp (up ∷ [])
-
-  abbrev OwnQ : Fml
-  OwnQ = MutSlice (named 2) κ₂ u32 .own yq (uq ∷ [])
-
-  abbrev OwnE : Fml
-  OwnE = MutSlice (named 3) κ₃ u32 .own ye (ue ∷ [])
-
-  abbrev OwnS : Fml
-  OwnS = MutSlice (named 4) κ₄ u32 .own ys (us ∷ [])
-
   -- what the parameters own, together
   abbrev Params : Fml
   Params = owns (u32 ∷ ShrSlice (named 0) κ₀ u8 ∷ MutSlice (named 1) κ₁ u32 ∷ MutSlice (named 2) κ₂ u32 ∷ MutSlice (named 3) κ₃ u32 ∷ MutSlice (named 4) κ₄ u32 ∷ []) a vs
@@ -184,7 +172,7 @@ module _ {M : Type 1} (𝓤 : URA M) (H : Heap 𝓤) (A : Atoms 𝓤) (W : Given
     abbrev Part : Fml
     Part = ShrSlice (named 0) κ₀ u8 .own m (sliceVal (m .ptr) (length (m .now)) ∷ [])
 
-    exits : (lp lq le ls : List ℕ) → length lp ≡ length ps → length lq ≡ length qs → length le ≡ length es → length ls ≡ length ss → FileReads asks-nothing width x before (stores lp lq le ls) made
+    exits : (lp lq le ls : List ℕ) → length lp ≡ length ps → length lq ≡ length qs → length le ≡ length es → length ls ≡ length ss → FileReads plainRule width x before (stores lp lq le ls) made
         → ent 𝓤 (⋆ 𝓤 H A (‵ Part ∷ Token 𝓤 κ₀ q₀ ∷ ‵ (Bytes κ₀ x) ∷ Lent ∷ ‵ (R.the-row .own r (read-vals r)) ∷ ‵ (finally u32 γs ls) ∷ ‵ (finally u32 γe le) ∷ ‵ (finally u32 γq lq) ∷ ‵ (finally u32 γp lp) ∷ [])) (Post mach)
     exits lp lq le ls kp kq ke ks reads =
         qed W (‵ Part ∷ Token 𝓤 κ₀ q₀ ∷ ‵ (Bytes κ₀ x) ∷ Lent ∷ ‵ (R.the-row .own r (read-vals r)) ∷ ‵ (finally u32 γs ls) ∷ ‵ (finally u32 γe le) ∷ ‵ (finally u32 γq lq) ∷ ‵ (finally u32 γp lp) ∷ []) ∵
@@ -207,7 +195,7 @@ module _ {M : Type 1} (𝓤 : URA M) (H : Heap 𝓤) (A : Atoms 𝓤) (W : Given
   goes-at = qed W (Tokens ∷ ‵ Params ∷ []) ∵ join ! $ frame ! $ done !
 
   abbrev Said : InstanceRead → Unit {0} × (Unit {0} × (List ℕ × (List ℕ × (List ℕ × (List ℕ × Unit {0}))))) → Type 0
-  Said r zs = InstanceReads asks-nothing (instanceAnswer width) width (now x) before (stores (zs .1 .1 .0) (zs .1 .1 .1 .0) (zs .1 .1 .1 .1 .0) (zs .1 .1 .1 .1 .1 .0)) r
+  Said r zs = InstanceReads plainRule (instanceAnswer width) width (now x) before (stores (zs .1 .1 .0) (zs .1 .1 .1 .0) (zs .1 .1 .1 .1 .0) (zs .1 .1 .1 .1 .1 .0)) r
 
   -- ---- the label
   abbrev Taken : NargReader → ℕ → RefT (List ℕ) → Type 0
@@ -297,7 +285,7 @@ module _ {M : Type 1} (𝓤 : URA M) (H : Heap 𝓤) (A : Atoms 𝓤) (W : Given
         (init ! 49 refl (LL.lawful (F.the-type α) (F′.the-laws α) 𝓤 H A W .typed (made r m) _ (LL.owes (F.the-type α) (F′.the-laws α) (made r m) (fields .0, (fields .1 .0, (m-is, tt)))) .0)) $
         returns ! (look ! 49 refl) $ forget ! 9 refl $ forget ! 11 refl $ forget ! 13 refl $ forget ! 15 refl $ forget ! 17 refl $ forget ! 19 refl $ forget ! 21 refl $ forget ! 23 refl $ forget ! 25 refl $ forget ! 27 refl $ forget ! 29 refl $ forget ! 31 refl $ forget ! 33 refl $ forget ! 35 refl $ forget ! 37 refl $ forget ! 39 refl $ forget ! 41 refl $ forget ! 43 refl $ forget ! 45 refl $ forget ! 47 refl $ forget ! 49 refl $
         move ! (49 ∷ 50 ∷ []) $ free1 ! $ move ! (47 ∷ 48 ∷ []) $ free1 ! $ move ! (45 ∷ 46 ∷ []) $ free1 ! $ move ! (43 ∷ 44 ∷ []) $ free1 ! $ move ! (41 ∷ 42 ∷ []) $ free1 ! $ move ! (39 ∷ 40 ∷ []) $ free1 ! $ move ! (37 ∷ 38 ∷ []) $ free1 ! $ move ! (35 ∷ 36 ∷ []) $ free1 ! $ move ! (33 ∷ 34 ∷ []) $ free1 ! $ move ! (31 ∷ 32 ∷ []) $ free1 ! $ move ! (29 ∷ 30 ∷ []) $ free1 ! $ move ! (27 ∷ 28 ∷ []) $ free1 ! $ move ! (25 ∷ 26 ∷ []) $ free1 ! $ move ! (23 ∷ 24 ∷ []) $ free1 ! $ move ! (21 ∷ 22 ∷ []) $ free1 ! $ move ! (19 ∷ 20 ∷ []) $ free1 ! $ move ! (17 ∷ 18 ∷ []) $ free1 ! $ move ! (15 ∷ 16 ∷ []) $ free1 ! $ move ! (13 ∷ 14 ∷ []) $ free1 ! $ move ! (11 ∷ 12 ∷ []) $ free1 ! $ move ! (9 ∷ 10 ∷ []) $ free1 ! $ free0 ! $
-        by ! (exits r m (zs .1 .1 .0) (zs .1 .1 .1 .0) (zs .1 .1 .1 .1 .0) (zs .1 .1 .1 .1 .1 .0) kp kq ke ks (let t = there d₁ (r .label .at) (r .label .len) m (on₁ .0) (on₁ .1) e in file-reads asks-nothing width x before (stores (zs .1 .1 .0) (zs .1 .1 .1 .0) (zs .1 .1 .1 .1 .0) (zs .1 .1 .1 .1 .1 .0)) r said m (t .0) (t .1)))))))))))))))))))))))))))))))))))))))
+        by ! (exits r m (zs .1 .1 .0) (zs .1 .1 .1 .0) (zs .1 .1 .1 .1 .0) (zs .1 .1 .1 .1 .1 .0) kp kq ke ks (let t = there d₁ (r .label .at) (r .label .len) m (on₁ .0) (on₁ .1) e in file-reads plainRule width x before (stores (zs .1 .1 .0) (zs .1 .1 .1 .0) (zs .1 .1 .1 .1 .0) (zs .1 .1 .1 .1 .1 .0)) r said m (t .0) (t .1)))))))))))))))))))))))))))))))))))))))
 
 module _ {M : Type 1} (𝓤 : URA M) (H : Heap 𝓤) (A : Atoms 𝓤) (W : Given 𝓤 H A) (mem : Memory → SProp 𝓤) (run : Routine → Fun 𝓤) (𝓣 : Tables 𝓤 H)
     (known-at : Triple 𝓤 (𝓣 .C #decoding·instance-from-bytes-at) (At 𝓤 H A mem run)) (known-new : Triple 𝓤 (𝓣 .C #reader·new) (New 𝓤 H A mem run))

@@ -1,33 +1,28 @@
--- `sfri::read_file` meets its contract: header, label, parts, and what is asked of the pairs that the store holds.
+-- `sfri::read_file` meets its contract: header, label, parts, and 27 of the pairs that the store holds.
 -- Assumes nothing.
 use Prim.Native.Nat.{ℕ}
 use mathlib.Core.Path.{_≡_, refl, ap, _∙_}
 use mathlib.Core.List.{List}
 use denote.Ref.{now}
-use lib.ListN.{length, drop}
-use Rattle.limits.specs.Questions.{ask, _▸_, firstNo}
+use lib.ListN.{drop}
 use Rattle.narg.specs.Reader.{Got, got, stop}
 use Rattle.narg.specs.declared.Cursor.{Cursor}
 use Rattle.header.specs.Form.{letterI, version}
 use Rattle.header.specs.Read.{readHeader}
 use Rattle.header.specs.Answers.{fieldNumber}
 use Rattle.header.proofs.Got.{field-stop, field-got}
-use Rattle.parts.specs.Answers.{readPartsAsks}
 use Rattle.parts.proofs.Label.{LabelGot, label-refused, label-told}
 use Rattle.parts.proofs.Parts.{PartsGot, read-refused, read-got}
-use Rattle.decoding.specs.Read.{rooms, Rule, File, increasing}
-use Rattle.decoding.specs.Given.{partsNumberOf, ruleOf, fileHere, FileTold}
+use Rattle.decoding.specs.Read.{File}
+use Rattle.decoding.specs.Given.{partsNumberOf, fileHere, FileTold}
 use Rattle.decoding.specs.declared.FileRead.the-variants.{Refused}
-use Rattle.decoding.proofs.Files.{header-past, header-no, label-no, parts-no, asked-parts-are, rule-no, label-fits, file-told, file-no}
+use Rattle.decoding.proofs.Files.{header-past, header-no, label-no, parts-no, order-no, label-fits, file-told, file-no}
 use borrow.Author.Needs.{needs}
 use Rattle.decoding.proofs.sfri.read_file.Statement.{statement}
 use Rattle.decoding.proofs.sfri.read_file.Tie as tie
 
 -- ---- what was lent, and what is known at each stage
 module _ (o : tie.Start) where
-  abbrev rule : Rule
-  rule = ruleOf (o .args .strict)
-
   abbrev width : ℕ
   width = o .args .width
 
@@ -45,11 +40,11 @@ module _ (o : tie.Start) where
 
   -- what is read here
   abbrev here : Got File
-  here = fileHere rule width bytes publics queries equations
+  here = fileHere width bytes publics queries equations
 
   -- a refusal
-  no : {p' q' e' : List ℕ} {j k : ℕ} → j ≡ k → here ≡ stop k → FileTold rule width bytes publics queries equations p' q' e' (Refused j)
-  no i x = file-no rule width bytes publics queries equations _ _ _ _ _ i x
+  no : {p' q' e' : List ℕ} {j k : ℕ} → j ≡ k → here ≡ stop k → FileTold width bytes publics queries equations p' q' e' (Refused j)
+  no i x = file-no width bytes publics queries equations _ _ _ _ _ i x
 
 abbrev start : tie.After-read-header → tie.Start
 start h = h .before .before .before .before .before
@@ -91,14 +86,8 @@ parts-read : (t : tie.After-parts)
 parts-read t = let p = stored t in read-got _ _ _ _ _ _ _ _ _ _ (p .read-parts .ensures) _ _ (t .parts .given .1)
 
 -- and what is asked of them
-abbrev held : tie.After-asked-file → tie.After-parts
+abbrev held : tie.After-asked-order → tie.After-parts
 held k = k .before .before .before
-
-asked-here : (k : tie.After-asked-file)
-    → let g = parts-read (held k) .parts in k .asked-file .result ≡ ask 27 (increasing (g .publics)) ▸ firstNo (rule (headed (labelled (between (stored (held k))))) g)
-asked-here k =
-    let g = parts-read (held k) in
-    k .asked-file .ensures ∙ asked-parts-are (headed (labelled (between (stored (held k)))) .args .strict) _ (g .parts) _ (g .is) _ _ _ _ _ _ (g .stored)
 
 read-header-requires : tie.Need-read-header-requires
 read-header-requires c κs = search needs
@@ -118,7 +107,7 @@ returns c =
     let o = start h in
     let e = c .before .enum-told .given .1 in
     no o (c .field-number .ensures ∙ ap fieldNumber e)
-    (header-no (rule o) (width o) (bytes o) (publics o) (queries o) (equations o) (o .pre) _ (field-stop _ _ _ _ _ (h .read-header .ensures) _ e))
+    (header-no (width o) (bytes o) (publics o) (queries o) (equations o) (o .pre) _ (field-stop _ _ _ _ _ (h .read-header .ensures) _ e))
 
 read-label-requires : tie.Need-read-label-requires
 read-label-requires c κs = search needs
@@ -139,7 +128,7 @@ returns-2 c =
     let o = headed d in
     let e = c .before .enum-told2 .given .1 in
     no o (c .field-number2 .ensures ∙ ap fieldNumber e)
-    (label-no (rule o) (width o) (bytes o) (publics o) (queries o) (equations o) (o .pre) (labelAt d) (header-read d) _
+    (label-no (width o) (bytes o) (publics o) (queries o) (equations o) (o .pre) (labelAt d) (header-read d) _
     (label-refused (bytes o) (labelAt d .at) _ (l .read-label .ensures) _ e))
 
 read-parts-requires : tie.Need-read-parts-requires
@@ -171,11 +160,11 @@ returns-3 c =
     let o = headed d in
     let e = c .before .enum-told3 .given .1 in
     no o (c .parts-number .ensures ∙ ap partsNumberOf e)
-    (parts-no (rule o) (width o) (bytes o) (publics o) (queries o) (equations o) (o .pre) (labelAt d) (header-read d) _ _ _ (partsAt b) (label-read b) _
+    (parts-no (width o) (bytes o) (publics o) (queries o) (equations o) (o .pre) (labelAt d) (header-read d) _ _ _ (partsAt b) (label-read b) _
     (read-refused (width o) (bytes o) (partsAt b .at) (publics o) (queries o) (equations o) _ _ _ _ (p .read-parts .ensures) _ e))
 
-asked-file-requires : tie.Need-asked-file-requires
-asked-file-requires c κs = search needs
+asked-order-requires : tie.Need-asked-order-requires
+asked-order-requires c κs = search needs
 
 same-length-4 : tie.Need-same-length-4
 same-length-4 c = search needs
@@ -194,15 +183,15 @@ returns-4 c =
     let d = labelled b in
     let o = headed d in
     no o refl
-    (rule-no (rule o) (width o) (bytes o) (publics o) (queries o) (equations o) (o .pre) (labelAt d) (header-read d) _ _ _ (partsAt b) (label-read b) _ _ _ _ _ _ _ (parts-read t)
-    _ (asked-here k) (c .if1 .taken))
+    (order-no (width o) (bytes o) (publics o) (queries o) (equations o) (o .pre) (labelAt d) (header-read d) _ _ _ (partsAt b) (label-read b) _ _ _ _ _ _ _ (parts-read t)
+    _ (k .asked-order .ensures) (c .if1 .taken))
 
 accepted-requires : tie.Need-accepted-requires
 accepted-requires c κs =
     let b = between (stored (held (c .before))) in
     let d = labelled b in
     let o = headed d in
-    label-fits (rule o) (width o) (bytes o) (publics o) (queries o) (equations o) (o .pre) (labelAt d) (header-read d) _ _ _ (partsAt b) (label-read b)
+    label-fits (width o) (bytes o) (publics o) (queries o) (equations o) (o .pre) (labelAt d) (header-read d) _ _ _ (partsAt b) (label-read b)
 
 same-length-7 : tie.Need-same-length-7
 same-length-7 c = search needs
@@ -220,8 +209,8 @@ returns-5 c =
     let b = between (stored t) in
     let d = labelled b in
     let o = headed d in
-    file-told (rule o) (width o) (bytes o) (publics o) (queries o) (equations o) (o .pre) (labelAt d) (header-read d) _ _ _ (partsAt b) (label-read b) _ _ _ _ _ _ _ (parts-read t)
-    _ (asked-here k) (c .before .if1 .left) (header-past _ _ _ _ (d .before .before .read-header .ensures) _ _ _ (d .header .given .1)) _ (c .accepted .ensures)
+    file-told (width o) (bytes o) (publics o) (queries o) (equations o) (o .pre) (labelAt d) (header-read d) _ _ _ (partsAt b) (label-read b) _ _ _ _ _ _ _ (parts-read t)
+    _ (k .asked-order .ensures) (c .before .if1 .left) (header-past _ _ _ _ (d .before .before .read-header .ensures) _ _ _ (d .header .given .1)) _ (c .accepted .ensures)
 
 pub read-file-spec : {M : Type 1} → statement M
 read-file-spec =
@@ -245,7 +234,7 @@ read-file-spec =
     same-length-2
     same-length-3
     returns-3
-    asked-file-requires
+    asked-order-requires
     same-length-4
     same-length-5
     same-length-6

@@ -1,13 +1,14 @@
--- `sfri::read_instance` meets its contract: the file, the gate on the parts that the stores hold, and 28.
+-- `sfri::read_instance` meets its contract: the file, what the rule asks and the gate on what the stores hold, and 28.
 -- Assumes nothing.
 use Prim.Native.Nat.{ℕ}
-use mathlib.Core.Path.{ap, _∙_}
+use mathlib.Core.Path.{_≡_, ap, _∙_}
 use mathlib.Core.List.{List}
 use denote.Ref.{now}
+use Rattle.limits.specs.Questions.{firstNo}
 use Rattle.decoding.specs.Read.{Rule}
 use Rattle.decoding.specs.Answers.{refusedInstance, Stores, stores}
-use Rattle.decoding.specs.Given.{fileNumberOf, ruleOf}
-use Rattle.decoding.proofs.Files.{FileGiven, file-refused, file-got, whole-refused, gate-refused, end-refused, whole-yes, tell-no, tell-yes}
+use Rattle.decoding.specs.Given.{fileNumberOf, ruleOf, ruleNo}
+use Rattle.decoding.proofs.Files.{FileGiven, rule-is, file-refused, file-got, whole-refused, gate-refused, end-refused, whole-yes, tell-no, tell-yes}
 use borrow.Author.Needs.{needs}
 use Rattle.decoding.proofs.sfri.read_instance.Statement.{statement}
 use Rattle.decoding.proofs.sfri.read_instance.Tie as tie
@@ -39,12 +40,22 @@ lent t = start (reading t)
 abbrev endAt : tie.After-file → ℕ
 endAt t = t .file .given .0 .1 .0 .at
 
-file-read : (t : tie.After-file) → FileGiven _ _ _ _ _ _ _ _ _ _ (reading t .read-file .ensures) (t .file .given .0 .0) (t .file .given .0 .1 .0)
-file-read t = file-got _ _ _ _ _ _ _ _ _ _ (reading t .read-file .ensures) _ _ (t .file .given .1)
+file-read : (t : tie.After-file) → FileGiven _ _ _ _ _ _ _ _ _ (reading t .read-file .ensures) (t .file .given .0 .0) (t .file .given .0 .1 .0)
+file-read t = file-got _ _ _ _ _ _ _ _ _ (reading t .read-file .ensures) _ _ (t .file .given .1)
 
--- and the gate asked
-abbrev gated : tie.After-asked-validated → tie.After-file
-gated v = v .before .before .before .before .before .before .before
+-- what the rule asks was asked
+abbrev filed : tie.After-asked-rule → tie.After-file
+filed k = k .before .before .before .before
+
+rule-asked : (k : tie.After-asked-rule) → k .asked-rule .result ≡ firstNo (rule (lent (filed k)) (file-read (filed k) .file .parts))
+rule-asked k =
+    let g = file-read (filed k) in
+    let strict = lent (filed k) .args .strict in
+    k .asked-rule .ensures ∙ (λ j. ruleNo strict (g .is j .instance .vars) (g .pairs j)) ∙ rule-is strict (g .file .parts) (g .order)
+
+-- and the gate
+abbrev ruled : tie.After-asked-validated → tie.After-asked-rule
+ruled v = v .before .before .before .before .before
 
 abbrev passed : tie.Else1 → tie.After-asked-validated
 passed i = i .before .before .before
@@ -79,7 +90,10 @@ returns c =
     let o = start f in
     let e = c .before .before .enum-told .given .1 in
     tell-no (rule o) (width o) (bytes o) (before o) _ _ _ (c .refused .ensures ∙ ap refusedInstance (c .before .file-number .ensures ∙ ap fileNumberOf e))
-    (whole-refused (rule o) (width o) (bytes o) (before o) _ (file-refused _ _ _ _ _ _ _ _ _ _ (f .read-file .ensures) _ e))
+    (whole-refused (rule o) (width o) (bytes o) (before o) _ (file-refused _ _ _ _ _ _ _ _ _ (f .read-file .ensures) _ e))
+
+asked-rule-requires : tie.Need-asked-rule-requires
+asked-rule-requires c κs = search needs
 
 asked-validated-requires : tie.Need-asked-validated-requires
 asked-validated-requires c κs = search needs
@@ -88,7 +102,7 @@ refused-requires-2 : tie.Need-refused-requires-2
 refused-requires-2 c κs = search needs
 
 same-length-4 : tie.Need-same-length-4
-same-length-4 c = search needs
+same-length-4 c = reading (filed (ruled (c .before .before .before .before))) .read-file .kept .1 .1 .0
 
 same-length-5 : tie.Need-same-length-5
 same-length-5 c = search needs
@@ -102,20 +116,20 @@ same-length-7 c = search needs
 returns-2 : tie.Need-returns-2
 returns-2 c =
     let v = c .before .before .before .before in
-    let t = gated v in
+    let t = filed (ruled v) in
     let o = lent t in
     let g = file-read t in
     tell-no (rule o) (width o) (bytes o) (before o) _ _ _ (c .refused2 .ensures)
-    (gate-refused (rule o) (width o) (bytes o) (before o) (g .file) (endAt t) (g .reads) _ _ (g .holds) (v .asked-validated .ensures .answer) (c .before .if1 .taken))
+    (gate-refused (rule o) (width o) (bytes o) (before o) (g .file) (endAt t) (g .reads) _ _ _ (g .holds) (rule-asked (ruled v)) (v .asked-validated .ensures .answer) (c .before .if1 .taken))
 
 refused-requires-3 : tie.Need-refused-requires-3
 refused-requires-3 c κs = search needs
 
 same-length-8 : tie.Need-same-length-8
-same-length-8 c = reading (gated (passed (c .before .before .before))) .read-file .kept .1 .1 .1 .0
+same-length-8 c = reading (filed (ruled (passed (c .before .before .before)))) .read-file .kept .1 .1 .0
 
 same-length-9 : tie.Need-same-length-9
-same-length-9 c = search needs
+same-length-9 c = reading (filed (ruled (passed (c .before .before .before)))) .read-file .kept .1 .1 .1 .0
 
 same-length-10 : tie.Need-same-length-10
 same-length-10 c = search needs
@@ -127,11 +141,11 @@ returns-3 : tie.Need-returns-3
 returns-3 c =
     let i = c .before .before .before in
     let v = passed i in
-    let t = gated v in
+    let t = filed (ruled v) in
     let o = lent t in
     let g = file-read t in
     tell-no (rule o) (width o) (bytes o) (before o) _ _ _ (c .refused3 .ensures)
-    (end-refused (rule o) (width o) (bytes o) (before o) (g .file) (endAt t) (g .reads) _ _ (g .holds) (v .asked-validated .ensures .answer) (i .if1 .left) (c .before .if2 .taken))
+    (end-refused (rule o) (width o) (bytes o) (before o) (g .file) (endAt t) (g .reads) _ _ _ (g .holds) (rule-asked (ruled v)) (v .asked-validated .ensures .answer) (i .if1 .left) (c .before .if2 .taken))
 
 same-length-12 : tie.Need-same-length-12
 same-length-12 c = search needs
@@ -149,11 +163,11 @@ returns-4 : tie.Need-returns-4
 returns-4 c =
     let i = c .before .before in
     let v = passed i in
-    let t = gated v in
+    let t = filed (ruled v) in
     let o = lent t in
     let g = file-read t in
     tell-yes (rule o) (width o) (bytes o) (before o) _ (g .file) _
-    (whole-yes (rule o) (width o) (bytes o) (before o) (g .file) (endAt t) (g .reads) _ _ (g .holds) (v .asked-validated .ensures .answer) (i .if1 .left) (c .if2 .left))
+    (whole-yes (rule o) (width o) (bytes o) (before o) (g .file) (endAt t) (g .reads) _ _ _ (g .holds) (rule-asked (ruled v)) (v .asked-validated .ensures .answer) (i .if1 .left) (c .if2 .left))
     _ (g .is) (g .stored) (v .asked-validated .ensures .scratch)
 
 pub read-instance-spec : {M : Type 1} → statement M
@@ -169,6 +183,7 @@ read-instance-spec =
     same-length-2
     same-length-3
     returns
+    asked-rule-requires
     asked-validated-requires
     refused-requires-2
     same-length-4

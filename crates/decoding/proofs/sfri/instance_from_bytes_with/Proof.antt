@@ -1,4 +1,4 @@
--- `sfri::instance_read` meets its contract: 1 and 2, then the read; and the stores and the scratch all 0 where
+-- `sfri::instance_from_bytes_with` meets its contract: 1 and 2, then the read; and the stores and the scratch all 0 where
 -- either refuses.
 -- Assumes nothing.
 use Prim.Native.Nat.{ℕ}
@@ -11,8 +11,8 @@ use Rattle.decoding.specs.Answers.{Stores, stores}
 use Rattle.decoding.specs.Given.{ruleOf}
 use Rattle.decoding.proofs.Files.{cleared-is, asked-no, asked-parts, read-no, read-yes}
 use borrow.Author.Needs.{needs}
-use Rattle.decoding.proofs.sfri.instance_read.Statement.{statement}
-use Rattle.decoding.proofs.sfri.instance_read.Tie as tie
+use Rattle.decoding.proofs.sfri.instance_from_bytes_with.Statement.{statement}
+use Rattle.decoding.proofs.sfri.instance_from_bytes_with.Tie as tie
 
 -- that many zeros
 abbrev nulls : ℕ → List ℕ
@@ -105,7 +105,7 @@ returns-2 c =
     let r = t .before .before .before .before .before .before .before .before .before .before in
     let o = lent r in
     let z = k .clear2 .ensures in
-    let same = r .read-instance .kept .1 .1 .1 in
+    let same = r .read-instance .kept .1 .1 in
     read-no (rule o) (width o) (bytes o) (before o) _ (asked r .before .asked-read .ensures) (asked r .if1 .left) _ _ (r .read-instance .ensures) _ (t .enum-told2 .given .1) _
     (cleared-is (before o) (z .0 ∙ ap nulls (same .0)) (z .1 ∙ ap nulls (same .1 .0)) (z .2 ∙ ap nulls (same .1 .1 .0)) (z .3 ∙ ap nulls (same .1 .1 .1 .0)))
 
@@ -127,8 +127,8 @@ returns-3 c =
     let o = lent r in
     read-yes (rule o) (width o) (bytes o) (before o) _ (asked r .before .asked-read .ensures) (asked r .if1 .left) _ _ (r .read-instance .ensures) (c .enum-told .given .1)
 
-pub instance-read-spec : {M : Type 1} → statement M
-instance-read-spec =
+pub instance-from-bytes-with-spec : {M : Type 1} → statement M
+instance-from-bytes-with-spec =
     tie.close
     (tie.spec
     asked-read-requires
