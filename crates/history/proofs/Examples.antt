@@ -150,17 +150,24 @@ satisfied =
     .checks refl refl (lentTrace (2 ∷ 5 ∷ 9 ∷ [])) refl refl 1 params refl 3 (omega arith) (omega arith)
     .yes .0 refl
 
--- the strict read accepts those bytes too
-abbrev bytesA : List ℕ
-bytesA =
+-- the strict read accepts those bytes too, and where a store is a word short it answers 10, as the plain one does
+abbrev bytesA : FileLent → List ℕ
+bytesA f =
     let s = last 1 slots queries equations uses calls in
-    instanceBytesMade 1 (s .queries) (s .equations) instanceA (publicsMade s [] publics scratch) lentFile
+    instanceBytesMade 1 (s .queries) (s .equations) instanceA (publicsMade s [] publics scratch) f
 
-pub strict-A : instanceAnswer 1 (instanceFromBytes strictRule 1 bytesA (lentFile .rooms)) .outcome ≡ Accepted
+abbrev shortFile : FileLent
+shortFile = record { label = []; out = replicate 73 7; rooms = record { publics = 3; queries = 2; equations = 4; scratch = 3 } }
+
+abbrev strictOutcome : FileLent → Outcome
+strictOutcome f = instanceAnswer 1 (instanceFromBytes strictRule 1 (bytesA f) (f .rooms)) .outcome
+
+pub strict-A : (strictOutcome lentFile ≡ Accepted) × (strictOutcome shortFile ≡ Refused 10)
 unfolding ask _▸_ newRelationNo allocateVarsNo setVarNo setVarsNo addPermutationNo allocatePermutationNo addEquationNo times strays allFit usesAfter pairNo setItems setVarsRun ticketLine gramsToSteps readLine linesOf lineNo setTicketsRun allBelow answer after compiledParts publicsOf equationAt sizeAt equationsSound slotsSound follow isUtf8 compileNo compile validatedNo gateNo compilePublics publicsSound partsOf checkNo isWitnessValidNo isEvaluation permuteNo soundParameters roundsOf rowsOf soundKinds unitConstants unitRows sameWords runRounds runRound pairwise onKind timesMatrix addUnit mulUnit powerUnit seventh dotUnits instanceToBytesNo instanceBytes headerBytes u32Bytes instanceFromBytes readInstance readFile readHeader readMagic readLabel readParts readPublics readQueries readEquations word part below
 strict-A =
-    ap (λ (g : Got File). instanceAnswer 1 g .outcome)
-    (whole 1 slots queries equations uses fresh-accepted calls .judged .gated [] publics scratch gate-accepted .files lentFile .strictly refl)
+    let filed = whole 1 slots queries equations uses fresh-accepted calls .judged .gated [] publics scratch gate-accepted .files in
+    let outcome : Got File → Outcome = λ g. instanceAnswer 1 g .outcome in
+    (ap outcome (filed lentFile .strictly refl), ap outcome (filed shortFile .strictly refl))
 
 -- with no bytes between too
 pub satisfied-held : SatA ((2 ∷ 5 ∷ []) ∷ [])
