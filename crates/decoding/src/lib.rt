@@ -1,6 +1,6 @@
 // The byte forms of an instance and of a witness (the source's encoding.rs), read. Crate `encoding` writes them and
 // tells their fields (encoding/src/lib.rt); what both begin with is read in crate `header`, lists in `items`, label and
-// parts in `parts`.
+// parts in `parts`; what a strict read asks besides is in `zero_wire`.
 //
 // A store that is read into has 0 behind what was read, and is all 0 where a read refuses. Every open function answers on every
 // input.
