@@ -73,9 +73,9 @@ pub fn instance_to_bytes(
     }
 }
 
-/// A read, by the C function that makes it.
-fn read_by(
-    read: sys::InstanceFromBytes,
+/// A read, strict or plain.
+fn read_with(
+    strict: bool,
     width: u32,
     bytes: &[u8],
     publics: &mut [u32],
@@ -83,6 +83,11 @@ fn read_by(
     equations: &mut [u32],
     scratch: &mut [u32],
 ) -> InstanceRead {
+    let read = if strict {
+        sys::sfr_strict_instance_from_bytes
+    } else {
+        sys::sfr_instance_from_bytes
+    };
     // SAFETY: see the head of this file.
     unsafe {
         read(
@@ -115,8 +120,7 @@ pub fn instance_from_bytes(
     equations: &mut [u32],
     scratch: &mut [u32],
 ) -> InstanceRead {
-    let read = sys::sfr_instance_from_bytes;
-    read_by(read, width, bytes, publics, queries, equations, scratch)
+    read_with(false, width, bytes, publics, queries, equations, scratch)
 }
 
 /// Reads SFRI of that width that lists wire 0 with value 0, as provers insist; [`label`] then gives
@@ -132,8 +136,7 @@ pub fn strict_instance_from_bytes(
     equations: &mut [u32],
     scratch: &mut [u32],
 ) -> InstanceRead {
-    let read = sys::sfr_strict_instance_from_bytes;
-    read_by(read, width, bytes, publics, queries, equations, scratch)
+    read_with(true, width, bytes, publics, queries, equations, scratch)
 }
 
 /// The label of a read: the very part of `bytes`, the ones read, that holds it. None after a

@@ -317,22 +317,6 @@ unsafe extern "C" {
 }
 
 // Instances, and the check.
-
-/// The C function of a read of SFRI.
-pub type InstanceFromBytes = unsafe extern "C" fn(
-    width: u32,
-    bytes: *const u8,
-    len: usize,
-    publics: *mut u32,
-    publics_len: usize,
-    queries: *mut u32,
-    queries_len: usize,
-    equations: *mut u32,
-    equations_len: usize,
-    scratch: *mut u32,
-    scratch_len: usize,
-) -> InstanceRead;
-
 unsafe extern "C" {
     pub fn sfr_compile(
         rel: Relation,
