@@ -17,7 +17,7 @@ static const uint32_t params[] = {0, SFR_PRIME - 1, 5}; /* the recipe: one round
 static void accepted(uint32_t number)
 {
     if (number != 0) {
-        printf("refused: %u\n", (unsigned)number);
+        printf("refused: %u, %s\n", (unsigned)number, sfr_meaning(number));
         exit(1);
     }
 }
@@ -32,14 +32,16 @@ static sfr_relation go_on(sfr_relation_answer answer)
 static uint32_t batch(const uint32_t weights[2])
 {
     enum { HOPPER = 1, HAND, SACK }; /* wire 0 is there from the start */
-    uint32_t slots[7], uses[7], queries[6], equations[14], publics[4], trace[4], scratch[7];
-    uint8_t sfri[128], sfrw[64];
-    char ticket[49];
+    uint32_t slots[7], uses[7], scratch[7], queries[SFR_QUERIES_WORDS(1, 3)];
+    uint32_t equations[SFR_EQUATION_WORDS(2) + SFR_EQUATION_WORDS(3)], publics[SFR_PUBLICS_WORDS(2)];
+    uint32_t trace[SFR_TRACE_WORDS(1, 2)];
+    uint8_t sfri[SFR_SFRI_BYTES(sizeof label, 1, 2, 2, SFR_EQUATION_WORDS(3))], sfrw[SFR_SFRW_BYTES(1, 2)];
+    char ticket[2 * SFR_TICKET_LINE + 1];
 
     sfr_relation rel = go_on(sfr_new_relation(1, LENT(slots), LENT(uses)));
     rel = go_on(sfr_allocate_vars(rel, LENT(slots), 3));
     snprintf(ticket, sizeof ticket, "%10d %12d\n%10d %12d\n", SACK, 50, SACK, 55); /* both are 1 step */
-    sfr_ticket_tally tally = sfr_set_tickets(rel, LENT(slots), (const uint8_t *)ticket, 48);
+    sfr_ticket_tally tally = sfr_set_tickets(rel, LENT(slots), (const uint8_t *)ticket, 2 * SFR_TICKET_LINE);
     accepted(tally.number);
     printf("ticket: %zu readings, %zu repeated\n", tally.accepted, tally.accepted - tally.fresh);
     const uint32_t sealed[] = {HOPPER, SACK, HAND};

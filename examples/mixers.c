@@ -31,7 +31,7 @@ typedef struct {
 static void accepted(uint32_t number)
 {
     if (number != 0) {
-        printf("refused: %u\n", (unsigned)number);
+        printf("refused: %u, %s\n", (unsigned)number, sfr_meaning(number));
         exit(1);
     }
 }
