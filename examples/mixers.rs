@@ -7,9 +7,10 @@
 //! cargo run --offline --manifest-path rust/Cargo.toml --example mixers
 //! ```
 
-use sfr::{Refused, SharedAnswer, SharedRelation, Trace, VarAllocator, Weighted, PRIME};
-
-const LABEL: &[u8] = b"order 2";
+use sfr::{
+    BabyBearUnit, FieldVar, Held, Parameters, Refused, SharedRelation, Stores, Trace, VarAllocator,
+    Weighted, PRIME,
+};
 
 /// What the mixers share.
 #[derive(Default)]
@@ -18,40 +19,39 @@ struct Plant {
     slots: [u32; 7],
 }
 
-/// A mixer's number, record and own stores, and its recipe: one round.
-#[derive(Default)]
+/// A mixer's number, record and own stores, and its recipe.
 struct Mixer {
     index: u32,
     rel: SharedRelation,
-    queries: [u32; 4],
+    queries: [FieldVar; 4],
     uses: [u32; 7],
     equations: [u32; 8],
-    params: &'static [u32],
+    params: Parameters<'static>,
 }
 
 impl Plant {
-    /// Keeps both records; what is opened, allocated or minted.
-    fn go_on(&mut self, mixer: &mut Mixer, answer: SharedAnswer) -> Result<u32, Refused> {
-        let first;
-        (first, self.allocator, mixer.rel) = answer.first()?;
-        Ok(first)
+    fn open(&mut self, width: u32, quota: u32, words: &'static [u32]) -> Result<Mixer, Refused> {
+        let mut uses = [0; 7];
+        let slots = &mut self.slots;
+        let opened = sfr::with_allocator(self.allocator, width, quota, slots, &mut uses);
+        let (index, rel);
+        (index, self.allocator, rel) = opened.accepted()?;
+        Ok(Mixer {
+            index,
+            rel,
+            queries: [FieldVar::ZERO; 4],
+            uses,
+            equations: [0; 8],
+            params: Parameters { rounds: 1, words },
+        })
     }
 
-    fn open(&mut self, width: u32, quota: u32, params: &'static [u32]) -> Result<Mixer, Refused> {
-        let mut mixer = Mixer {
-            params,
-            ..Mixer::default()
-        };
-        let (slots, uses) = (&mut self.slots, &mut mixer.uses);
-        let answer = sfr::with_allocator(self.allocator, width, quota, slots, uses);
-        mixer.index = self.go_on(&mut mixer, answer)?;
-        Ok(mixer)
-    }
-
-    fn allocate(&mut self, mixer: &mut Mixer, n: u32) -> Result<u32, Refused> {
+    fn allocate(&mut self, mixer: &mut Mixer, n: u32) -> Result<FieldVar, Refused> {
         let (rel, slots) = (mixer.rel, &mut self.slots);
-        let answer = sfr::allocate_vars_on(self.allocator, mixer.index, rel, slots, n);
-        self.go_on(mixer, answer)
+        let allocated = sfr::allocate_vars_on(self.allocator, mixer.index, rel, slots, n);
+        let first;
+        (first, self.allocator, mixer.rel) = allocated.accepted()?;
+        Ok(first)
     }
 
     /// Reads a ticket; how many of its readings were repeats.
@@ -61,9 +61,9 @@ impl Plant {
         Ok(tally.accepted()? - tally.fresh)
     }
 
-    fn mint(&mut self, mixer: &mut Mixer, input: &[u32]) -> Result<u32, Refused> {
+    fn mint(&mut self, mixer: &mut Mixer, input: &[FieldVar]) -> Result<(), Refused> {
         let (slots, queries, uses) = (&mut self.slots, &mut mixer.queries, &mut mixer.uses);
-        let answer = sfr::allocate_permutation_on(
+        let minted = sfr::allocate_permutation_on(
             self.allocator,
             mixer.index,
             mixer.rel,
@@ -72,71 +72,65 @@ impl Plant {
             uses,
             input,
         );
-        self.go_on(mixer, answer)
+        (_, self.allocator, mixer.rel) = minted.accepted()?;
+        Ok(())
     }
 
     fn equation(
         &mut self,
         mixer: &mut Mixer,
-        terms: &[(u32, u32)],
+        terms: &[(FieldVar, u32)],
         image: u32,
-    ) -> Result<u32, Refused> {
-        let terms = terms.iter().map(|&(var, weight)| Weighted { var, weight });
+    ) -> Result<(), Refused> {
+        let terms = terms.iter().map(|&(var, weight)| Weighted {
+            var,
+            weight: BabyBearUnit(weight),
+        });
         let (terms, equations): (Vec<_>, _) = (terms.collect(), &mut mixer.equations);
-        let answer = sfr::add_equation_on(
+        let stated = sfr::add_equation_on(
             self.allocator,
             mixer.index,
             mixer.rel,
             equations,
             &terms,
-            image,
+            BabyBearUnit(image),
         );
-        self.go_on(mixer, answer)
+        (self.allocator, mixer.rel) = stated.accepted()?;
+        Ok(())
     }
 
     /// The check's answer on the files of a mixer's batch whose one step has these inputs.
     fn check(&self, mixer: &Mixer, inputs: &[u32]) -> Result<u32, Refused> {
-        let (queries, equations) = (&mut [0; 4], &mut [0; 8]);
-        let (publics, trace, scratch) = (&mut [0; 4], &mut [0; 4], &mut [0; 7]);
+        let (queries, equations) = (&mut [FieldVar::ZERO; 4], &mut [0; 8]);
+        let (publics, scratch) = (&mut [0; 4], &mut [0; 7]);
         let (sfri, sfrw) = (&mut [0; 128], &mut [0; 64]);
-        let width = mixer.rel.width;
+        let (width, params) = (mixer.rel.width, mixer.params);
 
-        let gate = sfr::compile_on(
-            self.allocator,
-            mixer.index,
-            mixer.rel,
-            LABEL,
-            &self.slots,
-            &mixer.queries,
-            &mixer.equations,
-            &mixer.uses,
-            publics,
-            scratch,
-        );
-        let (ins, rec) = (gate.accepted()?, Trace { width, steps: 0 });
-        let rec = sfr::evaluate_step(rec, trace, inputs, 1, mixer.params).accepted()?;
-
-        let (held, stated) = (&mixer.queries, &mixer.equations);
-        let instance = sfr::instance_to_bytes(ins, LABEL, publics, held, stated, sfri);
-        let witness = sfr::witness_to_bytes(rec, trace, sfrw);
-        let (sfri, sfrw) = (&sfri[..instance.accepted()?], &sfrw[..witness.accepted()?]);
+        let held = Held {
+            label: b"order 2",
+            slots: &self.slots,
+            queries: &mixer.queries,
+            equations: &mixer.equations,
+            uses: &mixer.uses,
+        };
+        let (allocator, index) = (self.allocator, mixer.index);
+        let gate = sfr::compile_on(allocator, index, mixer.rel, held, publics, scratch);
+        let sfri_len = sfr::instance_to_bytes(gate.accepted()?, sfri).accepted()?;
+        let (rec, trace) = (Trace { width, steps: 0 }, &mut [BabyBearUnit::ZERO; 4]);
+        let inputs = BabyBearUnit::list(inputs);
+        let rec = sfr::evaluate_step(rec, trace, inputs, params).accepted()?;
+        let sfrw_len = sfr::witness_to_bytes(rec, trace, sfrw).accepted()?;
 
         // From here on only the bytes count.
-        let read = sfr::instance_from_bytes(width, sfri, publics, queries, equations, scratch);
-        let (ins, label) = (read.accepted()?, sfr::label(sfri, &read));
-        let rec = sfr::witness_from_bytes(width, sfrw, trace).accepted()?;
-        Ok(sfr::is_witness_valid(
-            ins,
-            label,
+        let stores = Stores {
             publics,
             queries,
             equations,
-            rec.steps,
-            trace,
-            1,
-            mixer.params,
-            scratch,
-        ))
+        };
+        let (sfri, sfrw) = (&sfri[..sfri_len], &sfrw[..sfrw_len]);
+        let parts = sfr::instance_from_bytes(width, sfri, stores, scratch).accepted()?;
+        let rec = sfr::witness_from_bytes(width, sfrw, trace).accepted()?;
+        Ok(sfr::is_witness_valid(parts, rec.steps, trace, params, scratch).number)
     }
 }
 
@@ -146,8 +140,8 @@ fn main() -> Result<(), Refused> {
     let mut finish = plant.open(2, 4, &[0, 0, 0, 2, 1, 1, 1])?; // x, y become 2x^7 + y^7, x^7 + y^7
     let hopper = plant.allocate(&mut premix, 1)?;
     let hand = plant.allocate(&mut finish, 2)?;
-    let sack = hand + 1;
-    let ticket = format!("{sack:>10} {:>12}\n", 50); // 50 g are 1 step
+    let sack = hand.nth(1);
+    let ticket = format!("{:>10} {:>12}\n", sack.0, 50); // 50 g are 1 step
     let repeated = plant.tickets(&finish, &ticket)?;
     println!("ticket, read by finish: {repeated} repeated");
     let repeated = plant.tickets(&premix, &ticket)?; // the other has set the wire
@@ -172,8 +166,9 @@ fn main() -> Result<(), Refused> {
     ); // no
 
     // With the recipe at hand, the two readings behind a digest.
-    let (digest, readings) = ([2443, 2315], &mut [0; 2]);
-    sfr::accepted(sfr::permute_inverse(2, 1, finish.params, &digest, readings))?;
-    println!("behind {digest:?}: {readings:?}"); // by hand 2, hopper 3
+    let (digest, readings) = ([2443, 2315], &mut [BabyBearUnit::ZERO; 2]);
+    let output = BabyBearUnit::list(&digest);
+    sfr::permute_inverse(2, finish.params, output, readings).accepted()?;
+    println!("behind {digest:?}: {:?}", BabyBearUnit::words(readings)); // by hand 2, hopper 3
     Ok(())
 }

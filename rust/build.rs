@@ -7,7 +7,13 @@ use std::{env, fs, path::PathBuf};
 fn main() {
     println!("cargo:rerun-if-env-changed=SFR_LIB");
     println!("cargo:rerun-if-changed=build.rs");
-    let here = PathBuf::from(env::var("CARGO_MANIFEST_DIR").expect("cargo names the crate"));
+    let set = |name| env::var(name).unwrap_or_else(|_| panic!("cargo sets {name}"));
+    let target = set("TARGET");
+    assert!(
+        target.starts_with("x86_64-") && target.contains("linux"),
+        "the proved archive is x86-64 code for Linux, and not for {target}"
+    );
+    let here = PathBuf::from(set("CARGO_MANIFEST_DIR"));
     let archive = env::var_os("SFR_LIB")
         .map_or_else(|| here.join("../target/staticlib/libsfr.a"), PathBuf::from);
     let archive = fs::canonicalize(&archive).unwrap_or_else(|error| {
@@ -24,4 +30,6 @@ fn main() {
         "cargo:rustc-link-lib=static:+verbatim={}",
         name.expect("the archive's name is text")
     );
+    // For the build scripts of crates that use this one: DEP_SFR_ARCHIVE.
+    println!("cargo:archive={}", archive.display());
 }

@@ -1,18 +1,18 @@
 //! Units, UTF-8, and words in bytes. In each call, a pointer and the length after it are those of
 //! one slice.
 
-use crate::{sys, Place, Utf8Scan, Word};
+use crate::{sys, BabyBearUnit, FieldVar, Place, Utf8Scan, Word};
 
-/// The sum of two units modulo p. No questions: a word of p or more counts as what it leaves
-/// modulo p.
+/// The sum of two units modulo p. No questions: of a word of p or more the remainder modulo p is
+/// taken.
 #[must_use]
-pub fn add_unit(a: u32, b: u32) -> u32 {
+pub fn add_unit(a: BabyBearUnit, b: BabyBearUnit) -> BabyBearUnit {
     sys::sfr_add_unit(a, b)
 }
 
 /// The product of two units modulo p. No questions, as for [`add_unit`].
 #[must_use]
-pub fn mul_unit(a: u32, b: u32) -> u32 {
+pub fn mul_unit(a: BabyBearUnit, b: BabyBearUnit) -> BabyBearUnit {
     sys::sfr_mul_unit(a, b)
 }
 
@@ -63,7 +63,13 @@ pub fn put_u32(out: &mut [u8], at: usize, value: u32) -> Place {
 /// Reads an item of n units from byte `at` on and puts it at `out[place..place + n]`.
 ///
 /// Per word questions 20, 4; after all n words 10. A refusal leaves `out` as it was.
-pub fn read_units(bytes: &[u8], at: usize, out: &mut [u32], place: usize, n: u32) -> Place {
+pub fn read_units(
+    bytes: &[u8],
+    at: usize,
+    out: &mut [BabyBearUnit],
+    place: usize,
+    n: u32,
+) -> Place {
     let (words, len) = (out.as_mut_ptr(), out.len());
     // SAFETY: see the head of this file.
     unsafe { sys::sfr_read_units(bytes.as_ptr(), bytes.len(), at, words, len, place, n) }
@@ -72,7 +78,7 @@ pub fn read_units(bytes: &[u8], at: usize, out: &mut [u32], place: usize, n: u32
 /// Reads an item of n wires from byte `at` on and puts it at `out[place..place + n]`.
 ///
 /// Per word questions 20, 3; after all n words 10. A refusal leaves `out` as it was.
-pub fn read_vars(bytes: &[u8], at: usize, out: &mut [u32], place: usize, n: u32) -> Place {
+pub fn read_vars(bytes: &[u8], at: usize, out: &mut [FieldVar], place: usize, n: u32) -> Place {
     let (words, len) = (out.as_mut_ptr(), out.len());
     // SAFETY: see the head of this file.
     unsafe { sys::sfr_read_vars(bytes.as_ptr(), bytes.len(), at, words, len, place, n) }

@@ -2,24 +2,23 @@
 //!
 //! Every function answers on every input: it rests on nothing that its caller promises, and
 //! never panics. A call puts questions in a fixed order; its number is that of the first one
-//! that says no, 0 for yes, and [`Refused::question`] has their words. `accepted()` on an
-//! answer, or [`accepted`] on a bare number, makes a `Result` of it.
+//! that says no, 0 for yes. `accepted()` on an answer makes a `Result` of it, whose error
+//! [`Refused`] has the number and says what it means.
 //!
 //! What a call is lent it only reads, but for `&mut` slices; each function's comment says how
 //! long these must be for a yes. Unless it says otherwise, a refusal leaves everything lent as
 //! it was, and a yes changes nothing past what it writes. Scratch may hold anything before a
 //! call, and is all 0 after it.
 //!
-//! Document 01's letters: w is the width, R the rounds of a sheet, p is [`PRIME`] and F
-//! [`UNASSIGNED`]. A *wire* is a u32 below 2^30, a *unit* one below p. The stores, all of u32:
+//! w is the width, R the rounds of a permutation, p is [`PRIME`] and F [`UNASSIGNED`]. A *wire*
+//! ([`FieldVar`]) is a number below 2^30, a *unit* ([`BabyBearUnit`]) one below p. The stores:
 //!
-//! - *slots*: a unit or F per wire;
-//! - *queries*: 2w wires each, inputs then outputs;
-//! - *uses*: per slot, how many cells of the relation's queries name its wire;
-//! - *equations*: each a term count, then wire and weight per term, then the image;
-//! - *publics*: wire and unit pairs;
-//! - *trace*: 2w units per step, inputs then outputs;
-//! - a *sheet*: per round a kind and w constants, then w·w matrix units row by row.
+//! - *slots*, of words: a unit or F per wire;
+//! - *queries*, of wires: 2w each, inputs then outputs;
+//! - *uses*, of words: per slot, how many cells of the relation's queries name its wire;
+//! - *equations*, of words: each a term count, then wire and weight per term, then the image;
+//! - *publics*, of words: wire and unit pairs;
+//! - *trace*, of units: 2w per step, inputs then outputs.
 //!
 //! A use store is one relation's own, and exactly as long as the slots. [`new_relation`], or the
 //! relation's opening, fills it with 0; from then on it is handed from call to call as the queries
@@ -27,32 +26,52 @@
 //! any other is *stray*, and is counted in the relation's record.
 //!
 //! ```
+//! use sfr::{BabyBearUnit, FieldVar};
 //! let (mut slots, mut uses) = ([0; 8], [0; 8]);
 //! let rel = sfr::new_relation(1, &mut slots, &mut uses).accepted()?; // wire 0, that carries 0
-//! assert_eq!(sfr::set_var(rel, &mut slots, 0, 0).accepted()?, sfr::Set::Repeated);
-//! let refused = sfr::set_var(rel, &mut slots, 0, 5).accepted().unwrap_err();
-//! assert_eq!(refused.to_string(), "8: is its slot F or that value?");
+//! let mut set = |value| sfr::set_var(rel, &mut slots, FieldVar::ZERO, value).accepted();
+//! assert_eq!(set(BabyBearUnit::ZERO)?, sfr::Set::Repeated);
+//! let refused = set(BabyBearUnit(5)).unwrap_err();
+//! assert_eq!(refused.to_string(), "8: the wire already has another value");
 //! # Ok::<(), sfr::Refused>(())
 //! ```
+//!
+//! # The archive
+//!
+//! What runs is `libsfr.a`, which `rt staticlib sfr` makes, at the root of the repository, of the
+//! functions that it has proved, and puts at `target/staticlib/libsfr.a`: there the build script looks
+//! for it. `SFR_LIB` names another, such as the one that `./install PREFIX` puts at
+//! `PREFIX/lib/libsfr.a`. It is x86-64 code for Linux. The proofs are of those functions. Not proved
+//! are the compiler that made the archive of them, and this crate, which hands slices on as pointers
+//! and lengths.
+//!
+//! The crate is `no_std` and needs no heap.
+#![no_std]
 #![deny(missing_docs)]
 #![deny(unsafe_op_in_unsafe_fn)]
 
 mod instance;
 mod leaves;
+mod numbers;
 mod records;
 mod refused;
 mod relation;
 mod shared;
 mod sys;
 mod trace;
+mod types;
+mod unsound;
 
 pub use instance::*;
 pub use leaves::*;
+pub use numbers::Part;
 pub use records::*;
 pub use refused::*;
 pub use relation::*;
 pub use shared::*;
 pub use trace::*;
+pub use types::*;
+pub use unsound::*;
 
 /// p, the field's size: a unit is below it.
 pub const PRIME: u32 = 2_013_265_921;
@@ -65,6 +84,9 @@ pub const MAX_COUNT: u32 = 1 << 30;
 
 /// The widths are 1 to this.
 pub const MAX_WIDTH: u32 = 24;
+
+/// A permutation has at most so many rounds.
+pub const MAX_ROUNDS: u32 = 128;
 
 /// So many relations may be opened on one allocator.
 pub const MAX_RELATIONS: u32 = 8;

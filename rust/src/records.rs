@@ -2,7 +2,16 @@
 //!
 //! Every field is open, and any numbers may be put into a record: what doesn't fit is refused.
 
-use crate::{accepted, Refused};
+use crate::{BabyBearUnit, FieldVar, Parts, Refused};
+
+/// The answer of a call that has nothing to give but its number.
+#[repr(transparent)]
+#[derive(Clone, Copy, Debug, PartialEq, Eq)]
+#[must_use]
+pub struct Outcome {
+    /// 0, or the first question that said no.
+    pub number: u32,
+}
 
 /// The answer of a word read.
 #[repr(C)]
@@ -50,7 +59,7 @@ pub struct Relation {
     /// w.
     pub width: u32,
     /// How many wires are allocated.
-    pub vars_count: u32,
+    pub vars: u32,
     /// How many queries are recorded.
     pub queries: u32,
     /// How many equations are stated.
@@ -61,28 +70,32 @@ pub struct Relation {
     pub stray: u32,
 }
 
-/// The answer of a call that returns a relation's record.
+/// The answer of a call that returns a relation's record and nothing else.
 #[repr(C)]
 #[derive(Clone, Copy, Debug, PartialEq, Eq)]
 #[must_use]
-pub struct RelationAnswer {
+pub struct Recorded {
     /// 0, or the first question that said no.
     pub number: u32,
-    /// The first wire that an allocation or a mint answers; 0 elsewhere and after a refusal.
-    pub first: u32,
+    /// 0: an allocation's answer has its first wire here.
+    first: u32,
     /// The record to go on with. A refused call gives back the one it was given, a refused
     /// [`new_relation`](crate::new_relation) one of zeros.
     pub relation: Relation,
 }
 
-/// A wire and its weight, one term of an equation.
+/// The answer of an allocation or a mint.
 #[repr(C)]
-#[derive(Clone, Copy, Debug, Default, PartialEq, Eq)]
-pub struct Weighted {
-    /// The wire.
-    pub var: u32,
-    /// The weight, a unit.
-    pub weight: u32,
+#[derive(Clone, Copy, Debug, PartialEq, Eq)]
+#[must_use]
+pub struct Allocated {
+    /// 0, or the first question that said no.
+    pub number: u32,
+    /// The first of the new wires, whose index is the wire count before the call: of no wires at
+    /// 2^30 it is no wire. 0 after a refusal.
+    pub first: FieldVar,
+    /// The record to go on with; after a refusal the one given.
+    pub relation: Relation,
 }
 
 /// The answer of a set.
@@ -143,7 +156,7 @@ pub struct Value {
     /// Whether there is one; false after a refusal.
     pub some: bool,
     /// The value; 0 where there is none.
-    pub value: u32,
+    pub value: BabyBearUnit,
 }
 
 /// The answer to a question of yes or no.
@@ -163,7 +176,7 @@ pub struct Flag {
 #[derive(Clone, Copy, Debug, Default, PartialEq, Eq)]
 pub struct VarAllocator {
     /// How many wires are allocated; anything where nothing is opened.
-    pub vars_count: u32,
+    pub vars: u32,
     /// How many relations are opened.
     pub opened: u32,
 }
@@ -188,20 +201,49 @@ pub struct SharedRelation {
     pub obtained: u32,
 }
 
-/// The answer of a call that returns the records of a relation on a shared allocator.
+/// The answer of an opening.
 #[repr(C)]
 #[derive(Clone, Copy, Debug, PartialEq, Eq)]
 #[must_use]
-pub struct SharedAnswer {
+pub struct Opened {
     /// 0, or the first question that said no.
     pub number: u32,
-    /// The number of the relation that is opened, or the first wire that an allocation or a mint
-    /// answers; 0 elsewhere and after a refusal.
-    pub first: u32,
+    /// The number of the relation that is opened; 0 after a refusal.
+    pub index: u32,
     /// The allocator to go on with; after a refusal the one given.
     pub allocator: VarAllocator,
-    /// The record to go on with. A refused call gives back the one it was given, a refused
-    /// [`with_allocator`](crate::with_allocator) one of zeros.
+    /// The relation's record; zeros after a refusal.
+    pub relation: SharedRelation,
+}
+
+/// The answer of an allocation or a mint on a shared allocator.
+#[repr(C)]
+#[derive(Clone, Copy, Debug, PartialEq, Eq)]
+#[must_use]
+pub struct AllocatedOn {
+    /// 0, or the first question that said no.
+    pub number: u32,
+    /// The first of the new wires, as in [`Allocated`].
+    pub first: FieldVar,
+    /// The allocator to go on with; after a refusal the one given.
+    pub allocator: VarAllocator,
+    /// The record to go on with; after a refusal the one given.
+    pub relation: SharedRelation,
+}
+
+/// The answer of a call that returns the records of a relation on a shared allocator and nothing
+/// else.
+#[repr(C)]
+#[derive(Clone, Copy, Debug, PartialEq, Eq)]
+#[must_use]
+pub struct RecordedOn {
+    /// 0, or the first question that said no.
+    pub number: u32,
+    /// 0: an allocation's answer has its first wire here.
+    first: u32,
+    /// The allocator to go on with; after a refusal the one given.
+    pub allocator: VarAllocator,
+    /// The record to go on with; after a refusal the one given.
     pub relation: SharedRelation,
 }
 
@@ -245,7 +287,7 @@ pub struct Instance {
     /// w.
     pub width: u32,
     /// How many wires there are.
-    pub vars_count: u32,
+    pub vars: u32,
     /// How many queries are held.
     pub queries: u32,
     /// How many equations are held.
@@ -257,37 +299,46 @@ pub struct Instance {
 }
 
 /// The answer of the gate.
-#[repr(C)]
 #[derive(Clone, Copy, Debug, PartialEq, Eq)]
 #[must_use]
-pub struct InstanceAnswer {
+pub struct Compiled<'a> {
     /// 0, or the first question that said no.
     pub number: u32,
-    /// The instance; zeros after a refusal.
+    /// The instance with its parts, as they lie in what was lent; a record of zeros after a refusal.
+    pub parts: Parts<'a>,
+}
+
+/// The answer of an SFRI read.
+#[derive(Clone, Copy, Debug, PartialEq, Eq)]
+#[must_use]
+pub struct InstanceRead<'a> {
+    /// 0, or the first question that said no.
+    pub number: u32,
+    /// The instance with its parts, as they lie in the stores; the label is the very part of the
+    /// bytes that holds it. A record of zeros and no label after a refusal.
+    pub parts: Parts<'a>,
+}
+
+/// The gate's answer as C has it.
+#[repr(C)]
+pub(crate) struct InstanceAnswer {
+    pub number: u32,
     pub instance: Instance,
+}
+
+/// An SFRI read's answer as C has it.
+#[repr(C)]
+pub(crate) struct ReadAnswer {
+    pub number: u32,
+    pub instance: Instance,
+    pub label: Span,
 }
 
 /// Where a part of lent bytes lies.
 #[repr(C)]
-#[derive(Clone, Copy, Debug, PartialEq, Eq)]
-pub struct Span {
-    /// Its first byte.
+pub(crate) struct Span {
     pub at: usize,
-    /// How many bytes it has.
     pub len: usize,
-}
-
-/// The answer of an SFRI read. [`label`](crate::label) gives the label.
-#[repr(C)]
-#[derive(Clone, Copy, Debug, PartialEq, Eq)]
-#[must_use]
-pub struct InstanceRead {
-    /// 0, or the first question that said no.
-    pub number: u32,
-    /// The instance; zeros after a refusal.
-    pub instance: Instance,
-    /// Where the label lies in the bytes read; zeros after a refusal.
-    pub label: Span,
 }
 
 /// Which of its two parts a heading is, for [`heading`](crate::heading) alone.
@@ -297,107 +348,53 @@ pub(crate) struct Heading {
     pub len: usize,
 }
 
-impl Word {
-    /// The word and the place after it.
-    pub fn accepted(self) -> Result<(u32, usize), Refused> {
-        accepted(self.number).map(|()| (self.value, self.next))
-    }
+/// What an answer gives where no question said no.
+macro_rules! accepted {
+    ($($answer:ty, $self:ident => $given:expr, $type:ty, $what:literal;)*) => {$(
+        impl $answer {
+            #[doc = $what]
+            #[inline]
+            pub fn accepted(self) -> Result<$type, Refused> {
+                let $self = self;
+                Refused::unless_0($self.number).map(|()| $given)
+            }
+        }
+    )*};
 }
 
-impl Place {
-    /// The place after what was read or written.
-    pub fn accepted(self) -> Result<usize, Refused> {
-        accepted(self.number).map(|()| self.next)
-    }
+accepted! {
+    Outcome, _it => (), (), "Nothing more: it was accepted.";
+    Word, it => (it.value, it.next), (u32, usize), "The word and the place after it.";
+    Place, it => it.next, usize, "The place after what was read or written.";
+    Recorded, it => it.relation, Relation, "The record to go on with.";
+    Allocated, it => (it.first, it.relation), (FieldVar, Relation),
+        "The first of the new wires, and the record to go on with.";
+    Opened, it => (it.index, it.allocator, it.relation), (u32, VarAllocator, SharedRelation),
+        "The number of the relation that is opened, and the records to go on with.";
+    AllocatedOn, it => (it.first, it.allocator, it.relation), (FieldVar, VarAllocator, SharedRelation),
+        "The first of the new wires, and the records to go on with.";
+    RecordedOn, it => (it.allocator, it.relation), (VarAllocator, SharedRelation),
+        "The records to go on with.";
+    SetAnswer, it => if it.fresh { Set::Fresh } else { Set::Repeated }, Set, "Fresh or repeated.";
+    Tally, it => it.accepted, u32, "How many pairs were set, where all were.";
+    TicketTally, it => it.accepted, usize, "How many lines were set, where all were.";
+    Value, it => it.some.then_some(it.value), Option<BabyBearUnit>, "The value, where there is one.";
+    Flag, it => it.yes, bool, "Yes or no.";
+    TraceAnswer, it => it.trace, Trace, "The record to go on with.";
+    Written, it => it.len, usize, "How many bytes were written.";
 }
 
-impl RelationAnswer {
-    /// The record to go on with.
-    pub fn accepted(self) -> Result<Relation, Refused> {
-        accepted(self.number).map(|()| self.relation)
-    }
-
-    /// The first wire allocated or minted, and the record to go on with.
-    pub fn allocated(self) -> Result<(u32, Relation), Refused> {
-        accepted(self.number).map(|()| (self.first, self.relation))
-    }
+/// The same of answers that hold what was lent.
+macro_rules! accepted_parts {
+    ($($answer:ident)*) => {$(
+        impl<'a> $answer<'a> {
+            /// The instance with its parts.
+            #[inline]
+            pub fn accepted(self) -> Result<Parts<'a>, Refused> {
+                Refused::unless_0(self.number).map(|()| self.parts)
+            }
+        }
+    )*};
 }
 
-impl SharedAnswer {
-    /// The records to go on with.
-    pub fn accepted(self) -> Result<(VarAllocator, SharedRelation), Refused> {
-        accepted(self.number).map(|()| (self.allocator, self.relation))
-    }
-
-    /// The number of the relation that is opened or the first wire allocated or minted, and the
-    /// records to go on with.
-    pub fn first(self) -> Result<(u32, VarAllocator, SharedRelation), Refused> {
-        accepted(self.number).map(|()| (self.first, self.allocator, self.relation))
-    }
-}
-
-impl SetAnswer {
-    /// Fresh or repeated.
-    pub fn accepted(self) -> Result<Set, Refused> {
-        accepted(self.number).map(|()| match self.fresh {
-            true => Set::Fresh,
-            false => Set::Repeated,
-        })
-    }
-}
-
-impl Tally {
-    /// How many pairs were set, where all were.
-    pub fn accepted(self) -> Result<u32, Refused> {
-        accepted(self.number).map(|()| self.accepted)
-    }
-}
-
-impl TicketTally {
-    /// How many lines were set, where all were.
-    pub fn accepted(self) -> Result<usize, Refused> {
-        accepted(self.number).map(|()| self.accepted)
-    }
-}
-
-impl Value {
-    /// The value, where there is one.
-    pub fn accepted(self) -> Result<Option<u32>, Refused> {
-        accepted(self.number).map(|()| self.some.then_some(self.value))
-    }
-}
-
-impl Flag {
-    /// Yes or no.
-    pub fn accepted(self) -> Result<bool, Refused> {
-        accepted(self.number).map(|()| self.yes)
-    }
-}
-
-impl TraceAnswer {
-    /// The record to go on with.
-    pub fn accepted(self) -> Result<Trace, Refused> {
-        accepted(self.number).map(|()| self.trace)
-    }
-}
-
-impl Written {
-    /// How many bytes were written.
-    pub fn accepted(self) -> Result<usize, Refused> {
-        accepted(self.number).map(|()| self.len)
-    }
-}
-
-impl InstanceAnswer {
-    /// The instance.
-    pub fn accepted(self) -> Result<Instance, Refused> {
-        accepted(self.number).map(|()| self.instance)
-    }
-}
-
-impl InstanceRead {
-    /// The instance.
-    pub fn accepted(self) -> Result<Instance, Refused> {
-        accepted(self.number).map(|()| self.instance)
-    }
-}
+accepted_parts! { Compiled InstanceRead }

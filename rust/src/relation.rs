@@ -1,13 +1,16 @@
 //! Calls on a relation. In each, a pointer and the length after it are those of one slice.
 
-use crate::{sys, Flag, Relation, RelationAnswer, SetAnswer, Tally, TicketTally, Value, Weighted};
+use crate::{
+    sys, Allocated, BabyBearUnit, FieldVar, Flag, Outcome, Recorded, Relation, SetAnswer, Tally,
+    TicketTally, Value, Weighted,
+};
 
 /// Fresh: a relation of that width with wire 0 alone, whose slot becomes 0, and no queries: its
 /// use counts become 0.
 ///
 /// Questions 1, 2, 6, 10. Lent: slots, at least one word; uses, exactly a word per slot. A refusal
 /// leaves both as they were.
-pub fn new_relation(width: u32, slots: &mut [u32], uses: &mut [u32]) -> RelationAnswer {
+pub fn new_relation(width: u32, slots: &mut [u32], uses: &mut [u32]) -> Recorded {
     let (words, len) = (slots.as_mut_ptr(), slots.len());
     // SAFETY: see the head of this file.
     unsafe { sys::sfr_new_relation(width, words, len, uses.as_mut_ptr(), uses.len()) }
@@ -18,7 +21,7 @@ pub fn new_relation(width: u32, slots: &mut [u32], uses: &mut [u32]) -> Relation
 ///
 /// Questions 1, 2, 5, 6. Lent: slots, a word per wire with the new ones. A refusal leaves them
 /// and the record as they were.
-pub fn allocate_vars(rel: Relation, slots: &mut [u32], n: u32) -> RelationAnswer {
+pub fn allocate_vars(rel: Relation, slots: &mut [u32], n: u32) -> Allocated {
     // SAFETY: see the head of this file.
     unsafe { sys::sfr_allocate_vars(rel, slots.as_mut_ptr(), slots.len(), n) }
 }
@@ -26,7 +29,7 @@ pub fn allocate_vars(rel: Relation, slots: &mut [u32], n: u32) -> RelationAnswer
 /// Sets a wire to a value; the same value again is accepted, as repeated.
 ///
 /// Questions 1, 2, 3, 4, 7, 8. Lent: slots, a word per wire. A refusal leaves them as they were.
-pub fn set_var(rel: Relation, slots: &mut [u32], var: u32, value: u32) -> SetAnswer {
+pub fn set_var(rel: Relation, slots: &mut [u32], var: FieldVar, value: BabyBearUnit) -> SetAnswer {
     // SAFETY: see the head of this file.
     unsafe { sys::sfr_set_var(rel, slots.as_mut_ptr(), slots.len(), var, value) }
 }
@@ -35,7 +38,12 @@ pub fn set_var(rel: Relation, slots: &mut [u32], var: u32, value: u32) -> SetAns
 ///
 /// Questions 1, 2; then 3, 4, 7, 8 pair by pair; after the common pairs 9. Lent: slots, a word
 /// per wire. A refusal leaves the accepted pairs set, and else everything as it was.
-pub fn set_vars(rel: Relation, slots: &mut [u32], vars: &[u32], values: &[u32]) -> Tally {
+pub fn set_vars(
+    rel: Relation,
+    slots: &mut [u32],
+    vars: &[FieldVar],
+    values: &[BabyBearUnit],
+) -> Tally {
     // SAFETY: see the head of this file.
     unsafe {
         sys::sfr_set_vars(
@@ -72,11 +80,11 @@ pub fn set_tickets(rel: Relation, slots: &mut [u32], text: &[u8]) -> TicketTally
 pub fn add_permutation(
     rel: Relation,
     slots: &[u32],
-    queries: &mut [u32],
+    queries: &mut [FieldVar],
     uses: &mut [u32],
-    input: &[u32],
-    output: &[u32],
-) -> RelationAnswer {
+    input: &[FieldVar],
+    output: &[FieldVar],
+) -> Recorded {
     // SAFETY: see the head of this file.
     unsafe {
         sys::sfr_add_permutation(
@@ -104,10 +112,10 @@ pub fn add_permutation(
 pub fn allocate_permutation(
     rel: Relation,
     slots: &mut [u32],
-    queries: &mut [u32],
+    queries: &mut [FieldVar],
     uses: &mut [u32],
-    input: &[u32],
-) -> RelationAnswer {
+    input: &[FieldVar],
+) -> Allocated {
     // SAFETY: see the head of this file.
     unsafe {
         sys::sfr_allocate_permutation(
@@ -132,13 +140,16 @@ pub fn allocate_permutation(
 /// they were.
 ///
 /// ```
-/// let (slots, queries, uses) = (&mut [0; 4], &mut [0; 4], &mut [0; 4]);
+/// use sfr::FieldVar;
+/// let (slots, queries, uses) = (&mut [0; 4], &mut [FieldVar::ZERO; 4], &mut [0; 4]);
 /// let rel = sfr::new_relation(1, slots, uses).accepted()?;
-/// let rel = sfr::allocate_permutation(rel, slots, queries, uses, &[0]).accepted()?;
-/// let rel = sfr::add_permutation(rel, slots, queries, uses, &[1], &[7]).accepted()?;
-/// assert_eq!((*queries, *uses, rel.stray), ([0, 1, 1, 7], [1, 2, 0, 0], 1)); // 7 has no slot
+/// let (one, rel) = sfr::allocate_permutation(rel, slots, queries, uses, &[FieldVar::ZERO]).accepted()?;
+/// let rel = sfr::add_permutation(rel, slots, queries, uses, &[one], &[FieldVar(7)]).accepted()?;
+/// assert_eq!(queries.map(|var| var.0), [0, 1, 1, 7]);
+/// assert_eq!((*uses, rel.stray), ([1, 2, 0, 0], 1)); // 7 has no slot
 /// let rel = sfr::withdraw_query(rel, slots, queries, uses, 0).accepted()?;
-/// assert_eq!((*queries, *uses, rel.stray), ([1, 7, 0, 0], [0, 1, 0, 0], 1));
+/// assert_eq!(queries.map(|var| var.0), [1, 7, 0, 0]);
+/// assert_eq!((*uses, rel.stray), ([0, 1, 0, 0], 1));
 /// let refused = sfr::withdraw_query(rel, slots, queries, uses, 1).accepted().unwrap_err();
 /// assert_eq!(refused.number(), 45); // one query is left, and its number is 0
 /// # Ok::<(), sfr::Refused>(())
@@ -146,10 +157,10 @@ pub fn allocate_permutation(
 pub fn withdraw_query(
     rel: Relation,
     slots: &[u32],
-    queries: &mut [u32],
+    queries: &mut [FieldVar],
     uses: &mut [u32],
     i: u32,
-) -> RelationAnswer {
+) -> Recorded {
     // SAFETY: see the head of this file.
     unsafe {
         sys::sfr_withdraw_query(
@@ -174,8 +185,8 @@ pub fn add_equation(
     rel: Relation,
     equations: &mut [u32],
     terms: &[Weighted],
-    image: u32,
-) -> RelationAnswer {
+    image: BabyBearUnit,
+) -> Recorded {
     // SAFETY: see the head of this file.
     unsafe {
         sys::sfr_add_equation(
@@ -194,7 +205,7 @@ pub fn add_equation(
 ///
 /// Questions 1, 2, 45, 11 of the equations' end. Lent: equations, the used words. A refusal leaves
 /// them and the record as they were.
-pub fn withdraw_equation(rel: Relation, equations: &mut [u32], i: u32) -> RelationAnswer {
+pub fn withdraw_equation(rel: Relation, equations: &mut [u32], i: u32) -> Recorded {
     // SAFETY: see the head of this file.
     unsafe { sys::sfr_withdraw_equation(rel, equations.as_mut_ptr(), equations.len(), i) }
 }
@@ -203,8 +214,7 @@ pub fn withdraw_equation(rel: Relation, equations: &mut [u32], i: u32) -> Relati
 ///
 /// Questions 3 over all wires, 4 over all weights and the factor. A refusal leaves the list as it
 /// was.
-#[must_use = "a refusal is in the number"]
-pub fn scale(terms: &mut [Weighted], factor: u32) -> u32 {
+pub fn scale(terms: &mut [Weighted], factor: BabyBearUnit) -> Outcome {
     // SAFETY: see the head of this file.
     unsafe { sys::sfr_scale(terms.as_mut_ptr(), terms.len(), factor) }
 }
@@ -212,7 +222,7 @@ pub fn scale(terms: &mut [Weighted], factor: u32) -> u32 {
 /// The value of a wire: its slot, none where that is F or the wire isn't allocated.
 ///
 /// Questions 1, 2, 3. Lent: slots, a word per wire.
-pub fn value_of(rel: Relation, slots: &[u32], var: u32) -> Value {
+pub fn value_of(rel: Relation, slots: &[u32], var: FieldVar) -> Value {
     // SAFETY: see the head of this file.
     unsafe { sys::sfr_value_of(rel, slots.as_ptr(), slots.len(), var) }
 }
@@ -220,6 +230,6 @@ pub fn value_of(rel: Relation, slots: &[u32], var: u32) -> Value {
 /// Is the wire allocated?
 ///
 /// Questions 1, 2 of the wire count, 3.
-pub fn is_allocated(rel: Relation, var: u32) -> Flag {
+pub fn is_allocated(rel: Relation, var: FieldVar) -> Flag {
     sys::sfr_is_allocated(rel, var)
 }

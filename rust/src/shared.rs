@@ -9,8 +9,8 @@
 //! count.
 
 use crate::{
-    sys, Flag, InstanceAnswer, SetAnswer, SharedAnswer, SharedRelation, Tally, TicketTally, Value,
-    VarAllocator, Weighted,
+    instance::compiled, sys, AllocatedOn, BabyBearUnit, Compiled, FieldVar, Flag, Held, Opened,
+    RecordedOn, SetAnswer, SharedRelation, Tally, TicketTally, Value, VarAllocator, Weighted,
 };
 
 /// Opens a relation of that width and quota, and answers its number: how many were opened before.
@@ -24,14 +24,15 @@ use crate::{
 /// ```
 /// let (mut slots, mut uses) = ([0; 8], [[0; 8]; 2]);
 /// let none = sfr::VarAllocator::default();
-/// let (premix, plant, one) = sfr::with_allocator(none, 1, 2, &mut slots, &mut uses[0]).first()?;
-/// let (salt, plant, two) = sfr::with_allocator(plant, 3, 5, &mut slots, &mut uses[1]).first()?;
+/// let (premix, plant, one) = sfr::with_allocator(none, 1, 2, &mut slots, &mut uses[0]).accepted()?;
+/// let (salt, plant, two) = sfr::with_allocator(plant, 3, 5, &mut slots, &mut uses[1]).accepted()?;
 /// assert_eq!((premix, salt), (0, 1));
-/// let (first, plant, one) = sfr::allocate_vars_on(plant, premix, one, &mut slots, 2).first()?;
-/// assert_eq!(first, 1);
-/// let set = sfr::set_var_on(plant, salt, two, &mut slots, first, 7).accepted()?; // anybody's wire
+/// let (var, plant, one) = sfr::allocate_vars_on(plant, premix, one, &mut slots, 2).accepted()?;
+/// assert_eq!(var, sfr::FieldVar(1));
+/// let seven = sfr::BabyBearUnit(7);
+/// let set = sfr::set_var_on(plant, salt, two, &mut slots, var, seven).accepted()?; // anybody's wire
 /// assert_eq!(set, sfr::Set::Fresh);
-/// let set = sfr::set_var_on(plant, premix, one, &mut slots, first, 7).accepted()?; // its own
+/// let set = sfr::set_var_on(plant, premix, one, &mut slots, var, seven).accepted()?; // its own
 /// assert_eq!(set, sfr::Set::Repeated);
 /// let refused = sfr::allocate_vars_on(plant, premix, one, &mut slots, 1).accepted().unwrap_err();
 /// assert_eq!(refused.number(), 43); // one has obtained its two wires
@@ -43,7 +44,7 @@ pub fn with_allocator(
     quota: u32,
     slots: &mut [u32],
     uses: &mut [u32],
-) -> SharedAnswer {
+) -> Opened {
     // SAFETY: see the head of this file.
     unsafe {
         sys::sfr_with_allocator(
@@ -69,7 +70,7 @@ pub fn allocate_vars_on(
     rel: SharedRelation,
     slots: &mut [u32],
     n: u32,
-) -> SharedAnswer {
+) -> AllocatedOn {
     let (words, len) = (slots.as_mut_ptr(), slots.len());
     // SAFETY: see the head of this file.
     unsafe { sys::sfr_allocate_vars_on(allocator, index, rel, words, len, n) }
@@ -85,8 +86,8 @@ pub fn set_var_on(
     index: u32,
     rel: SharedRelation,
     slots: &mut [u32],
-    var: u32,
-    value: u32,
+    var: FieldVar,
+    value: BabyBearUnit,
 ) -> SetAnswer {
     let (words, len) = (slots.as_mut_ptr(), slots.len());
     // SAFETY: see the head of this file.
@@ -102,8 +103,8 @@ pub fn set_vars_on(
     index: u32,
     rel: SharedRelation,
     slots: &mut [u32],
-    vars: &[u32],
-    values: &[u32],
+    vars: &[FieldVar],
+    values: &[BabyBearUnit],
 ) -> Tally {
     // SAFETY: see the head of this file.
     unsafe {
@@ -158,11 +159,11 @@ pub fn add_permutation_on(
     index: u32,
     rel: SharedRelation,
     slots: &[u32],
-    queries: &mut [u32],
+    queries: &mut [FieldVar],
     uses: &mut [u32],
-    input: &[u32],
-    output: &[u32],
-) -> SharedAnswer {
+    input: &[FieldVar],
+    output: &[FieldVar],
+) -> RecordedOn {
     // SAFETY: see the head of this file.
     unsafe {
         sys::sfr_add_permutation_on(
@@ -194,10 +195,10 @@ pub fn allocate_permutation_on(
     index: u32,
     rel: SharedRelation,
     slots: &mut [u32],
-    queries: &mut [u32],
+    queries: &mut [FieldVar],
     uses: &mut [u32],
-    input: &[u32],
-) -> SharedAnswer {
+    input: &[FieldVar],
+) -> AllocatedOn {
     // SAFETY: see the head of this file.
     unsafe {
         sys::sfr_allocate_permutation_on(
@@ -228,10 +229,10 @@ pub fn withdraw_query_on(
     index: u32,
     rel: SharedRelation,
     slots: &[u32],
-    queries: &mut [u32],
+    queries: &mut [FieldVar],
     uses: &mut [u32],
     i: u32,
-) -> SharedAnswer {
+) -> RecordedOn {
     // SAFETY: see the head of this file.
     unsafe {
         sys::sfr_withdraw_query_on(
@@ -261,8 +262,8 @@ pub fn add_equation_on(
     rel: SharedRelation,
     equations: &mut [u32],
     terms: &[Weighted],
-    image: u32,
-) -> SharedAnswer {
+    image: BabyBearUnit,
+) -> RecordedOn {
     // SAFETY: see the head of this file.
     unsafe {
         sys::sfr_add_equation_on(
@@ -289,7 +290,7 @@ pub fn withdraw_equation_on(
     rel: SharedRelation,
     equations: &mut [u32],
     i: u32,
-) -> SharedAnswer {
+) -> RecordedOn {
     let (words, len) = (equations.as_mut_ptr(), equations.len());
     // SAFETY: see the head of this file.
     unsafe { sys::sfr_withdraw_equation_on(allocator, index, rel, words, len, i) }
@@ -303,7 +304,7 @@ pub fn value_of_on(
     index: u32,
     rel: SharedRelation,
     slots: &[u32],
-    var: u32,
+    var: FieldVar,
 ) -> Value {
     // SAFETY: see the head of this file.
     unsafe { sys::sfr_value_of_on(allocator, index, rel, slots.as_ptr(), slots.len(), var) }
@@ -312,7 +313,12 @@ pub fn value_of_on(
 /// Is the wire allocated, by whichever relation?
 ///
 /// Questions 1, 2 of the allocator, 42, 3.
-pub fn is_allocated_on(allocator: VarAllocator, index: u32, rel: SharedRelation, var: u32) -> Flag {
+pub fn is_allocated_on(
+    allocator: VarAllocator,
+    index: u32,
+    rel: SharedRelation,
+    var: FieldVar,
+) -> Flag {
     sys::sfr_is_allocated_on(allocator, index, rel, var)
 }
 
@@ -325,39 +331,35 @@ pub fn is_allocated_on(allocator: VarAllocator, index: u32, rel: SharedRelation,
 /// and uses, exactly a word per slot, as the calls left them; publics, 2 words per assigned wire,
 /// which become the pairs and then 0 to their end; scratch, a word per wire. A refusal leaves
 /// publics and scratch all 0.
-#[allow(clippy::too_many_arguments)]
-pub fn compile_on(
+pub fn compile_on<'a>(
     allocator: VarAllocator,
     index: u32,
     rel: SharedRelation,
-    label: &[u8],
-    slots: &[u32],
-    queries: &[u32],
-    equations: &[u32],
-    uses: &[u32],
-    publics: &mut [u32],
+    held: Held<'a>,
+    publics: &'a mut [u32],
     scratch: &mut [u32],
-) -> InstanceAnswer {
+) -> Compiled<'a> {
     // SAFETY: see the head of this file.
-    unsafe {
+    let answer = unsafe {
         sys::sfr_compile_on(
             allocator,
             index,
             rel,
-            label.as_ptr(),
-            label.len(),
-            slots.as_ptr(),
-            slots.len(),
-            queries.as_ptr(),
-            queries.len(),
-            equations.as_ptr(),
-            equations.len(),
-            uses.as_ptr(),
-            uses.len(),
+            held.label.as_ptr(),
+            held.label.len(),
+            held.slots.as_ptr(),
+            held.slots.len(),
+            held.queries.as_ptr(),
+            held.queries.len(),
+            held.equations.as_ptr(),
+            held.equations.len(),
+            held.uses.as_ptr(),
+            held.uses.len(),
             publics.as_mut_ptr(),
             publics.len(),
             scratch.as_mut_ptr(),
             scratch.len(),
         )
-    }
+    };
+    compiled(answer, held, publics)
 }

@@ -1,28 +1,28 @@
 //! `include/sfr.h`, for Rust: the one place that declares the archive's functions.
 
-use crate::records::*;
+use crate::{records::*, types::*};
 
 unsafe extern "C" {
-    pub safe fn sfr_add_unit(a: u32, b: u32) -> u32;
-    pub safe fn sfr_mul_unit(a: u32, b: u32) -> u32;
-    pub fn sfr_is_utf8(bytes: *const u8, len: usize) -> bool;
-    pub fn sfr_scan_utf8(bytes: *const u8, len: usize) -> Utf8Scan;
-    pub fn sfr_read_u32(bytes: *const u8, len: usize, at: usize) -> Word;
-    pub fn sfr_put_u32(out: *mut u8, len: usize, at: usize, value: u32) -> Place;
+    pub safe fn sfr_add_unit(a: BabyBearUnit, b: BabyBearUnit) -> BabyBearUnit;
+    pub safe fn sfr_mul_unit(a: BabyBearUnit, b: BabyBearUnit) -> BabyBearUnit;
+    pub fn sfr_is_utf8(bytes: *const u8, bytes_len: usize) -> bool;
+    pub fn sfr_scan_utf8(bytes: *const u8, bytes_len: usize) -> Utf8Scan;
+    pub fn sfr_read_u32(bytes: *const u8, bytes_len: usize, at: usize) -> Word;
+    pub fn sfr_put_u32(out: *mut u8, out_len: usize, at: usize, value: u32) -> Place;
     pub fn sfr_read_units(
         bytes: *const u8,
-        len: usize,
+        bytes_len: usize,
         at: usize,
-        out: *mut u32,
+        out: *mut BabyBearUnit,
         out_len: usize,
         place: usize,
         n: u32,
     ) -> Place;
     pub fn sfr_read_vars(
         bytes: *const u8,
-        len: usize,
+        bytes_len: usize,
         at: usize,
-        out: *mut u32,
+        out: *mut FieldVar,
         out_len: usize,
         place: usize,
         n: u32,
@@ -37,27 +37,23 @@ unsafe extern "C" {
         slots_len: usize,
         uses: *mut u32,
         uses_len: usize,
-    ) -> RelationAnswer;
-    pub fn sfr_allocate_vars(
-        rel: Relation,
-        slots: *mut u32,
-        slots_len: usize,
-        n: u32,
-    ) -> RelationAnswer;
+    ) -> Recorded;
+    pub fn sfr_allocate_vars(rel: Relation, slots: *mut u32, slots_len: usize, n: u32)
+        -> Allocated;
     pub fn sfr_set_var(
         rel: Relation,
         slots: *mut u32,
         slots_len: usize,
-        var: u32,
-        value: u32,
+        var: FieldVar,
+        value: BabyBearUnit,
     ) -> SetAnswer;
     pub fn sfr_set_vars(
         rel: Relation,
         slots: *mut u32,
         slots_len: usize,
-        vars: *const u32,
+        vars: *const FieldVar,
         vars_len: usize,
-        values: *const u32,
+        values: *const BabyBearUnit,
         values_len: usize,
     ) -> Tally;
     pub fn sfr_set_tickets(
@@ -71,53 +67,54 @@ unsafe extern "C" {
         rel: Relation,
         slots: *const u32,
         slots_len: usize,
-        queries: *mut u32,
+        queries: *mut FieldVar,
         queries_len: usize,
         uses: *mut u32,
         uses_len: usize,
-        input: *const u32,
+        input: *const FieldVar,
         input_len: usize,
-        output: *const u32,
+        output: *const FieldVar,
         output_len: usize,
-    ) -> RelationAnswer;
+    ) -> Recorded;
     pub fn sfr_allocate_permutation(
         rel: Relation,
         slots: *mut u32,
         slots_len: usize,
-        queries: *mut u32,
+        queries: *mut FieldVar,
         queries_len: usize,
         uses: *mut u32,
         uses_len: usize,
-        input: *const u32,
+        input: *const FieldVar,
         input_len: usize,
-    ) -> RelationAnswer;
+    ) -> Allocated;
     pub fn sfr_withdraw_query(
         rel: Relation,
         slots: *const u32,
         slots_len: usize,
-        queries: *mut u32,
+        queries: *mut FieldVar,
         queries_len: usize,
         uses: *mut u32,
         uses_len: usize,
         i: u32,
-    ) -> RelationAnswer;
+    ) -> Recorded;
     pub fn sfr_add_equation(
         rel: Relation,
         equations: *mut u32,
         equations_len: usize,
         terms: *const Weighted,
         terms_len: usize,
-        image: u32,
-    ) -> RelationAnswer;
+        image: BabyBearUnit,
+    ) -> Recorded;
     pub fn sfr_withdraw_equation(
         rel: Relation,
         equations: *mut u32,
         equations_len: usize,
         i: u32,
-    ) -> RelationAnswer;
-    pub fn sfr_scale(terms: *mut Weighted, terms_len: usize, factor: u32) -> u32;
-    pub fn sfr_value_of(rel: Relation, slots: *const u32, slots_len: usize, var: u32) -> Value;
-    pub safe fn sfr_is_allocated(rel: Relation, var: u32) -> Flag;
+    ) -> Recorded;
+    pub fn sfr_scale(terms: *mut Weighted, terms_len: usize, factor: BabyBearUnit) -> Outcome;
+    pub fn sfr_value_of(rel: Relation, slots: *const u32, slots_len: usize, var: FieldVar)
+        -> Value;
+    pub safe fn sfr_is_allocated(rel: Relation, var: FieldVar) -> Flag;
 }
 
 // Relations on one allocator.
@@ -130,7 +127,7 @@ unsafe extern "C" {
         slots_len: usize,
         uses: *mut u32,
         uses_len: usize,
-    ) -> SharedAnswer;
+    ) -> Opened;
     pub fn sfr_allocate_vars_on(
         allocator: VarAllocator,
         index: u32,
@@ -138,15 +135,15 @@ unsafe extern "C" {
         slots: *mut u32,
         slots_len: usize,
         n: u32,
-    ) -> SharedAnswer;
+    ) -> AllocatedOn;
     pub fn sfr_set_var_on(
         allocator: VarAllocator,
         index: u32,
         rel: SharedRelation,
         slots: *mut u32,
         slots_len: usize,
-        var: u32,
-        value: u32,
+        var: FieldVar,
+        value: BabyBearUnit,
     ) -> SetAnswer;
     pub fn sfr_set_vars_on(
         allocator: VarAllocator,
@@ -154,9 +151,9 @@ unsafe extern "C" {
         rel: SharedRelation,
         slots: *mut u32,
         slots_len: usize,
-        vars: *const u32,
+        vars: *const FieldVar,
         vars_len: usize,
-        values: *const u32,
+        values: *const BabyBearUnit,
         values_len: usize,
     ) -> Tally;
     pub fn sfr_set_tickets_on(
@@ -174,40 +171,40 @@ unsafe extern "C" {
         rel: SharedRelation,
         slots: *const u32,
         slots_len: usize,
-        queries: *mut u32,
+        queries: *mut FieldVar,
         queries_len: usize,
         uses: *mut u32,
         uses_len: usize,
-        input: *const u32,
+        input: *const FieldVar,
         input_len: usize,
-        output: *const u32,
+        output: *const FieldVar,
         output_len: usize,
-    ) -> SharedAnswer;
+    ) -> RecordedOn;
     pub fn sfr_allocate_permutation_on(
         allocator: VarAllocator,
         index: u32,
         rel: SharedRelation,
         slots: *mut u32,
         slots_len: usize,
-        queries: *mut u32,
+        queries: *mut FieldVar,
         queries_len: usize,
         uses: *mut u32,
         uses_len: usize,
-        input: *const u32,
+        input: *const FieldVar,
         input_len: usize,
-    ) -> SharedAnswer;
+    ) -> AllocatedOn;
     pub fn sfr_withdraw_query_on(
         allocator: VarAllocator,
         index: u32,
         rel: SharedRelation,
         slots: *const u32,
         slots_len: usize,
-        queries: *mut u32,
+        queries: *mut FieldVar,
         queries_len: usize,
         uses: *mut u32,
         uses_len: usize,
         i: u32,
-    ) -> SharedAnswer;
+    ) -> RecordedOn;
     pub fn sfr_add_equation_on(
         allocator: VarAllocator,
         index: u32,
@@ -216,8 +213,8 @@ unsafe extern "C" {
         equations_len: usize,
         terms: *const Weighted,
         terms_len: usize,
-        image: u32,
-    ) -> SharedAnswer;
+        image: BabyBearUnit,
+    ) -> RecordedOn;
     pub fn sfr_withdraw_equation_on(
         allocator: VarAllocator,
         index: u32,
@@ -225,20 +222,20 @@ unsafe extern "C" {
         equations: *mut u32,
         equations_len: usize,
         i: u32,
-    ) -> SharedAnswer;
+    ) -> RecordedOn;
     pub fn sfr_value_of_on(
         allocator: VarAllocator,
         index: u32,
         rel: SharedRelation,
         slots: *const u32,
         slots_len: usize,
-        var: u32,
+        var: FieldVar,
     ) -> Value;
     pub safe fn sfr_is_allocated_on(
         allocator: VarAllocator,
         index: u32,
         rel: SharedRelation,
-        var: u32,
+        var: FieldVar,
     ) -> Flag;
     pub fn sfr_compile_on(
         allocator: VarAllocator,
@@ -248,7 +245,7 @@ unsafe extern "C" {
         label_len: usize,
         slots: *const u32,
         slots_len: usize,
-        queries: *const u32,
+        queries: *const FieldVar,
         queries_len: usize,
         equations: *const u32,
         equations_len: usize,
@@ -266,43 +263,43 @@ unsafe extern "C" {
     pub fn sfr_permute(
         width: u32,
         rounds: u32,
-        words: *const u32,
-        words_len: usize,
-        state: *mut u32,
+        params: *const u32,
+        params_len: usize,
+        state: *mut BabyBearUnit,
         state_len: usize,
-    ) -> u32;
+    ) -> Outcome;
     pub fn sfr_permute_inverse(
         width: u32,
         rounds: u32,
-        words: *const u32,
-        words_len: usize,
-        output: *const u32,
+        params: *const u32,
+        params_len: usize,
+        output: *const BabyBearUnit,
         output_len: usize,
-        input: *mut u32,
+        input: *mut BabyBearUnit,
         input_len: usize,
-    ) -> u32;
+    ) -> Outcome;
     pub fn sfr_evaluate_step(
         rec: Trace,
-        trace: *mut u32,
+        trace: *mut BabyBearUnit,
         trace_len: usize,
-        input: *const u32,
+        input: *const BabyBearUnit,
         input_len: usize,
         rounds: u32,
-        words: *const u32,
-        words_len: usize,
+        params: *const u32,
+        params_len: usize,
     ) -> TraceAnswer;
     pub fn sfr_append_step(
         rec: Trace,
-        trace: *mut u32,
+        trace: *mut BabyBearUnit,
         trace_len: usize,
-        input: *const u32,
+        input: *const BabyBearUnit,
         input_len: usize,
-        output: *const u32,
+        output: *const BabyBearUnit,
         output_len: usize,
     ) -> TraceAnswer;
     pub fn sfr_witness_to_bytes(
         rec: Trace,
-        trace: *const u32,
+        trace: *const BabyBearUnit,
         trace_len: usize,
         out: *mut u8,
         out_len: usize,
@@ -310,8 +307,8 @@ unsafe extern "C" {
     pub fn sfr_witness_from_bytes(
         width: u32,
         bytes: *const u8,
-        len: usize,
-        trace: *mut u32,
+        bytes_len: usize,
+        trace: *mut BabyBearUnit,
         trace_len: usize,
     ) -> TraceAnswer;
 }
@@ -324,7 +321,7 @@ unsafe extern "C" {
         label_len: usize,
         slots: *const u32,
         slots_len: usize,
-        queries: *const u32,
+        queries: *const FieldVar,
         queries_len: usize,
         equations: *const u32,
         equations_len: usize,
@@ -341,7 +338,7 @@ unsafe extern "C" {
         label_len: usize,
         publics: *const u32,
         publics_len: usize,
-        queries: *const u32,
+        queries: *const FieldVar,
         queries_len: usize,
         equations: *const u32,
         equations_len: usize,
@@ -351,34 +348,34 @@ unsafe extern "C" {
     pub fn sfr_instance_from_bytes(
         width: u32,
         bytes: *const u8,
-        len: usize,
+        bytes_len: usize,
         publics: *mut u32,
         publics_len: usize,
-        queries: *mut u32,
+        queries: *mut FieldVar,
         queries_len: usize,
         equations: *mut u32,
         equations_len: usize,
         scratch: *mut u32,
         scratch_len: usize,
-    ) -> InstanceRead;
+    ) -> ReadAnswer;
     pub fn sfr_strict_instance_from_bytes(
         width: u32,
         bytes: *const u8,
-        len: usize,
+        bytes_len: usize,
         publics: *mut u32,
         publics_len: usize,
-        queries: *mut u32,
+        queries: *mut FieldVar,
         queries_len: usize,
         equations: *mut u32,
         equations_len: usize,
         scratch: *mut u32,
         scratch_len: usize,
-    ) -> InstanceRead;
+    ) -> ReadAnswer;
     pub fn sfr_public_value(
         ins: Instance,
         publics: *const u32,
         publics_len: usize,
-        var: u32,
+        var: FieldVar,
     ) -> Value;
     pub fn sfr_heading(
         label: *const u8,
@@ -392,17 +389,17 @@ unsafe extern "C" {
         label_len: usize,
         publics: *const u32,
         publics_len: usize,
-        queries: *const u32,
+        queries: *const FieldVar,
         queries_len: usize,
         equations: *const u32,
         equations_len: usize,
         steps: u32,
-        trace: *const u32,
+        trace: *const BabyBearUnit,
         trace_len: usize,
         rounds: u32,
-        words: *const u32,
-        words_len: usize,
+        params: *const u32,
+        params_len: usize,
         scratch: *mut u32,
         scratch_len: usize,
-    ) -> u32;
+    ) -> Outcome;
 }

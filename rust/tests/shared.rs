@@ -1,6 +1,9 @@
 //! Relations on one allocator: what each call gives back, accepted and refused.
 
-use sfr::{Refused, Set, SharedRelation, VarAllocator, Weighted, MAX_RELATIONS, UNASSIGNED};
+use sfr::{
+    BabyBearUnit, FieldVar, Held, Instance, Part, Refused, Set, SharedRelation, VarAllocator,
+    Weighted, MAX_RELATIONS, UNASSIGNED,
+};
 
 /// A relation opened on an allocator of its own.
 fn opened<const N: usize>(
@@ -9,7 +12,8 @@ fn opened<const N: usize>(
     slots: &mut [u32; N],
 ) -> (VarAllocator, SharedRelation) {
     let answer = sfr::with_allocator(VarAllocator::default(), width, quota, slots, &mut [0; N]);
-    answer.accepted().expect("the first of eight")
+    let (_, allocator, rel) = answer.accepted().expect("the first of eight");
+    (allocator, rel)
 }
 
 #[test]
@@ -19,9 +23,9 @@ fn eight_are_opened_and_no_ninth() {
     for index in 0..MAX_RELATIONS {
         let mut uses = [7; 3];
         let answer = sfr::with_allocator(plant, 24 - index, index, &mut slots, &mut uses);
-        let (first, allocator, rel) = answer.first().expect("eight may be opened");
+        let (first, allocator, rel) = answer.accepted().expect("eight may be opened");
         assert_eq!((first, allocator.opened), (index, index + 1));
-        assert_eq!(allocator.vars_count, 1);
+        assert_eq!(allocator.vars, 1);
         assert_eq!((rel.width, rel.quota, rel.obtained), (24 - index, index, 0));
         // The first opening writes slot 0, a later one none; each writes its own use store.
         assert_eq!(slots, [if index == 0 { 0 } else { 7 }, 7, 7]);
@@ -31,7 +35,7 @@ fn eight_are_opened_and_no_ninth() {
     }
     let mut uses = [7; 3];
     let refused = sfr::with_allocator(plant, 1, 1, &mut slots, &mut uses);
-    assert_eq!((refused.number, refused.first), (42, 0));
+    assert_eq!((refused.number, refused.index), (42, 0));
     assert_eq!(refused.allocator, plant);
     assert_eq!(refused.relation, SharedRelation::default());
     plant.opened = 7;
@@ -42,47 +46,63 @@ fn eight_are_opened_and_no_ninth() {
 
 #[test]
 fn answers_are_results() -> Result<(), Refused> {
-    let (mut slots, mut queries, mut uses, mut equations) = ([0; 8], [9; 8], [9; 8], [9; 8]);
+    let (mut slots, mut uses, mut equations) = ([0; 8], [9; 8], [9; 8]);
+    let mut queries = [FieldVar(9); 8];
+    let wire = FieldVar;
     let (plant, one) = opened(1, 3, &mut slots);
-    let (two, plant, other) = sfr::with_allocator(plant, 2, 2, &mut slots, &mut uses).first()?;
-    let (var, plant, one) = sfr::allocate_vars_on(plant, 0, one, &mut slots, 2).first()?;
-    assert_eq!((two, var, plant.vars_count, one.obtained), (1, 1, 3, 2));
+    let (two, plant, other) = sfr::with_allocator(plant, 2, 2, &mut slots, &mut uses).accepted()?;
+    let (var, plant, one) = sfr::allocate_vars_on(plant, 0, one, &mut slots, 2).accepted()?;
+    assert_eq!((two, var, plant.vars, one.obtained), (1, wire(1), 3, 2));
+    let five = BabyBearUnit(5);
 
     // The other relation sets one wire; the second of its pairs is refused.
-    let tally = sfr::set_vars_on(plant, two, other, &mut slots, &[1, 9], &[5, 5]);
+    let tally = sfr::set_vars_on(
+        plant,
+        two,
+        other,
+        &mut slots,
+        &[wire(1), wire(9)],
+        &[five; 2],
+    );
     assert_eq!((tally.number, tally.accepted, tally.fresh), (7, 1, 1));
     let text = b"         2          274\n         2          275\n";
     let tally = sfr::set_tickets_on(plant, two, other, &mut slots, text);
     assert_eq!((tally.number, tally.accepted, tally.fresh), (8, 1, 1));
     // What the other has set is repeated for the one.
-    let set = sfr::set_var_on(plant, 0, one, &mut slots, 1, 5).accepted()?;
+    let set = sfr::set_var_on(plant, 0, one, &mut slots, wire(1), five).accepted()?;
     assert_eq!(set, Set::Repeated);
-    let tally = sfr::set_vars_on(plant, 2, one, &mut slots, &[1], &[5]);
+    let tally = sfr::set_vars_on(plant, 2, one, &mut slots, &[wire(1)], &[five]);
     assert_eq!((tally.number, tally.accepted, tally.fresh), (42, 0, 0));
-    let value = |var| sfr::value_of_on(plant, 0, one, &slots, var).accepted();
-    assert_eq!((value(1)?, value(2)?, value(3)?), (Some(5), Some(5), None));
-    assert!(!sfr::is_allocated_on(plant, 0, one, 3).accepted()?);
+    let value = |var| sfr::value_of_on(plant, 0, one, &slots, wire(var)).accepted();
+    assert_eq!(
+        (value(1)?, value(2)?, value(3)?),
+        (Some(five), Some(five), None)
+    );
+    assert!(!sfr::is_allocated_on(plant, 0, one, wire(3)).accepted()?);
 
-    let mint = |slots: &mut [u32], queries: &mut [u32], uses: &mut [u32]| {
-        sfr::allocate_permutation_on(plant, two, other, slots, queries, uses, &[1, 2])
+    let mint = |slots: &mut [u32], queries: &mut [FieldVar], uses: &mut [u32]| {
+        let input = [wire(1), wire(2)];
+        sfr::allocate_permutation_on(plant, two, other, slots, queries, uses, &input)
     };
     let refused = mint(&mut slots, &mut queries[..3], &mut uses);
     assert_eq!((refused.number, refused.relation), (10, other));
     let refused = mint(&mut slots, &mut queries, &mut uses[..7]);
     assert_eq!((refused.number, refused.relation), (10, other));
-    let (first, plant, other) = mint(&mut slots, &mut queries, &mut uses).first()?;
-    assert_eq!((first, other.obtained, other.queries), (3, 2, 1));
-    assert_eq!(queries, [1, 2, 3, 4, 9, 9, 9, 9]);
-    let record = |rel, queries: &mut [u32], uses: &mut [u32]| {
-        sfr::add_permutation_on(plant, two, rel, &slots, queries, uses, &[0, 8], &[0, 7])
+    let (first, plant, other) = mint(&mut slots, &mut queries, &mut uses).accepted()?;
+    assert_eq!((first, other.obtained, other.queries), (wire(3), 2, 1));
+    assert_eq!(queries, [1, 2, 3, 4, 9, 9, 9, 9].map(wire));
+    let record = |rel, queries: &mut [FieldVar], uses: &mut [u32]| {
+        let (input, output) = ([wire(0), wire(8)], [wire(0), wire(7)]);
+        sfr::add_permutation_on(plant, two, rel, &slots, queries, uses, &input, &output)
     };
     let (plant, other) = record(other, &mut queries, &mut uses).accepted()?;
     assert_eq!((other.queries, other.obtained, other.stray), (2, 2, 1));
     assert_eq!(uses, [2, 1, 1, 1, 1, 0, 0, 1]);
 
-    let terms = [Weighted { var: 3, weight: 1 }];
+    let (var, weight) = (wire(3), BabyBearUnit::ONE);
+    let terms = [Weighted { var, weight }];
     let state = |rel, equations: &mut [u32], image| {
-        sfr::add_equation_on(plant, two, rel, equations, &terms, image).accepted()
+        sfr::add_equation_on(plant, two, rel, equations, &terms, BabyBearUnit(image)).accepted()
     };
     let (_, other) = state(other, &mut equations, 6)?;
     let (_, other) = state(other, &mut equations, 7)?;
@@ -90,7 +110,7 @@ fn answers_are_results() -> Result<(), Refused> {
     assert_eq!(slots, [0, 5, 5, UNASSIGNED, UNASSIGNED, 0, 0, 0]);
 
     // A query and an equation are withdrawn, each by its number.
-    let strike = |index, rel, queries: &mut [u32], uses: &mut [u32], i| {
+    let strike = |index, rel, queries: &mut [FieldVar], uses: &mut [u32], i| {
         sfr::withdraw_query_on(plant, index, rel, &slots, queries, uses, i)
     };
     for (index, i, number) in [(2, 1, 42), (two, 2, 45)] {
@@ -101,7 +121,7 @@ fn answers_are_results() -> Result<(), Refused> {
     }
     let (_, other) = strike(two, other, &mut queries, &mut uses, 1).accepted()?;
     assert_eq!((other.queries, other.obtained, other.stray), (1, 2, 0));
-    assert_eq!(queries, [1, 2, 3, 4, 0, 0, 0, 0]);
+    assert_eq!(queries, [1, 2, 3, 4, 0, 0, 0, 0].map(wire));
     assert_eq!(uses, [0, 1, 1, 1, 1, 0, 0, 0]);
     let answer = sfr::withdraw_equation_on(plant, two, other, &mut equations, 0);
     let (_, other) = answer.accepted()?;
@@ -110,26 +130,34 @@ fn answers_are_results() -> Result<(), Refused> {
 
     let gate = |index| {
         let (mut publics, mut scratch) = ([9; 7], [9; 5]);
-        let answer = sfr::compile_on(
-            plant,
-            index,
-            other,
-            b"",
-            &slots,
-            &queries,
-            &equations,
-            &uses,
-            &mut publics,
-            &mut scratch,
-        );
+        let held = Held {
+            label: b"",
+            slots: &slots,
+            queries: &queries,
+            equations: &equations,
+            uses: &uses,
+        };
+        let gate = sfr::compile_on(plant, index, other, held, &mut publics, &mut scratch);
+        let (number, ins) = (gate.number, gate.parts.instance);
         assert_eq!(scratch, [0; 5]);
-        (answer.number, answer.instance, publics)
+        (number, ins, publics)
     };
     let (number, ins, publics) = gate(two);
-    assert_eq!((number, ins.vars_count, ins.publics), (0, 5, 3));
+    assert_eq!((number, ins.vars, ins.publics), (0, 5, 3));
     assert_eq!(publics, [0, 0, 1, 5, 2, 5, 0]);
     let (number, ins, publics) = gate(2);
-    assert_eq!((number, ins), (42, sfr::Instance::default()));
+    assert_eq!((number, ins), (42, Instance::default()));
     assert_eq!(publics, [0; 7]);
+
+    // Which part of 11, and none where 42 comes first.
+    let held = Held {
+        label: b"\xC0\x80",
+        slots: &slots,
+        queries: &queries,
+        equations: &equations,
+        uses: &uses,
+    };
+    let part = |index| sfr::unsound_held_on(plant, index, other, held);
+    assert_eq!((part(two), part(2)), (Some(Part::Label), None));
     Ok(())
 }

@@ -38,6 +38,18 @@ pub fn word(rng: &mut Rng, store: &mut [u32]) {
     }
 }
 
+/// Some held word of a relation that calls alone have made becomes another.
+#[cfg(feature = "library")]
+pub fn held_word(rng: &mut Rng, state: &mut State) {
+    let (slots, queries, equations) = state.held();
+    let (slots, queries, equations) = (slots.len(), queries.len(), equations.len());
+    match rng.below(3) {
+        0 => word(rng, &mut state.slots[..slots]),
+        1 => word(rng, &mut state.queries[..queries]),
+        _ => word(rng, &mut state.equations[..equations]),
+    }
+}
+
 /// A width, or any word.
 pub fn width(rng: &mut Rng) -> u32 {
     if rng.once_in(2) {

@@ -86,107 +86,141 @@ pub struct Answer {
     pub yes: bool,
 }
 
-/// The answer of a call that gives a record back, or two: with a share's opened relations,
-/// quota and obtained wires where there are two.
+/// A relation's record and its share, which each side has as records of its own.
+#[derive(Clone, Copy)]
+pub struct Records {
+    pub rel: Relation,
+    pub share: Option<Share>,
+}
+
+/// The answer of a call that gives records back. They don't have the relation's number: it is 0 in
+/// the share.
 pub struct Made {
     pub number: u32,
     pub first: u32,
-    pub rel: Relation,
-    pub share: Option<(u32, u32, u32)>,
+    pub records: Records,
 }
 
-/// A side's two answers with records, as one.
+/// A side's records, which have the same fields on both, but for the name of the wire count.
+macro_rules! records {
+    ($side:ident, $vars:ident) => {
+        impl From<Records> for $side::Relation {
+            fn from(Records { rel, .. }: Records) -> Self {
+                Self {
+                    width: rel.width,
+                    $vars: rel.vars_count,
+                    queries: rel.queries,
+                    equations: rel.equations,
+                    words: rel.words,
+                    stray: rel.stray,
+                }
+            }
+        }
+
+        impl From<Records> for $side::VarAllocator {
+            fn from(Records { rel, share }: Records) -> Self {
+                Self {
+                    $vars: rel.vars_count,
+                    opened: share.map_or(0, |share| share.opened),
+                }
+            }
+        }
+
+        impl From<Records> for $side::SharedRelation {
+            fn from(Records { rel, share }: Records) -> Self {
+                Self {
+                    width: rel.width,
+                    queries: rel.queries,
+                    equations: rel.equations,
+                    words: rel.words,
+                    stray: rel.stray,
+                    quota: share.map_or(0, |share| share.quota),
+                    obtained: share.map_or(0, |share| share.obtained),
+                }
+            }
+        }
+
+        impl From<$side::Relation> for Records {
+            fn from(rel: $side::Relation) -> Self {
+                let rel = reading::Relation {
+                    width: rel.width,
+                    vars_count: rel.$vars,
+                    queries: rel.queries,
+                    equations: rel.equations,
+                    words: rel.words,
+                    stray: rel.stray,
+                };
+                Self { rel, share: None }
+            }
+        }
+
+        impl From<($side::VarAllocator, $side::SharedRelation)> for Records {
+            fn from((allocator, rel): ($side::VarAllocator, $side::SharedRelation)) -> Self {
+                let share = reading::Share {
+                    index: 0,
+                    opened: allocator.opened,
+                    quota: rel.quota,
+                    obtained: rel.obtained,
+                };
+                let rel = reading::Relation {
+                    width: rel.width,
+                    vars_count: allocator.$vars,
+                    queries: rel.queries,
+                    equations: rel.equations,
+                    words: rel.words,
+                    stray: rel.stray,
+                };
+                Self {
+                    rel,
+                    share: Some(share),
+                }
+            }
+        }
+    };
+}
+
+/// A side's answers with records: each with what it has for the first wire, and the records.
 macro_rules! made {
-    ($side:ident) => {
-        impl From<$side::RelationAnswer> for $crate::calls::Made {
-            fn from(answer: $side::RelationAnswer) -> Self {
-                let rel = answer.relation;
+    ($($answer:ty, $it:ident: $first:expr, $records:expr;)*) => {$(
+        impl From<$answer> for Made {
+            fn from($it: $answer) -> Self {
                 Self {
-                    number: answer.number,
-                    first: answer.first,
-                    rel: reading::Relation {
-                        width: rel.width,
-                        vars_count: rel.vars_count,
-                        queries: rel.queries,
-                        equations: rel.equations,
-                        words: rel.words,
-                        stray: rel.stray,
-                    },
-                    share: None,
+                    number: $it.number,
+                    first: $first,
+                    records: $records.into(),
                 }
             }
         }
-
-        impl From<$side::SharedAnswer> for $crate::calls::Made {
-            fn from(answer: $side::SharedAnswer) -> Self {
-                let (allocator, rel) = (answer.allocator, answer.relation);
-                Self {
-                    number: answer.number,
-                    first: answer.first,
-                    rel: reading::Relation {
-                        width: rel.width,
-                        vars_count: allocator.vars_count,
-                        queries: rel.queries,
-                        equations: rel.equations,
-                        words: rel.words,
-                        stray: rel.stray,
-                    },
-                    share: Some((allocator.opened, rel.quota, rel.obtained)),
-                }
-            }
-        }
-    };
+    )*};
 }
 
-made!(reading);
-
-/// The allocator of a relation that shares one, in a side's type.
-macro_rules! allocator {
-    ($side:ident, $state:expr) => {
-        $side::VarAllocator {
-            vars_count: $state.rel.vars_count,
-            opened: $state.share.map_or(0, |share| share.opened),
-        }
-    };
+records!(reading, vars_count);
+made! {
+    reading::RelationAnswer, it: it.first, it.relation;
+    reading::SharedAnswer, it: it.first, (it.allocator, it.relation);
 }
 
 /// A side's call on a relation: the first name of it alone or, where it has a share, the second
-/// of its number on the allocator. Both sides have records of the same fields.
+/// of its number on the allocator.
 macro_rules! called {
     ($side:ident, $state:expr, $alone:ident, $shared:ident $(, $argument:expr)* $(,)?) => {{
-        let rel = $state.rel;
-        match $state.share {
-            None => {
-                let rel = $side::Relation {
-                    width: rel.width,
-                    vars_count: rel.vars_count,
-                    queries: rel.queries,
-                    equations: rel.equations,
-                    words: rel.words,
-                    stray: rel.stray,
-                };
-                $side::$alone(rel $(, $argument)*).into()
-            }
+        let records = $crate::calls::Records {
+            rel: $state.rel,
+            share: $state.share,
+        };
+        match records.share {
+            None => $side::$alone($side::Relation::from(records) $(, $argument)*).into(),
             Some(share) => {
-                let allocator = $crate::calls::allocator!($side, $state);
-                let rel = $side::SharedRelation {
-                    width: rel.width,
-                    queries: rel.queries,
-                    equations: rel.equations,
-                    words: rel.words,
-                    stray: rel.stray,
-                    quota: share.quota,
-                    obtained: share.obtained,
-                };
+                let (allocator, rel) = (records.into(), records.into());
                 $side::$shared(allocator, share.index, rel $(, $argument)*).into()
             }
         }
     }};
 }
 
+pub(crate) use called;
 #[cfg(feature = "library")]
-pub(crate) use made;
-pub(crate) use {allocator, called};
+pub(crate) use {made, records};
 
 /// What lies in a store that no call has written to.
 pub const DIRT: u32 = 0xABAB_ABAB;
@@ -226,6 +260,13 @@ impl State {
         )
     }
 
+    pub const fn records(&self) -> Records {
+        Records {
+            rel: self.rel,
+            share: self.share,
+        }
+    }
+
     /// A new relation over these stores, by the second reading.
     pub fn new_relation(&mut self, width: u32) -> u32 {
         let answer = reading::new(width, &mut self.slots, &mut self.uses);
@@ -235,7 +276,7 @@ impl State {
 
     /// Opens a relation on the allocator, by the second reading.
     pub fn with_allocator(&mut self, width: u32, quota: u32) -> Answer {
-        let allocator = allocator!(reading, self);
+        let allocator = self.records().into();
         let (slots, uses) = (&mut self.slots, &mut self.uses);
         let answer = reading::with_allocator(allocator, width, quota, slots, uses);
         self.keep(answer.into())
@@ -373,13 +414,11 @@ impl State {
 
     /// Keeps the records that a call gives back.
     pub fn keep(&mut self, made: Made) -> Answer {
-        self.rel = made.rel;
-        if let (Some(share), Some((opened, quota, obtained))) = (&mut self.share, made.share) {
+        self.rel = made.records.rel;
+        if let (Some(share), Some(made)) = (&mut self.share, made.records.share) {
             *share = Share {
                 index: share.index,
-                opened,
-                quota,
-                obtained,
+                ..made
             };
         }
         Answer {

@@ -38,6 +38,24 @@ pub fn holds(what: &str, yes: bool, answer: impl Debug) -> Compared {
 const GATE_AFTER: &str = "gate after withdrawal";
 const STRICT_READ: &str = "strict read SFRI";
 
+/// Where a call is answered 11, which part is unsound.
+pub const UNSOUND_GATE: &str = "gate, unsound";
+pub const UNSOUND_SFRI: &str = "write SFRI, unsound";
+pub const UNSOUND_SFRW: &str = "write SFRW, unsound";
+pub const UNSOUND_CHECK: &str = "check, unsound";
+
+/// The kinds that something comes in.
+fn kinds(name: &str) -> &'static [&'static str] {
+    match name {
+        "set" => SET_KINDS,
+        UNSOUND_GATE => &["equations", "queries", "slots", "label"],
+        UNSOUND_SFRI => &["equations", "publics", "queries", "label"],
+        UNSOUND_SFRW => &["trace"],
+        UNSOUND_CHECK => &["equations", "publics", "queries", "label", "trace"],
+        _ => LIST_KINDS,
+    }
+}
+
 /// The numbers that withdrawals, gates after them and strict reads have to be answered by in a
 /// command, and those of the plain read where the strict one says 46.
 type Numbers = &'static [(&'static str, &'static [u32])];
@@ -80,12 +98,12 @@ fn expected(command: &str) -> Numbers {
     }
 }
 
-/// What a run has seen: how often each call answered each number, and how often what of a set, a
-/// set list or a ticket text was fresh.
+/// What a run has seen: how often each call answered each number, how often what of a set, a set
+/// list or a ticket text was fresh, and how often which part was unsound.
 #[derive(Default)]
 pub struct Seen {
     answers: BTreeMap<(&'static str, u32), u64>,
-    sets: BTreeMap<&'static str, BTreeMap<&'static str, u64>>,
+    kinds: BTreeMap<&'static str, BTreeMap<&'static str, u64>>,
     pub total: u64,
 }
 
@@ -121,16 +139,22 @@ impl Seen {
     pub fn called(&mut self, call: &Call, answer: &Answer) {
         self.answered(call.name(), answer.number);
         if let Some(kind) = call.freshness(answer) {
-            let kinds = self.sets.entry(call.name()).or_default();
+            self.kind(call.name(), Some(kind));
+        }
+    }
+
+    /// What kind it was, if any: from now on all of them have to be seen.
+    pub fn kind(&mut self, name: &'static str, kind: Option<&'static str>) {
+        let kinds = self.kinds.entry(name).or_default();
+        if let Some(kind) = kind {
             *kinds.entry(kind).or_default() += 1;
         }
     }
 
-    /// A kind of set, set list or ticket text that was never seen, where others of it were, or a
+    /// A kind of set, set list, ticket text or unsound part that was looked for and never seen, or a
     /// number of a withdrawal, of a gate after one, or of a read.
     pub fn missing(&self, command: &str) -> Option<String> {
-        let kinds = |name| if name == "set" { SET_KINDS } else { LIST_KINDS };
-        let mut missing = self.sets.iter().flat_map(|(&name, seen)| {
+        let mut missing = self.kinds.iter().flat_map(|(&name, seen)| {
             let kinds = kinds(name).iter();
             let missing = kinds.filter(|kind| !seen.contains_key(*kind));
             missing.map(move |kind| format!("{name}: {kind}"))
@@ -164,7 +188,7 @@ impl Seen {
             line += &format!(" {number}:{times}");
         }
         println!("{line}");
-        for (name, kinds) in &self.sets {
+        for (name, kinds) in &self.kinds {
             let kinds = kinds.iter();
             let kinds: Vec<String> = kinds.map(|(kind, n)| format!("{kind}:{n}")).collect();
             println!("  {name:<22} {}", kinds.join(", "));

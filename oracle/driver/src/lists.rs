@@ -7,12 +7,14 @@ use crate::{
 
 /// Commands compared where no count is given.
 const COUNT: u64 = 1_000_000;
-/// Among so many, sets, set lists, ticket texts, withdrawals and reads of every kind are to be found.
+/// Among so many, sets, set lists, ticket texts, withdrawals, reads and unsound parts of every kind are
+/// to be found.
 const ENOUGH: u64 = 10_000;
 
 /// Compares lists until the commands asked for have been run: the line to end with. The
 /// list that shows a difference is run again, told call by call, and there is no such line; nor
-/// is there one where a kind of set, set list, ticket text, withdrawal or read didn't come about.
+/// is there one where a kind of set, set list, ticket text, withdrawal, read or unsound part didn't
+/// come about.
 pub fn compare(
     options: &Options,
     mut list: impl FnMut(u64, &mut Seen, &Log) -> Compared,

@@ -20,6 +20,8 @@ mod rng;
 mod sample;
 mod sheets;
 mod tickets;
+#[cfg(feature = "library")]
+mod unsound;
 mod zero_wire;
 
 use std::process::ExitCode;

@@ -2,6 +2,7 @@
 
 use std::hint::black_box;
 
+use sfr::BabyBearUnit;
 use source::Params;
 
 use super::{
@@ -9,7 +10,7 @@ use super::{
     forms::{montgomery, reducing},
     timed, FIRST,
 };
-use crate::rng::Rng;
+use crate::{library::witness::parameters, rng::Rng};
 
 /// The most evaluations: more of them show nothing new.
 const MOST: usize = 10_000;
@@ -48,7 +49,9 @@ fn times<const W: usize>(rounds: u32, items: usize) -> Times {
         |()| {
             let mut rec = sfr::Trace { width, steps: 0 };
             for input in inputs.chunks(W) {
-                let answer = sfr::evaluate_step(rec, &mut trace, input, rounds, &params.words);
+                let steps = BabyBearUnit::list_mut(&mut trace);
+                let input = BabyBearUnit::list(input);
+                let answer = sfr::evaluate_step(rec, steps, input, parameters(&params));
                 assert_eq!(answer.number, 0);
                 rec = answer.trace;
             }
@@ -66,7 +69,8 @@ fn times<const W: usize>(rounds: u32, items: usize) -> Times {
         .collect();
     let form = montgomery::params(W, rounds as usize, &params.words);
     let turn = |state: &mut [u32; W]| {
-        assert_eq!(sfr::permute(width, rounds, &params.words, state), 0);
+        let state = BabyBearUnit::list_mut(state);
+        assert_eq!(sfr::permute(width, parameters(&params), state).number, 0);
     };
     let turn_reducing = |state: &mut [u32; W]| {
         reducing::permute(black_box(rounds as usize), &params.words, state);

@@ -1,11 +1,15 @@
 //! Inputs of so many items, and the tables of all calls but evaluation.
 
+use sfr::{BabyBearUnit, FieldVar};
 use source::{Params, Parts};
 
 use super::{best, evaluate, table, timed, Line};
 use crate::{
     held::Held,
-    library::instance::{to_library, LibraryRead, LIBRARY_READS},
+    library::{
+        instance::{parts, stores, LibraryRead, LIBRARY_READS},
+        witness::parameters,
+    },
     rng::Rng,
 };
 
@@ -57,8 +61,9 @@ impl Honest {
                 *value = values[var];
             }
             trace.extend(state);
-            let number = sfr::permute(WIDTH, params.rounds, &params.words, &mut state);
-            assert_eq!(number, 0);
+            let turned = BabyBearUnit::list_mut(&mut state);
+            let answer = sfr::permute(WIDTH, parameters(&params), turned);
+            assert_eq!(answer.number, 0);
             trace.extend(state);
             queries.extend((first..first + W).map(|var| var as u32));
             values[first..first + W].copy_from_slice(&state);
@@ -244,14 +249,13 @@ fn read_instance(by: LibraryRead, items: usize, keep: Kept) -> Line {
         equations.len(),
         held.ins.vars_count as usize,
     ];
-    let mut stores = lens.map(|len| vec![OLD; len]);
-    let [publics, queries, equations, scratch] = &mut stores;
+    let mut lent = lens.map(|len| vec![OLD; len]);
+    let [publics, queries, equations, scratch] = &mut lent;
     let library = timed(
         || (),
         |()| {
-            let answer = by(WIDTH, &bytes, publics, queries, equations, scratch);
+            let answer = by(WIDTH, &bytes, stores(publics, queries, equations), scratch);
             assert_eq!(answer.number, 0);
-            answer
         },
     );
     let source = timed(
@@ -263,8 +267,8 @@ fn read_instance(by: LibraryRead, items: usize, keep: Kept) -> Line {
         },
     );
     let [library, source] = best([library, source]);
-    assert_eq!((&stores[0], &stores[1]), (&held.publics, &held.queries));
-    assert_eq!(&stores[2], &held.equations);
+    assert_eq!((&lent[0], &lent[1]), (&held.publics, &held.queries));
+    assert_eq!(&lent[2], &held.equations);
     Line {
         items,
         bytes: bytes.len(),
@@ -280,10 +284,7 @@ fn write_instance(items: usize, keep: Kept) -> Line {
     let library = timed(
         || (),
         |()| {
-            let (ins, label) = (to_library(held.ins), &held.label);
-            let (publics, queries, equations) = (&held.publics, &held.queries, &held.equations);
-            let answer =
-                sfr::instance_to_bytes(ins, label, publics, queries, equations, &mut bytes);
+            let answer = sfr::instance_to_bytes(parts(&held), &mut bytes);
             assert_eq!(answer.number, 0);
         },
     );
@@ -310,7 +311,8 @@ fn steps(items: usize) -> (sfr::Trace, Vec<u32>) {
 
 fn trace_bytes(rec: sfr::Trace, trace: &[u32]) -> Vec<u8> {
     let mut bytes = vec![0; 17 + 4 * trace.len()];
-    assert_eq!(sfr::witness_to_bytes(rec, trace, &mut bytes).number, 0);
+    let answer = sfr::witness_to_bytes(rec, BabyBearUnit::list(trace), &mut bytes);
+    assert_eq!(answer.number, 0);
     bytes
 }
 
@@ -321,7 +323,8 @@ fn read_trace(items: usize) -> Line {
     let library = timed(
         || (),
         |()| {
-            let answer = sfr::witness_from_bytes(WIDTH, &bytes, &mut store);
+            let steps = BabyBearUnit::list_mut(&mut store);
+            let answer = sfr::witness_from_bytes(WIDTH, &bytes, steps);
             assert_eq!(answer.number, 0);
             answer
         },
@@ -352,7 +355,7 @@ fn write_trace(items: usize) -> Line {
     let library = timed(
         || (),
         |()| {
-            let answer = sfr::witness_to_bytes(rec, &trace, &mut bytes);
+            let answer = sfr::witness_to_bytes(rec, BabyBearUnit::list(&trace), &mut bytes);
             assert_eq!(answer.number, 0);
         },
     );
@@ -373,6 +376,13 @@ pub fn gate(items: usize, shared: bool) -> Line {
     let relation = honest.relation(shared);
     let (slots, uses) = (&honest.slots, &honest.uses());
     let (ins, queries, equations) = (held.ins, &held.queries, &held.equations);
+    let lent = sfr::Held {
+        label: if shared { b"" } else { LABEL.as_bytes() },
+        slots,
+        queries: FieldVar::list(queries),
+        equations,
+        uses,
+    };
     let mut publics = vec![OLD; held.publics.len()];
     let mut scratch = vec![OLD; slots.len()];
     let library = timed(
@@ -381,7 +391,7 @@ pub fn gate(items: usize, shared: bool) -> Line {
             let (publics, scratch) = (&mut publics, &mut scratch);
             let answer = if shared {
                 let allocator = sfr::VarAllocator {
-                    vars_count: ins.vars_count,
+                    vars: ins.vars_count,
                     opened: sfr::MAX_RELATIONS,
                 };
                 let rel = sfr::SharedRelation {
@@ -393,25 +403,19 @@ pub fn gate(items: usize, shared: bool) -> Line {
                     ..sfr::SharedRelation::default()
                 };
                 let index = sfr::MAX_RELATIONS - 1;
-                sfr::compile_on(
-                    allocator, index, rel, b"", slots, queries, equations, uses, publics, scratch,
-                )
+                sfr::compile_on(allocator, index, rel, lent, publics, scratch)
             } else {
                 let rel = sfr::Relation {
                     width: WIDTH,
-                    vars_count: ins.vars_count,
+                    vars: ins.vars_count,
                     queries: ins.queries,
                     equations: ins.equations,
                     words: ins.words,
                     stray: 0,
                 };
-                let label = LABEL.as_bytes();
-                sfr::compile(
-                    rel, label, slots, queries, equations, uses, publics, scratch,
-                )
+                sfr::compile(rel, lent, publics, scratch)
             };
             assert_eq!(answer.number, 0);
-            answer
         },
     );
     let source = timed(
@@ -442,18 +446,13 @@ fn check(items: usize, rounds: u32) -> Line {
         || (),
         |()| {
             let answer = sfr::is_witness_valid(
-                to_library(held.ins),
-                &held.label,
-                &held.publics,
-                &held.queries,
-                &held.equations,
+                parts(&held),
                 items as u32,
-                trace,
-                params.rounds,
-                &params.words,
+                BabyBearUnit::list(trace),
+                parameters(params),
                 &mut scratch,
             );
-            assert_eq!(answer, 0);
+            assert_eq!(answer.number, 0);
         },
     );
     let instance = source::ungated(WIDTH, &honest.parts);
@@ -473,7 +472,7 @@ fn check(items: usize, rounds: u32) -> Line {
 pub fn fresh(items: usize) -> sfr::Relation {
     sfr::Relation {
         width: WIDTH,
-        vars_count: items as u32 + 1,
+        vars: items as u32 + 1,
         ..sfr::Relation::default()
     }
 }
@@ -493,7 +492,8 @@ fn set_list(items: usize) -> Line {
     let library = timed(
         || unset(items),
         |slots| {
-            let tally = sfr::set_vars(rel, slots, &vars, &values);
+            let (vars, values) = (FieldVar::list(&vars), BabyBearUnit::list(&values));
+            let tally = sfr::set_vars(rel, slots, vars, values);
             let tally = (tally.number, tally.accepted, tally.fresh);
             assert_eq!(tally, (0, items as u32, items as u32));
         },

@@ -2,10 +2,11 @@
 
 use std::hint::black_box;
 
+use sfr::BabyBearUnit;
 use source::Params;
 
 use super::{best, evaluate, timed};
-use crate::rng::Rng;
+use crate::{library::witness::parameters, rng::Rng};
 
 /// So many outputs are a run.
 const CALLS: usize = 100;
@@ -106,8 +107,10 @@ fn times<const W: usize>(params: &Params) -> [f64; 2] {
     let outputs: Vec<[u32; W]> = (0..CALLS).map(|_| output()).collect();
     let library = |output: &[u32; W]| {
         let mut input = [0; W];
-        let number = sfr::permute_inverse(width, rounds, &params.words, output, &mut input);
-        assert_eq!(number, 0);
+        let output = BabyBearUnit::list(output);
+        let found = BabyBearUnit::list_mut(&mut input);
+        let answer = sfr::permute_inverse(width, parameters(params), output, found);
+        assert_eq!(answer.number, 0);
         input
     };
     let plain = |output: &[u32; W]| {

@@ -1,6 +1,8 @@
 //! Queries recorded and minted in a relation alone, one call for each item, beside the sources'
 //! calls.
 
+use sfr::FieldVar;
+
 use super::{
     best,
     input::{FEWER, LABEL, OLD},
@@ -57,7 +59,9 @@ impl Recorded {
         let width = self.rel.width as usize;
         for query in cells.chunks(2 * width) {
             let (input, output) = query.split_at(width);
-            let (slots, queries, uses) = (&self.slots, &mut self.queries, &mut self.uses);
+            let (input, output) = (FieldVar::list(input), FieldVar::list(output));
+            let (slots, uses) = (&self.slots, &mut self.uses);
+            let queries = FieldVar::list_mut(&mut self.queries);
             let answer = sfr::add_permutation(self.rel, slots, queries, uses, input, output);
             assert_eq!(answer.number, 0);
             self.rel = answer.relation;
@@ -108,8 +112,9 @@ fn mint(width: u32, items: usize) -> Line {
     let library = timed(
         || Recorded::new(width, 1 + items * w, items),
         |recorded| {
-            let (slots, queries) = (&mut recorded.slots, &mut recorded.queries);
-            for input in inputs.chunks(w) {
+            let slots = &mut recorded.slots;
+            let queries = FieldVar::list_mut(&mut recorded.queries);
+            for input in FieldVar::list(&inputs).chunks(w) {
                 let (rel, uses) = (recorded.rel, &mut recorded.uses);
                 let answer = sfr::allocate_permutation(rel, slots, queries, uses, input);
                 assert_eq!(answer.number, 0);

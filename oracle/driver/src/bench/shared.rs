@@ -1,11 +1,11 @@
 //! The calls of eight relations on one allocator, one call for each item, beside the sources'
 //! `with_allocator`. Each relation makes an eighth of the calls, one relation after the other.
 
-use sfr::{SharedAnswer, SharedRelation, VarAllocator, Weighted};
+use sfr::{AllocatedOn, BabyBearUnit, FieldVar, SharedRelation, VarAllocator, Weighted};
 use source::{Allocator, Ready, Relation};
 
 use super::{best, input, input::WIDTH, table, timed, Line};
-use crate::rng::Rng;
+use crate::{library::side::weighted, rng::Rng};
 
 const W: usize = WIDTH as usize;
 const RELATIONS: usize = sfr::MAX_RELATIONS as usize;
@@ -63,7 +63,7 @@ impl Plant {
         for _ in 0..RELATIONS {
             let (allocator, slots, mut uses) = (plant.allocator, &mut plant.slots, vec![0; slots]);
             let opened = sfr::with_allocator(allocator, WIDTH, u32::MAX, slots, &mut uses);
-            let (allocator, rel) = opened.accepted().expect("eight may be opened");
+            let (_, allocator, rel) = opened.accepted().expect("eight may be opened");
             plant.allocator = allocator;
             let own = vec![0; own];
             plant.mixers.push(Mixer { rel, own, uses });
@@ -81,12 +81,12 @@ impl Plant {
         plant
     }
 
-    /// So many calls of one relation, each accepted.
+    /// So many allocations or mints of one relation, each accepted.
     fn each(
         &mut self,
         index: usize,
         calls: usize,
-        call: impl Fn(VarAllocator, u32, SharedRelation, Lent, usize) -> SharedAnswer,
+        call: impl Fn(VarAllocator, u32, SharedRelation, Lent, usize) -> AllocatedOn,
     ) {
         let Mixer { rel, own, uses } = &mut self.mixers[index];
         for i in 0..calls {
@@ -177,7 +177,8 @@ fn set(items: usize) -> Line {
         |plant, index| {
             let (allocator, rel) = (plant.allocator, plant.mixers[index].rel);
             for i in part(index) {
-                let (slots, var, value) = (&mut plant.slots, vars[i], values[i]);
+                let slots = &mut plant.slots;
+                let (var, value) = (FieldVar(vars[i]), BabyBearUnit(values[i]));
                 let answer = sfr::set_var_on(allocator, index as u32, rel, slots, var, value);
                 assert_eq!((answer.number, answer.fresh), (0, true));
             }
@@ -199,7 +200,9 @@ fn mint(items: usize) -> Line {
         |plant, index| {
             let part = part(index);
             plant.each(index, own, |allocator, index, rel, lent, i| {
-                let (input, Lent { slots, own, uses }) = (&part[i * W..(i + 1) * W], lent);
+                let Lent { slots, own, uses } = lent;
+                let input = FieldVar::list(&part[i * W..(i + 1) * W]);
+                let own = FieldVar::list_mut(own);
                 sfr::allocate_permutation_on(allocator, index, rel, slots, own, uses, input)
             });
         },
@@ -217,23 +220,22 @@ fn equation(items: usize) -> Line {
         (terms, rng.word() % reading::P)
     };
     let equations: Vec<(Vec<(u32, u32)>, u32)> = (0..items).map(|_| equation()).collect();
-    let lent = |terms: &Vec<(u32, u32)>| -> Vec<Weighted> {
-        let terms = terms.iter();
-        terms
-            .map(|&(var, weight)| Weighted { var, weight })
-            .collect()
-    };
-    let lists: Vec<Vec<Weighted>> = equations.iter().map(|(terms, _)| lent(terms)).collect();
+    let lists = equations.iter().map(|(terms, _)| weighted(terms));
+    let lists: Vec<Vec<Weighted>> = lists.collect();
     line(
         items,
         2 * 4 * 8 * items,
         || Plant::new(1, 8 * own),
         |plant, index| {
-            let first = index * own;
-            plant.each(index, own, |allocator, index, rel, lent, i| {
-                let (terms, image) = (&lists[first + i], equations[first + i].1);
-                sfr::add_equation_on(allocator, index, rel, lent.own, terms, image)
-            });
+            let mixer = &mut plant.mixers[index];
+            for i in index * own..(index + 1) * own {
+                let (terms, image) = (&lists[i], BabyBearUnit(equations[i].1));
+                let (allocator, rel, words) = (plant.allocator, mixer.rel, &mut mixer.own);
+                let answer =
+                    sfr::add_equation_on(allocator, index as u32, rel, words, terms, image);
+                assert_eq!(answer.number, 0);
+                (plant.allocator, mixer.rel) = (answer.allocator, answer.relation);
+            }
         },
         0,
         |relation, index| relation.ready_equations(&equations[index * own..(index + 1) * own]),

@@ -50,7 +50,7 @@ fn tickets(items: usize) -> Line {
 /// fresh.
 fn plain(rel: sfr::Relation, slots: &mut [u32], text: &[u8]) -> (u32, usize, usize) {
     let most = sfr::MAX_COUNT as usize;
-    let vars = rel.vars_count as usize;
+    let vars = rel.vars as usize;
     if !(1..=sfr::MAX_WIDTH).contains(&rel.width) {
         return (1, 0, 0);
     }

@@ -3,6 +3,8 @@
 
 use std::iter;
 
+use sfr::{BabyBearUnit, FieldVar};
+
 use super::{
     best,
     input::{OLD, WIDTH},
@@ -97,8 +99,8 @@ fn held(items: usize) -> Recorded {
 
 /// Withdraws a query.
 fn withdraw(recorded: &mut Recorded, i: usize) {
-    let (slots, queries) = (&recorded.slots, &mut recorded.queries);
-    let (rel, uses) = (recorded.rel, &mut recorded.uses);
+    let (rel, slots, uses) = (recorded.rel, &recorded.slots, &mut recorded.uses);
+    let queries = FieldVar::list_mut(&mut recorded.queries);
     let answer = sfr::withdraw_query(rel, slots, queries, uses, i as u32);
     assert_eq!(answer.number, 0);
     recorded.rel = answer.relation;
@@ -187,10 +189,10 @@ fn stated(items: usize) -> (sfr::Relation, Vec<u32>) {
     let mut equations = vec![OLD; WORDS * items];
     for _ in 0..items {
         let terms = [0; 3].map(|_| sfr::Weighted {
-            var: rng.below(items) as u32,
-            weight: rng.word() % reading::P,
+            var: FieldVar(rng.below(items) as u32),
+            weight: BabyBearUnit(rng.word() % reading::P),
         });
-        let answer = sfr::add_equation(rel, &mut equations, &terms, 0);
+        let answer = sfr::add_equation(rel, &mut equations, &terms, BabyBearUnit::ZERO);
         assert_eq!(answer.number, 0);
         rel = answer.relation;
     }

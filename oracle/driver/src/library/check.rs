@@ -1,17 +1,20 @@
 //! `check`: whether a trace is a witness, on gated parts and on others.
 
+use reading::Trace;
+use sfr::BabyBearUnit;
 use source::Params;
 
-use super::instance::to_library;
+use super::{instance, witness};
 use crate::{
     astray,
     calls::DIRT,
-    compared::{same, Compared, Log, Seen},
+    compared::{same, Compared, Log, Seen, UNSOUND_CHECK},
     generate::{self, Generator},
     held::{self, Held, Room},
     lists,
     options::Options,
     rng::Rng,
+    unsound,
 };
 
 pub fn run(options: &Options) -> bool {
@@ -100,15 +103,10 @@ fn check(
     log.say(|| format!("Check({held:?}, {steps}, {trace:?}, {params:?}), {scratch} scratch"));
     let (mut given, mut expected) = (vec![DIRT; scratch], vec![DIRT; scratch]);
     let library = sfr::is_witness_valid(
-        to_library(held.ins),
-        &held.label,
-        &held.publics,
-        &held.queries,
-        &held.equations,
+        instance::parts(held),
         steps,
-        trace,
-        params.rounds,
-        &params.words,
+        BabyBearUnit::list(trace),
+        witness::parameters(params),
         &mut given,
     );
     let reading = reading::is_witness_valid(
@@ -125,7 +123,24 @@ fn check(
     seen.answered("check", reading);
     same(
         "check",
-        ("library", (library, given)),
+        ("library", (library.number, given)),
         ("reading", (reading, expected)),
-    )
+    )?;
+    unsound(held, steps, trace, reading, seen)
+}
+
+/// Which part 11 is about: by the writes of instance and trace, and by the check, where it doesn't come
+/// to 2 or 17 before it, of the trace or the sheet.
+fn unsound(held: &Held, steps: u32, trace: &[u32], number: u32, seen: &mut Seen) -> Compared {
+    let width = held.ins.width;
+    let rec = Trace { width, steps };
+    let (written, _) = held.write(0);
+    let part = unsound::instance(held, written, seen)?;
+    let (written, _) = held::write_witness(rec, trace, 0);
+    let told = part.or(unsound::trace(rec, trace, written, seen)?);
+    if [2, 17].contains(&number) {
+        return Ok(());
+    }
+    let test = || unsound::in_instance(held).or_else(|| unsound::in_trace(rec, trace));
+    unsound::compare(UNSOUND_CHECK, number, told, test, seen)
 }

@@ -2,6 +2,7 @@
 //! held publics.
 
 use reading::Instance;
+use sfr::FieldVar;
 
 use super::side;
 use crate::{
@@ -13,6 +14,7 @@ use crate::{
     lists,
     options::Options,
     rng::Rng,
+    unsound,
 };
 
 pub fn run(options: &Options) -> bool {
@@ -23,7 +25,7 @@ pub fn run(options: &Options) -> bool {
 pub fn to_library(ins: Instance) -> sfr::Instance {
     sfr::Instance {
         width: ins.width,
-        vars_count: ins.vars_count,
+        vars: ins.vars_count,
         queries: ins.queries,
         equations: ins.equations,
         words: ins.words,
@@ -31,20 +33,52 @@ pub fn to_library(ins: Instance) -> sfr::Instance {
     }
 }
 
-pub fn from_library(ins: sfr::Instance) -> Instance {
-    Instance {
-        width: ins.width,
-        vars_count: ins.vars_count,
-        queries: ins.queries,
-        equations: ins.equations,
-        words: ins.words,
-        publics: ins.publics,
+/// An instance as the library is lent it.
+pub fn parts(held: &Held) -> sfr::Parts<'_> {
+    sfr::Parts {
+        instance: to_library(held.ins),
+        label: &held.label,
+        publics: &held.publics,
+        queries: FieldVar::list(&held.queries),
+        equations: &held.equations,
+    }
+}
+
+/// An instance as the library answers it.
+pub fn from_library(parts: sfr::Parts) -> Held {
+    let ins = parts.instance;
+    Held {
+        ins: Instance {
+            width: ins.width,
+            vars_count: ins.vars,
+            queries: ins.queries,
+            equations: ins.equations,
+            words: ins.words,
+            publics: ins.publics,
+        },
+        label: parts.label.to_vec(),
+        publics: parts.publics.to_vec(),
+        queries: FieldVar::words(parts.queries).to_vec(),
+        equations: parts.equations.to_vec(),
+    }
+}
+
+/// Stores as a read of the library is lent them.
+pub fn stores<'a>(
+    publics: &'a mut [u32],
+    queries: &'a mut [u32],
+    equations: &'a mut [u32],
+) -> sfr::Stores<'a> {
+    sfr::Stores {
+        publics,
+        queries: FieldVar::list_mut(queries),
+        equations,
     }
 }
 
 /// An SFRI read of the library, plain or strict.
 pub type LibraryRead =
-    fn(u32, &[u8], &mut [u32], &mut [u32], &mut [u32], &mut [u32]) -> sfr::InstanceRead;
+    for<'a> fn(u32, &'a [u8], sfr::Stores<'a>, &mut [u32]) -> sfr::InstanceRead<'a>;
 
 /// The plain read and the strict one, as `reading::READS` are.
 pub const LIBRARY_READS: [LibraryRead; 2] =
@@ -76,7 +110,15 @@ fn list(seed: u64, seen: &mut Seen, log: &Log) -> Compared {
         };
         instance(rng, &held, seen, log)?;
     }
-    Ok(())
+    unsound_gate(rng, &state, seen, log)
+}
+
+/// The gate of a relation that calls alone have made, with a word or a label that may be unsound.
+pub fn unsound_gate(rng: &mut Rng, state: &State, seen: &mut Seen, log: &Log) -> Compared {
+    let mut other = state.clone();
+    astray::held_word(rng, &mut other);
+    let label = astray::label(rng, b"a");
+    gate(rng, &other, &label, false, seen, log).map(drop)
 }
 
 /// The gate: its number, and the instance where it accepts.
@@ -98,19 +140,20 @@ pub fn gate(
     let mut given = (vec![DIRT; publics], vec![DIRT; scratch]);
     let mut expected = given.clone();
     let library = side::compile(state, label, &mut given.0, &mut given.1);
+    let library = (library.number, from_library(library.parts), given);
     let reading = held::compile(state, label, &mut expected.0, &mut expected.1);
     seen.gated(reading.number, struck);
-    let library = (library.number, from_library(library.instance), given);
-    let answer = (reading.number, reading.instance, expected);
-    same("gate", ("library", &library), ("reading", &answer))?;
     let held = Held {
         ins: reading.instance,
         label: label.to_vec(),
-        publics: answer.2 .0,
+        publics: expected.0.clone(),
         queries: state.queries.clone(),
         equations: state.equations.clone(),
     };
-    Ok((reading.number, held))
+    let reading = (reading.number, held, expected);
+    same("gate", ("library", &library), ("reading", &reading))?;
+    unsound::relation(state, label, reading.0, seen)?;
+    Ok((reading.0, reading.1))
 }
 
 /// Values, a write, and reads of what was written and of a file that may break the strict read's
@@ -158,10 +201,10 @@ fn value(rng: &mut Rng, held: &Held, seen: &mut Seen, log: &Log) -> Compared {
         len => held.publics[rng.below(len)],
     };
     log.say(|| format!("PublicValue({:?}, {:?}, {var})", held.ins, held.publics));
-    let library = sfr::public_value(to_library(held.ins), &held.publics, var);
+    let library = sfr::public_value(to_library(held.ins), &held.publics, FieldVar(var));
     let reading = reading::public_value(held.ins, &held.publics, var);
     seen.answered("value in held publics", reading.number);
-    let given = (library.number, library.some, library.value);
+    let given = (library.number, library.some, library.value.0);
     let (some, word) = (reading.value.is_some(), reading.value.unwrap_or(0));
     let expected = (reading.number, some, word);
     same("value", ("library", given), ("reading", expected))
@@ -177,14 +220,7 @@ fn write(rng: &mut Rng, held: &Held, seen: &mut Seen, log: &Log) -> Outcome<Vec<
     }
     log.say(|| format!("Write({held:?}) into {room} bytes"));
     let (mut given, mut expected) = (vec![0xEE; room], vec![0xEE; room]);
-    let library = sfr::instance_to_bytes(
-        to_library(held.ins),
-        &held.label,
-        &held.publics,
-        &held.queries,
-        &held.equations,
-        &mut given,
-    );
+    let library = sfr::instance_to_bytes(parts(held), &mut given);
     let reading = reading::instance_to_bytes(
         held.ins,
         &held.label,
@@ -197,6 +233,7 @@ fn write(rng: &mut Rng, held: &Held, seen: &mut Seen, log: &Log) -> Outcome<Vec<
     let library = (library.number, library.len, &given);
     let answer = (reading.number, reading.len, &expected);
     same("write SFRI", ("library", library), ("reading", answer))?;
+    unsound::instance(held, reading.number, seen)?;
     expected.truncate(reading.len);
     Ok(expected)
 }
@@ -245,21 +282,21 @@ fn read_into(
     let mut given = lens.map(|len| vec![DIRT; len]);
     let mut expected = given.clone();
     let [publics, queries, equations, scratch] = &mut given;
-    let library = library(width, bytes, publics, queries, equations, scratch);
+    let answer = library(width, bytes, stores(publics, queries, equations), scratch);
+    let at = place(bytes, answer.parts.label);
+    let library = (answer.number, at, from_library(answer.parts), given);
     let [publics, queries, equations, scratch] = &mut expected;
-    let reading = reading(width, bytes, publics, queries, equations, scratch);
-    let span = library.label;
-    let label = bytes.get(span.at..span.at + span.len);
-    let answer = (
-        library.number,
-        from_library(library.instance),
-        label.map(|label| (label, place(bytes, label))),
-    );
-    let library = (answer, given);
-    let label = (reading.label, place(bytes, reading.label));
-    let answer = (reading.number, reading.instance, Some(label));
-    same(name, ("library", library), ("reading", (answer, expected)))?;
-    Ok(reading.number)
+    let answer = reading(width, bytes, publics, queries, equations, scratch);
+    let held = Held {
+        ins: answer.instance,
+        label: answer.label.to_vec(),
+        publics: publics.clone(),
+        queries: queries.clone(),
+        equations: equations.clone(),
+    };
+    let reading = (answer.number, place(bytes, answer.label), held, expected);
+    same(name, ("library", &library), ("reading", &reading))?;
+    Ok(reading.0)
 }
 
 /// Where a part of the bytes starts; 0 where it has none.

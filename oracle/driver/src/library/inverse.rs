@@ -3,8 +3,10 @@
 //! there and back, with the library's evaluation and with the source's.
 
 use reading::P;
+use sfr::BabyBearUnit;
 use source::Params;
 
+use super::witness::parameters;
 use crate::{
     astray,
     calls::DIRT,
@@ -91,9 +93,13 @@ impl Call {
     /// The library's number, and what it leaves in the second list.
     fn library(&self) -> (u32, Vec<u32>) {
         let mut input = self.input.clone();
-        let (rounds, words) = (self.params.rounds, &self.params.words);
-        let number = sfr::permute_inverse(self.width, rounds, words, &self.output, &mut input);
-        (number, input)
+        let answer = sfr::permute_inverse(
+            self.width,
+            parameters(&self.params),
+            BabyBearUnit::list(&self.output),
+            BabyBearUnit::list_mut(&mut input),
+        );
+        (answer.number, input)
     }
 
     /// The number and the list on both sides.
@@ -123,11 +129,12 @@ fn units(rng: &mut Rng, width: u32) -> Vec<u32> {
 /// The state that the library turns `input` into, which must be the source's.
 fn evaluated(width: u32, params: &Params, input: &[u32]) -> Outcome<Vec<u32>> {
     let mut state = input.to_vec();
-    let number = sfr::permute(width, params.rounds, &params.words, &mut state);
+    let turned = BabyBearUnit::list_mut(&mut state);
+    let answer = sfr::permute(width, parameters(params), turned);
     let source = params.permute(input);
     same(
         "evaluate",
-        ("library", (number, &state)),
+        ("library", (answer.number, &state)),
         ("source", (0, &source)),
     )?;
     Ok(state)

@@ -6,9 +6,10 @@
 //! takes 4 GiB, one such store at a time, and the text takes as much.
 
 use reading::{Instance, On, Relation, Share, Trace, MAX_COUNT};
+use sfr::{BabyBearUnit, FieldVar};
 
 use super::{
-    instance::{to_library, LibraryRead, LIBRARY_READS},
+    instance::{stores, to_library, LibraryRead, LIBRARY_READS},
     large, tickets, witness,
 };
 use crate::{
@@ -99,6 +100,24 @@ struct Lent<'a> {
     label: &'a [u8],
 }
 
+impl<'a> Lent<'a> {
+    /// The parts of an instance.
+    fn parts(&self) -> sfr::Parts<'a> {
+        sfr::Parts {
+            instance: to_library(INS),
+            label: self.label,
+            publics: self.publics,
+            queries: FieldVar::list(self.queries),
+            equations: self.equations,
+        }
+    }
+}
+
+/// The words of a sheet without rounds, as the library is lent it.
+const fn parameters(words: &[u32]) -> sfr::Parameters<'_> {
+    sfr::Parameters { rounds: 0, words }
+}
+
 /// Every call that only reads the store which is too long, or the longest that may be.
 fn read_only(cases: &mut usize) -> Compared {
     let long = vec![0u32; LIMIT + 1];
@@ -164,8 +183,9 @@ fn read_only(cases: &mut usize) -> Compared {
 /// The state behind a digest, with a sheet or a list that is too long.
 fn go_back(words: &[u32], output: &[u32], input: &mut [u32]) -> Compared {
     dirty(input);
-    let library = sfr::permute_inverse(1, 0, words, output, input);
-    let given = (library, ends(input));
+    let from = BabyBearUnit::list(output);
+    let library = sfr::permute_inverse(1, parameters(words), from, BabyBearUnit::list_mut(input));
+    let given = (library.number, ends(input));
     dirty(input);
     let params = reading::Params { rounds: 0, words };
     let reading = reading::permute_inverse(1, params, output, input);
@@ -193,10 +213,16 @@ fn gate_on(on: On, lent: Lent, publics: &mut [u32], scratch: &mut [u32]) -> Comp
         label,
         ..
     } = lent;
-    let library: sfr::InstanceAnswer = called!(
-        sfr, on, compile, compile_on, label, slots, queries, equations, uses, publics, scratch
-    );
-    let given = (library.number, ends(publics), ends(scratch));
+    let held = sfr::Held {
+        label,
+        slots,
+        queries: FieldVar::list(queries),
+        equations,
+        uses,
+    };
+    let library: sfr::Compiled = called!(sfr, on, compile, compile_on, held, publics, scratch);
+    let number = library.number;
+    let given = (number, ends(publics), ends(scratch));
     dirty(publics);
     dirty(scratch);
     let reading = reading::compile(on, label, slots, queries, equations, uses, publics, scratch);
@@ -214,11 +240,9 @@ fn check(lent: Lent, scratch: &mut [u32]) -> Compared {
         label,
         ..
     } = lent;
-    let ins = to_library(INS);
-    let library = sfr::is_witness_valid(
-        ins, label, publics, queries, equations, 0, trace, 0, params, scratch,
-    );
-    let given = (library, ends(scratch));
+    let steps = BabyBearUnit::list(trace);
+    let library = sfr::is_witness_valid(lent.parts(), 0, steps, parameters(params), scratch);
+    let given = (library.number, ends(scratch));
     dirty(scratch);
     let words = reading::Params {
         rounds: 0,
@@ -241,8 +265,7 @@ fn write(lent: Lent) -> Compared {
         ..
     } = lent;
     let (mut given, mut expected) = ([7; 40], [7; 40]);
-    let ins = to_library(INS);
-    let library = sfr::instance_to_bytes(ins, label, publics, queries, equations, &mut given);
+    let library = sfr::instance_to_bytes(lent.parts(), &mut given);
     let reading =
         reading::instance_to_bytes(INS, label, publics, queries, equations, &mut expected);
     same(
@@ -250,14 +273,15 @@ fn write(lent: Lent) -> Compared {
         ("library", (library.number, library.len, &given)),
         ("reading", (reading.number, reading.len, &expected)),
     )?;
-    let library = sfr::witness_to_bytes(witness::to_library(REC), trace, &mut given);
+    let steps = BabyBearUnit::list(trace);
+    let library = sfr::witness_to_bytes(witness::to_library(REC), steps, &mut given);
     let reading = reading::witness_to_bytes(REC, trace, &mut expected);
     same(
         "large, write SFRW",
         ("library", (library.number, library.len, given)),
         ("reading", (reading.number, reading.len, expected)),
     )?;
-    let library = sfr::public_value(ins, publics, 0);
+    let library = sfr::public_value(to_library(INS), publics, FieldVar::ZERO);
     let reading = reading::public_value(INS, publics, 0);
     same(
         "large, value in held publics",
@@ -275,7 +299,9 @@ fn steps(lent: Lent) -> Compared {
     for input in [&[0][..], lent.trace] {
         let (mut given, mut expected) = ([7; 4], [7; 4]);
         let rec = witness::to_library(REC);
-        let library = sfr::evaluate_step(rec, &mut given, input, 0, lent.params);
+        let units = BabyBearUnit::list(input);
+        let steps = BabyBearUnit::list_mut(&mut given);
+        let library = sfr::evaluate_step(rec, steps, units, parameters(lent.params));
         let reading = reading::evaluate_step(REC, &mut expected, input, words);
         let library = (witness::from_library(library), given);
         let reading = ((reading.number, reading.trace), expected);
@@ -284,7 +310,8 @@ fn steps(lent: Lent) -> Compared {
             ("library", library),
             ("reading", reading),
         )?;
-        let library = sfr::append_step(rec, &mut given, &[0], input);
+        let steps = BabyBearUnit::list_mut(&mut given);
+        let library = sfr::append_step(rec, steps, &[BabyBearUnit::ZERO], units);
         let reading = reading::append_step(REC, &mut expected, &[0], input);
         let library = (witness::from_library(library), given);
         let reading = ((reading.number, reading.trace), expected);
@@ -339,7 +366,8 @@ fn fresh(slots: &mut [u32], uses: &mut [u32]) -> Compared {
                 (None, true) => sfr::new_relation(1, slots, uses).number,
                 (None, false) => reading::new(1, slots, uses).number,
                 (Some(opened), true) => {
-                    let allocator = sfr::VarAllocator { vars_count, opened };
+                    let vars = vars_count;
+                    let allocator = sfr::VarAllocator { vars, opened };
                     sfr::with_allocator(allocator, 1, 5, slots, uses).number
                 }
                 (Some(opened), false) => {
@@ -366,7 +394,7 @@ fn read_trace(store: &mut [u32]) -> Compared {
         .chain(file(&[1, 4, 1, 2, 3]))
         .collect();
     dirty(store);
-    let library = sfr::witness_from_bytes(1, &bytes, store);
+    let library = sfr::witness_from_bytes(1, &bytes, BabyBearUnit::list_mut(store));
     let (number, rec) = witness::from_library(library);
     let given = (number, rec, ends(store));
     dirty(store);
@@ -403,7 +431,7 @@ fn read(
             _ => (a, b, c, store),
         };
         let number = if library {
-            by.0(1, bytes, publics, queries, equations, scratch).number
+            by.0(1, bytes, stores(publics, queries, equations), scratch).number
         } else {
             by.1(1, bytes, publics, queries, equations, scratch).number
         };

@@ -1,6 +1,8 @@
 //! `leaves`: the proved library's leaves beside the standard library: units, UTF-8 (the place of
 //! the first bad byte beside the second reading too), words in bytes, and items read into a store.
 
+use sfr::{BabyBearUnit, FieldVar};
+
 use crate::{
     calls::DIRT,
     compared::{same, Compared},
@@ -71,7 +73,8 @@ fn field(rng: &mut Rng, count: u64, counts: &mut Counts) -> Compared {
 
 fn pair(a: u32, b: u32, counts: &mut Counts) -> Compared {
     counts.pairs += 1;
-    let library = (sfr::add_unit(a, b), sfr::mul_unit(a, b));
+    let (one, other) = (BabyBearUnit(a), BabyBearUnit(b));
+    let library = (sfr::add_unit(one, other).0, sfr::mul_unit(one, other).0);
     let expected = (leaf::add(a, b), leaf::mul(a, b));
     if library == expected {
         return Ok(());
@@ -318,11 +321,11 @@ fn items(rng: &mut Rng, count: u64, counts: &mut Counts) -> Compared {
 fn item(item: &Item, counts: &mut Counts) -> Compared {
     counts.items += 1;
     let mut out = vec![DIRT; item.out_len];
-    let read = match item.kind {
-        Kind::Units => sfr::read_units,
-        Kind::Vars => sfr::read_vars,
+    let (bytes, at, place, n) = (&item.bytes, item.at, item.place, item.n);
+    let library = match item.kind {
+        Kind::Units => sfr::read_units(bytes, at, BabyBearUnit::list_mut(&mut out), place, n),
+        Kind::Vars => sfr::read_vars(bytes, at, FieldVar::list_mut(&mut out), place, n),
     };
-    let library = read(&item.bytes, item.at, &mut out, item.place, item.n);
     let given = (library.number, library.next, out);
     let expected = item.read(DIRT);
     if given == expected {

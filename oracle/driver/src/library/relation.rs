@@ -2,8 +2,9 @@
 //! beside the compiled sources for as long as calls alone have made the record.
 //!
 //! After every call the answers, the records and every word of every store are compared,
-//! held or not, and at the end of a list its gate. Now and then a list goes astray for some calls:
-//! with a record, stores, counts or held words that no list of calls makes.
+//! held or not, and at the end of a list its gate, and one that may be unsound. Now and then a list
+//! goes astray for some calls: with a record, stores, counts or held words that no list of calls
+//! makes.
 
 use source::Relation;
 
@@ -149,7 +150,8 @@ fn list(seed: u64, seen: &mut Seen, log: &Log) -> Compared {
         compare_source(&mut generator, &call, &answer, &pair.reading, &mut relation)?;
         generator.note(&call, &answer);
     }
-    gate(&mut generator, &pair.reading, &*relation, seen, log)
+    gate(&mut generator, &pair.reading, &*relation, seen, log)?;
+    instance::unsound_gate(&mut generator.rng, &pair.reading, seen, log)
 }
 
 fn compare_source(

@@ -116,6 +116,7 @@ impl plant::Side for Run<'_> {
     ) -> Compared {
         let struck = generator.struck;
         instance::gate(&mut generator.rng, state, b"", struck, self.seen, self.log)?;
+        instance::unsound_gate(&mut generator.rng, state, self.seen, self.log)?;
         let (seen, log) = (&mut *self.seen, self.log);
         whole::Run { seen, log }.judged(generator, state, "", relation)
     }

@@ -1,8 +1,22 @@
 //! The proved library's side of the calls on a relation, alone or on a shared allocator.
 
-use crate::calls::{allocator, called, made, Answer, Call, State};
+use std::mem::transmute;
 
-made!(sfr);
+use sfr::{BabyBearUnit, FieldVar};
+
+use crate::calls::{called, made, records, Answer, Call, Made, Records, State};
+
+records!(sfr, vars);
+// SAFETY: an answer is laid out as in C: in words, of which the second is what others have the first
+// wire in, and 0.
+made! {
+    sfr::Allocated, it: it.first.0, it.relation;
+    sfr::Recorded, it: unsafe { transmute::<sfr::Recorded, [u32; 8]>(it) }[1], it.relation;
+    sfr::Opened, it: it.index, (it.allocator, it.relation);
+    sfr::AllocatedOn, it: it.first.0, (it.allocator, it.relation);
+    sfr::RecordedOn, it: unsafe { transmute::<sfr::RecordedOn, [u32; 11]>(it) }[1],
+        (it.allocator, it.relation);
+}
 
 /// A new relation over these stores.
 pub fn new_relation(state: &mut State, width: u32) -> Answer {
@@ -12,29 +26,38 @@ pub fn new_relation(state: &mut State, width: u32) -> Answer {
 
 /// Opens a relation on the allocator.
 pub fn with_allocator(state: &mut State, width: u32, quota: u32) -> Answer {
-    let allocator = allocator!(sfr, state);
+    let allocator = state.records().into();
     let (slots, uses) = (&mut state.slots, &mut state.uses);
     let answer = sfr::with_allocator(allocator, width, quota, slots, uses);
     state.keep(answer.into())
 }
 
 /// The gate.
-pub fn compile(
-    state: &State,
-    label: &[u8],
-    publics: &mut [u32],
+pub fn compile<'a>(
+    state: &'a State,
+    label: &'a [u8],
+    publics: &'a mut [u32],
     scratch: &mut [u32],
-) -> sfr::InstanceAnswer {
-    let (slots, queries) = (&state.slots, &state.queries);
-    let (equations, uses) = (&state.equations, &state.uses);
-    called!(
-        sfr, state, compile, compile_on, label, slots, queries, equations, uses, publics, scratch
-    )
+) -> sfr::Compiled<'a> {
+    let held = held(state, label);
+    called!(sfr, state, compile, compile_on, held, publics, scratch)
+}
+
+/// What a relation holds.
+pub fn held<'a>(state: &'a State, label: &'a [u8]) -> sfr::Held<'a> {
+    sfr::Held {
+        label,
+        slots: &state.slots,
+        queries: FieldVar::list(&state.queries),
+        equations: &state.equations,
+        uses: &state.uses,
+    }
 }
 
 /// Runs a call and keeps the record that it gives back.
 pub fn run(state: &mut State, call: &Call) -> Answer {
-    let (slots, queries, uses) = (&mut state.slots, &mut state.queries, &mut state.uses);
+    let (slots, uses) = (&mut state.slots, &mut state.uses);
+    let queries = FieldVar::list_mut(&mut state.queries);
     match call {
         Call::Allocate(count) => {
             let made = called!(sfr, state, allocate_vars, allocate_vars_on, slots, *count);
@@ -42,8 +65,9 @@ pub fn run(state: &mut State, call: &Call) -> Answer {
         }
         Call::AllocateWith(values) => allocate_with(state, values),
         Call::Set(var, value) => {
+            let (var, value) = (FieldVar(*var), BabyBearUnit(*value));
             let answer: sfr::SetAnswer =
-                called!(sfr, state, set_var, set_var_on, slots, *var, *value);
+                called!(sfr, state, set_var, set_var_on, slots, var, value);
             Answer {
                 number: answer.number,
                 fresh: usize::from(answer.fresh),
@@ -51,6 +75,7 @@ pub fn run(state: &mut State, call: &Call) -> Answer {
             }
         }
         Call::SetList(vars, values) => {
+            let (vars, values) = (FieldVar::list(vars), BabyBearUnit::list(values));
             let tally: sfr::Tally = called!(sfr, state, set_vars, set_vars_on, slots, vars, values);
             Answer {
                 number: tally.number,
@@ -70,6 +95,7 @@ pub fn run(state: &mut State, call: &Call) -> Answer {
             }
         }
         Call::Record(input, output) => {
+            let (input, output) = (FieldVar::list(input), FieldVar::list(output));
             let made = called!(
                 sfr,
                 state,
@@ -92,7 +118,7 @@ pub fn run(state: &mut State, call: &Call) -> Answer {
                 slots,
                 queries,
                 uses,
-                input
+                FieldVar::list(input)
             );
             state.keep(made)
         }
@@ -118,7 +144,7 @@ pub fn run(state: &mut State, call: &Call) -> Answer {
                 add_equation_on,
                 equations,
                 &terms,
-                *image
+                BabyBearUnit(*image)
             );
             state.keep(made)
         }
@@ -135,15 +161,17 @@ pub fn run(state: &mut State, call: &Call) -> Answer {
             state.keep(made)
         }
         Call::Value(var) => {
-            let answer: sfr::Value = called!(sfr, state, value_of, value_of_on, slots, *var);
+            let var = FieldVar(*var);
+            let answer: sfr::Value = called!(sfr, state, value_of, value_of_on, slots, var);
             Answer {
                 number: answer.number,
-                value: answer.some.then_some(answer.value),
+                value: answer.some.then_some(answer.value.0),
                 ..Answer::default()
             }
         }
         Call::IsAllocated(var) => {
-            let answer: sfr::Flag = called!(sfr, state, is_allocated, is_allocated_on, *var);
+            let var = FieldVar(*var);
+            let answer: sfr::Flag = called!(sfr, state, is_allocated, is_allocated_on, var);
             Answer {
                 number: answer.number,
                 yes: answer.yes,
@@ -157,7 +185,10 @@ pub fn run(state: &mut State, call: &Call) -> Answer {
 pub fn weighted(terms: &[(u32, u32)]) -> Vec<sfr::Weighted> {
     let terms = terms.iter();
     terms
-        .map(|&(var, weight)| sfr::Weighted { var, weight })
+        .map(|&(var, weight)| sfr::Weighted {
+            var: FieldVar(var),
+            weight: BabyBearUnit(weight),
+        })
         .collect()
 }
 

@@ -1,5 +1,7 @@
 //! `terms`: scaling a list of terms, and which of two parts a heading is.
 
+use sfr::BabyBearUnit;
+
 use super::side;
 use crate::{
     against_source::calls::untyped,
@@ -38,10 +40,10 @@ fn scale(rng: &mut Rng, seen: &mut Seen, log: &Log) -> Compared {
     let factor = word(reading::P);
     log.say(|| format!("Scale({terms:?}, {factor})"));
     let (mut given, mut expected) = (side::weighted(&terms), weighted(&terms));
-    let library = sfr::scale(&mut given, factor);
+    let library = sfr::scale(&mut given, BabyBearUnit(factor)).number;
     let reading = reading::scale(&mut expected, factor);
     seen.answered("scale", reading);
-    let pairs = given.iter().map(|term| (term.var, term.weight));
+    let pairs = given.iter().map(|term| (term.var.0, term.weight.0));
     let given: Vec<(u32, u32)> = pairs.collect();
     let pairs = expected.iter().map(|term| (term.var, term.weight));
     let expected: Vec<(u32, u32)> = pairs.collect();

@@ -2,10 +2,11 @@
 //! between, but for ticket lines, which it takes apart: calls, gate, builder, bytes out and in,
 //! and the check. Each side goes on with what it made itself.
 
+use sfr::{BabyBearUnit, FieldVar};
 use source::{Instance, Params, Relation};
 
 use super::{
-    instance::{from_library, to_library, LibraryRead, LIBRARY_READS},
+    instance::{from_library, parts, stores, to_library, LibraryRead, LIBRARY_READS},
     side, witness,
 };
 use crate::{
@@ -45,29 +46,16 @@ fn read(by: LibraryRead, width: u32, bytes: &[u8]) -> (u32, Held) {
     let room = || vec![DIRT; Room::AMPLE.publics];
     let (mut publics, mut queries, mut equations) = (room(), room(), room());
     let scratch = &mut room();
-    let answer = by(
-        width,
-        bytes,
-        &mut publics,
-        &mut queries,
-        &mut equations,
-        scratch,
-    );
-    let label = sfr::label(bytes, &answer).to_vec();
-    let held = Held {
-        ins: from_library(answer.instance),
-        label,
-        publics,
-        queries,
-        equations,
-    };
-    (answer.number, held)
+    let stores = stores(&mut publics, &mut queries, &mut equations);
+    let answer = by(width, bytes, stores, scratch);
+    (answer.number, from_library(answer.parts))
 }
 
 /// The steps of an SFRW read by the library.
 fn read_trace(width: u32, bytes: &[u8]) -> (u32, Vec<u32>) {
     let mut trace = vec![DIRT; Room::AMPLE.publics];
-    let (number, rec) = witness::from_library(sfr::witness_from_bytes(width, bytes, &mut trace));
+    let answer = sfr::witness_from_bytes(width, bytes, BabyBearUnit::list_mut(&mut trace));
+    let (number, rec) = witness::from_library(answer);
     trace.truncate(2 * (rec.width * rec.steps) as usize);
     (number, trace)
 }
@@ -142,14 +130,7 @@ impl Run<'_> {
         let scratch = &mut vec![DIRT; Room::AMPLE.scratch];
         let answer = side::compile(state, label.as_bytes(), &mut publics, scratch);
         self.seen.gated(answer.number, struck);
-        let held = Held {
-            ins: from_library(answer.instance),
-            label: label.as_bytes().to_vec(),
-            publics,
-            queries: state.queries.clone(),
-            equations: state.equations.clone(),
-        };
-        (answer.number, held)
+        (answer.number, from_library(answer.parts))
     }
 
     /// A step for each query, evaluated or given, sent through bytes.
@@ -161,16 +142,19 @@ impl Run<'_> {
         let mut trace = vec![DIRT; queries.len()];
         for (i, query) in queries.chunks(2 * width as usize).enumerate() {
             let input = generator.values(&query[..width as usize]);
+            let steps = BabyBearUnit::list_mut(&mut trace);
             let answer = if generator.mood == Mood::Honest && i % 3 == 2 {
                 let output = generator.values(&query[width as usize..]);
                 self.log
                     .say(|| format!("AppendStep({input:?}, {output:?})"));
                 builder.add_permutation(&input, &output);
-                sfr::append_step(rec, &mut trace, &input, &output)
+                let (input, output) = (BabyBearUnit::list(&input), BabyBearUnit::list(&output));
+                sfr::append_step(rec, steps, input, output)
             } else {
                 self.log.say(|| format!("EvaluateStep({input:?})"));
                 builder.allocate_permutation(&input);
-                sfr::evaluate_step(rec, &mut trace, &input, params.rounds, &params.words)
+                let input = BabyBearUnit::list(&input);
+                sfr::evaluate_step(rec, steps, input, witness::parameters(params))
             };
             self.seen.answered("builder's steps", answer.number);
             rec = answer.trace;
@@ -178,7 +162,7 @@ impl Run<'_> {
         same("trace", ("library", &trace), ("source", &builder.trace()))?;
 
         let mut bytes = vec![0xEE; 17 + 4 * trace.len()];
-        let written = sfr::witness_to_bytes(rec, &trace, &mut bytes);
+        let written = sfr::witness_to_bytes(rec, BabyBearUnit::list(&trace), &mut bytes);
         self.seen.answered("write SFRW", written.number);
         let given = (written.number, written.len, bytes);
         let expected = builder.to_bytes();
@@ -211,14 +195,7 @@ impl Run<'_> {
 
         let expected = instance.to_bytes();
         let mut bytes = vec![0xEE; expected.len()];
-        let written = sfr::instance_to_bytes(
-            to_library(held.ins),
-            &held.label,
-            &held.publics,
-            &held.queries,
-            &held.equations,
-            &mut bytes,
-        );
+        let written = sfr::instance_to_bytes(parts(held), &mut bytes);
         self.seen.answered("write SFRI", written.number);
         let given = (written.number, written.len, &bytes);
         let answer = (0, expected.len(), &expected);
@@ -258,9 +235,9 @@ impl Run<'_> {
             return Ok(());
         }
         for var in 0..6 {
-            let answer = sfr::public_value(to_library(held.ins), &held.publics, var);
+            let answer = sfr::public_value(to_library(held.ins), &held.publics, FieldVar(var));
             self.seen.answered("value in held publics", answer.number);
-            let value = answer.some.then_some(answer.value);
+            let value = answer.some.then_some(answer.value.0);
             let given = (answer.number, value);
             let expected = (0, instance.value(var));
             same("value", ("library", given), ("source", expected))?;
@@ -299,16 +276,12 @@ impl Run<'_> {
 
 fn check(held: &Held, trace: &[u32], params: &Params) -> u32 {
     let steps = trace.len() / (2 * held.ins.width as usize);
-    sfr::is_witness_valid(
-        to_library(held.ins),
-        &held.label,
-        &held.publics,
-        &held.queries,
-        &held.equations,
+    let answer = sfr::is_witness_valid(
+        parts(held),
         steps as u32,
-        trace,
-        params.rounds,
-        &params.words,
+        BabyBearUnit::list(trace),
+        witness::parameters(params),
         &mut vec![DIRT; Room::AMPLE.scratch],
-    )
+    );
+    answer.number
 }

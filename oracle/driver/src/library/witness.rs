@@ -1,6 +1,7 @@
 //! `witness`: permutations by their parameters, the builder's steps, and a trace's bytes.
 
 use reading::Trace;
+use sfr::BabyBearUnit;
 use source::Params;
 
 use crate::{
@@ -10,6 +11,7 @@ use crate::{
     generate, held, lists,
     options::Options,
     rng::Rng,
+    unsound,
 };
 
 pub fn run(options: &Options) -> bool {
@@ -31,6 +33,14 @@ pub fn from_library(answer: sfr::TraceAnswer) -> (u32, Trace) {
         steps: answer.trace.steps,
     };
     (answer.number, trace)
+}
+
+/// A sheet as the library is lent it.
+pub fn parameters(params: &Params) -> sfr::Parameters<'_> {
+    sfr::Parameters {
+        rounds: params.rounds,
+        words: &params.words,
+    }
 }
 
 /// A trace's record and its store.
@@ -99,6 +109,7 @@ fn step(rng: &mut Rng, steps: &mut Steps, params: &Params, seen: &mut Seen, log:
     let width = rec.width.clamp(1, 24);
     let (input, output) = (units(rng, width), units(rng, width));
     let mut trace = steps.trace.clone();
+    let given = BabyBearUnit::list_mut(&mut trace);
     let (call, library, reading) = if rng.once_in(2) {
         log.say(|| {
             format!(
@@ -106,8 +117,12 @@ fn step(rng: &mut Rng, steps: &mut Steps, params: &Params, seen: &mut Seen, log:
                 steps.trace
             )
         });
-        let (rounds, words) = (params.rounds, &params.words);
-        let library = sfr::evaluate_step(to_library(rec), &mut trace, &input, rounds, words);
+        let library = sfr::evaluate_step(
+            to_library(rec),
+            given,
+            BabyBearUnit::list(&input),
+            parameters(params),
+        );
         let reading = reading::evaluate_step(rec, &mut steps.trace, &input, held::lent(params));
         ("evaluate a step", library, reading)
     } else {
@@ -117,7 +132,8 @@ fn step(rng: &mut Rng, steps: &mut Steps, params: &Params, seen: &mut Seen, log:
                 steps.trace
             )
         });
-        let library = sfr::append_step(to_library(rec), &mut trace, &input, &output);
+        let (from, to) = (BabyBearUnit::list(&input), BabyBearUnit::list(&output));
+        let library = sfr::append_step(to_library(rec), given, from, to);
         let reading = reading::append_step(rec, &mut steps.trace, &input, &output);
         ("append a step", library, reading)
     };
@@ -139,7 +155,8 @@ fn permute(rng: &mut Rng, width: u32, params: &Params, seen: &mut Seen, log: &Lo
     };
     log.say(|| format!("Permute({width}, {params:?}, {input:?})"));
     let (mut given, mut expected) = (input.clone(), input.clone());
-    let library = sfr::permute(width, params.rounds, &params.words, &mut given);
+    let state = BabyBearUnit::list_mut(&mut given);
+    let library = sfr::permute(width, parameters(params), state).number;
     let reading = reading::permute(width, held::lent(params), &input, &mut expected);
     seen.answered("permute", reading);
     let (library, reading) = ((library, given), (reading, expected));
@@ -157,12 +174,14 @@ fn write(rng: &mut Rng, steps: &Steps, seen: &mut Seen, log: &Log) -> Outcome<Ve
     };
     log.say(|| format!("WriteWitness({rec:?}, {:?}) into {room} bytes", steps.trace));
     let (mut given, mut expected) = (vec![0xEE; room], vec![0xEE; room]);
-    let library = sfr::witness_to_bytes(to_library(rec), &steps.trace, &mut given);
+    let trace = BabyBearUnit::list(&steps.trace);
+    let library = sfr::witness_to_bytes(to_library(rec), trace, &mut given);
     let reading = reading::witness_to_bytes(rec, &steps.trace, &mut expected);
     seen.answered("write SFRW", reading.number);
     let library = (library.number, library.len, &given);
     let answer = (reading.number, reading.len, &expected);
     same("write SFRW", ("library", library), ("reading", answer))?;
+    unsound::trace(rec, &steps.trace, reading.number, seen)?;
     expected.truncate(reading.len);
     Ok(expected)
 }
@@ -183,7 +202,7 @@ fn read(rng: &mut Rng, width: u32, bytes: &[u8], seen: &mut Seen, log: &Log) -> 
     };
     log.say(|| format!("ReadWitness({width}, {bytes:?}) into {room} words"));
     let (mut given, mut expected) = (vec![DIRT; room], vec![DIRT; room]);
-    let library = sfr::witness_from_bytes(width, bytes, &mut given);
+    let library = sfr::witness_from_bytes(width, bytes, BabyBearUnit::list_mut(&mut given));
     let reading = reading::witness_from_bytes(width, bytes, &mut expected);
     seen.answered("read SFRW", reading.number);
     let library = (from_library(library), given);
