@@ -45,11 +45,19 @@
 //! are the compiler that made the archive of them, and this crate, which hands slices on as pointers
 //! and lengths.
 //!
-//! The crate is `no_std` and needs no heap.
+//! # Features
+//!
+//! The crate is `no_std` and needs no heap. `alloc` brings `circuit`, the source's own interface,
+//! owned.
 #![no_std]
 #![deny(missing_docs)]
 #![deny(unsafe_op_in_unsafe_fn)]
 
+#[cfg(feature = "alloc")]
+extern crate alloc;
+
+#[cfg(feature = "alloc")]
+pub mod circuit;
 mod instance;
 mod leaves;
 mod numbers;
