@@ -11,6 +11,22 @@ use core::{
 use crate::{sys, Instance, MAX_COUNT};
 
 /// A wire of a relation: its index, below 2^30.
+///
+/// ```
+/// # use sfr::{BabyBearUnit, FieldVar, Relation, SetAnswer};
+/// fn set(rel: Relation, slots: &mut [u32], var: FieldVar, value: BabyBearUnit) -> SetAnswer {
+///     sfr::set_var(rel, slots, var, value)
+/// }
+/// ```
+///
+/// Exchanged, wire and unit are not compiled:
+///
+/// ```compile_fail,E0308
+/// # use sfr::{BabyBearUnit, FieldVar, Relation, SetAnswer};
+/// fn set(rel: Relation, slots: &mut [u32], var: FieldVar, value: BabyBearUnit) -> SetAnswer {
+///     sfr::set_var(rel, slots, value, var)
+/// }
+/// ```
 #[derive(Clone, Copy, Default, PartialEq, Eq, PartialOrd, Ord, Hash)]
 #[repr(transparent)]
 pub struct FieldVar(pub u32);
@@ -156,7 +172,23 @@ pub struct Held<'a> {
     pub uses: &'a [u32],
 }
 
-/// An instance with all its parts, lent to the calls that read them.
+/// An instance with all its parts, lent to the calls that read them. Gate and reads answer it.
+///
+/// ```
+/// # use sfr::{FieldVar, Instance, Parts};
+/// fn of<'a>(instance: Instance, publics: &'a [u32], queries: &'a [FieldVar]) -> Parts<'a> {
+///     Parts { instance, label: b"", publics, queries, equations: &[] }
+/// }
+/// ```
+///
+/// Exchanged, publics and queries are not compiled:
+///
+/// ```compile_fail,E0308
+/// # use sfr::{FieldVar, Instance, Parts};
+/// fn of<'a>(instance: Instance, publics: &'a [u32], queries: &'a [FieldVar]) -> Parts<'a> {
+///     Parts { instance, label: b"", publics: queries, queries: publics, equations: &[] }
+/// }
+/// ```
 #[derive(Clone, Copy, Debug, PartialEq, Eq)]
 pub struct Parts<'a> {
     /// Its record: how much of each store is held.
