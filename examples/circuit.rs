@@ -24,6 +24,7 @@ use sfr::circuit::{
 };
 
 /// A number as a unit.
+#[allow(clippy::useless_conversion)] // over the source it isn't
 fn unit(number: u32) -> BabyBearUnit {
     let element: BabyBear = QuotientMap::from_int(number);
     BabyBearUnit::from(element)
