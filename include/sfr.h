@@ -1,9 +1,10 @@
 /* sfr.h: sealed-batch relations, proved, for C99 and C++11 and later.
  *
- * Link with libsfr.a, for x86-64, which `rt staticlib sfr` writes to target/staticlib. examples/batch.c is a batch from
- * its first wire to a yes; docs/SCOPE.md has the terms in full, and each call's questions. Here stand, in this order:
- * units, UTF-8 and words in bytes; relations; relations on one allocator; permutations and traces; instances; the
- * check; what a number means. The same functions stand for Rust in rust/.
+ * Link with libsfr.a, for Linux on x86-64, which `rt staticlib sfr` writes to target/staticlib and ./install puts where
+ * pkg-config finds it. Files named here are the repository's. examples/batch.c is a batch from its first wire to a yes;
+ * docs/SCOPE.md has the terms in full, and each call's questions. Here stand, in this order: units, UTF-8 and words in
+ * bytes; relations; relations on one allocator; permutations and traces; instances; the check; what a number means. The
+ * same functions stand for Rust in rust/.
  *
  * What is lent. A list X is lent as a pointer and a count of elements, X_len. This alone is asked of the caller: so
  * many elements are there, aligned, and what a call writes to overlaps nothing else that it is lent. Where the count
@@ -13,7 +14,8 @@
  * What is answered. Every function answers on every input, never reads or writes outside what it is lent, and keeps
  * nothing from one call to the next. A call asks its questions in the order in which its comment lists them, and
  * answers the number of the first one that says no, or 0, a yes. Unless the comment says otherwise, a refusal leaves
- * everything lent as it was, and a yes changes nothing past what it writes. Compilers warn where a number is ignored.
+ * everything lent as it was, and a yes changes nothing past what it writes. Compilers warn where a number is ignored; to
+ * ignore one on purpose, put the answer into a variable and cast that to void.
  *
  * Letters and stores. w is the width, R the rounds of a permutation, p = SFR_PRIME and F = SFR_UNASSIGNED. A wire is a
  * u32 below 2^30, a unit one below p. These lists are of u32:
@@ -43,8 +45,8 @@
  *    7  the wire to be set isn't allocated
  *    8  the wire already has another value
  *    9  a list isn't as long as the width, or the two lists of a set list differ in length
- *   10  a list to be written is too short, or there isn't exactly one use count per slot
- *   11  the label or what a store holds isn't sound, or a count would leave 0 to 2^30
+ *   10  a list that would be written to is too short, or there isn't exactly one use count per slot
+ *   11  the label or what a store holds isn't sound, or a count would be below 0 or above 2^30
  *         equations: the equations don't end exactly at the used words, or hold a wire of 2^30 or more or a unit of p
  *                    or more
  *         publics:   a public wire is 2^30 or more, or its value p or more
@@ -56,7 +58,7 @@
  *   12  a public wire isn't below the wire count
  *   13  a query's wire isn't below the wire count (a gate goes by the use counts)
  *   14  a term's wire isn't below the wire count
- *   15  a term's weight isn't 0, its wire neither public nor in a query (a gate goes by the use counts)
+ *   15  a term has a weight other than 0, and its wire is neither public nor in a query (a gate goes by the use counts)
  *   16  scratch has fewer words than there are wires
  *   17  the parameters have over 128 rounds, a wrong length, a kind over 1 or a unit of p or more
  *   20  the bytes end before the word or field to be read does
@@ -79,7 +81,7 @@
  *   43  the relation would have obtained more wires than its quota
  *   44  there are rounds and the matrix is singular: two different inputs share an output
  *   45  there is no query or equation of this number
- *   46  the file has no wires, or doesn't list wire 0 with value 0
+ *   46  there are no wires, or wire 0 isn't listed with value 0
  * -- end of docs/numbers.txt
  *
  * 2 says that a list of u32 has more than 2^30 words, or a label 2^32 bytes or more; that a relation's record has no
@@ -127,17 +129,17 @@ extern "C" {
 #define SFR_SFRW_FIXED 17                   /* bytes of SFRW beside its steps */
 
 /* How many words a store needs, as a size_t: a constant where the arguments are. Some use an argument twice. */
-#define SFR_QUERIES_WORDS(width, queries) ((size_t)2 * (width) * (queries))
-#define SFR_TRACE_WORDS(width, steps) ((size_t)2 * (width) * (steps))
-#define SFR_EQUATION_WORDS(terms) ((size_t)2 * (terms) + 2) /* one equation of so many terms */
-#define SFR_PUBLICS_WORDS(publics) ((size_t)2 * (publics))
-#define SFR_PARAMS_WORDS(width, rounds) ((size_t)(rounds) * ((size_t)(width) + 1) + (size_t)(width) * (width))
+#define SFR_QUERIES_WORDS(width, queries) ((size_t)2 * (size_t)(width) * (size_t)(queries))
+#define SFR_TRACE_WORDS(width, steps) ((size_t)2 * (size_t)(width) * (size_t)(steps))
+#define SFR_EQUATION_WORDS(terms) ((size_t)2 * (size_t)(terms) + 2) /* one equation of so many terms */
+#define SFR_PUBLICS_WORDS(publics) ((size_t)2 * (size_t)(publics))
+#define SFR_PARAMS_WORDS(width, rounds) ((size_t)(rounds) * ((size_t)(width) + 1) + (size_t)(width) * (size_t)(width))
 
 /* How many bytes are written of an instance, whose equations use so many words, and of a trace. */
 #define SFR_SFRI_BYTES(label_len, width, publics, queries, words) \
-    (SFR_SFRI_FIXED + (size_t)(label_len) + \
-     (size_t)8 * (publics) + (size_t)8 * (width) * (queries) + (size_t)4 * (words))
-#define SFR_SFRW_BYTES(width, steps) (SFR_SFRW_FIXED + (size_t)8 * (width) * (steps))
+    (SFR_SFRI_FIXED + (size_t)(label_len) + (size_t)8 * (size_t)(publics) + \
+     (size_t)8 * (size_t)(width) * (size_t)(queries) + (size_t)4 * (size_t)(words))
+#define SFR_SFRW_BYTES(width, steps) (SFR_SFRW_FIXED + (size_t)8 * (size_t)(width) * (size_t)(steps))
 
 /* ---- Units, UTF-8, and words in bytes. ---- */
 
@@ -716,12 +718,14 @@ static inline const char *sfr_meaning(uint32_t number)
     case 7: return "the wire to be set isn't allocated";
     case 8: return "the wire already has another value";
     case 9: return "a list isn't as long as the width, or the two lists of a set list differ in length";
-    case 10: return "a list to be written is too short, or there isn't exactly one use count per slot";
-    case 11: return "the label or what a store holds isn't sound, or a count would leave 0 to 2^30";
+    case 10: return "a list that would be written to is too short, or there isn't exactly one use count per slot";
+    case 11: return "the label or what a store holds isn't sound, or a count would be below 0 or above 2^30";
     case 12: return "a public wire isn't below the wire count";
     case 13: return "a query's wire isn't below the wire count (a gate goes by the use counts)";
     case 14: return "a term's wire isn't below the wire count";
-    case 15: return "a term's weight isn't 0, its wire neither public nor in a query (a gate goes by the use counts)";
+    case 15:
+        return "a term has a weight other than 0, and its wire is neither public nor in a query (a gate goes by the "
+               "use counts)";
     case 16: return "scratch has fewer words than there are wires";
     case 17: return "the parameters have over 128 rounds, a wrong length, a kind over 1 or a unit of p or more";
     case 20: return "the bytes end before the word or field to be read does";
@@ -744,7 +748,7 @@ static inline const char *sfr_meaning(uint32_t number)
     case 43: return "the relation would have obtained more wires than its quota";
     case 44: return "there are rounds and the matrix is singular: two different inputs share an output";
     case 45: return "there is no query or equation of this number";
-    case 46: return "the file has no wires, or doesn't list wire 0 with value 0";
+    case 46: return "there are no wires, or wire 0 isn't listed with value 0";
     default: return "no call answers this number";
     }
 }

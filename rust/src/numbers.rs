@@ -13,14 +13,19 @@ pub(crate) const fn meaning(number: u32) -> Option<&'static str> {
         7 => "the wire to be set isn't allocated",
         8 => "the wire already has another value",
         9 => "a list isn't as long as the width, or the two lists of a set list differ in length",
-        10 => "a list to be written is too short, or there isn't exactly one use count per slot",
-        11 => "the label or what a store holds isn't sound, or a count would leave 0 to 2^30",
+        10 => {
+            "a list that would be written to is too short, or there isn't exactly one use count \
+             per slot"
+        }
+        11 => {
+            "the label or what a store holds isn't sound, or a count would be below 0 or above 2^30"
+        }
         12 => "a public wire isn't below the wire count",
         13 => "a query's wire isn't below the wire count (a gate goes by the use counts)",
         14 => "a term's wire isn't below the wire count",
         15 => {
-            "a term's weight isn't 0, its wire neither public nor in a query (a gate goes by the \
-             use counts)"
+            "a term has a weight other than 0, and its wire is neither public nor in a query (a \
+             gate goes by the use counts)"
         }
         16 => "scratch has fewer words than there are wires",
         17 => {
@@ -47,7 +52,7 @@ pub(crate) const fn meaning(number: u32) -> Option<&'static str> {
         43 => "the relation would have obtained more wires than its quota",
         44 => "there are rounds and the matrix is singular: two different inputs share an output",
         45 => "there is no query or equation of this number",
-        46 => "the file has no wires, or doesn't list wire 0 with value 0",
+        46 => "there are no wires, or wire 0 isn't listed with value 0",
         _ => return None,
     })
 }
