@@ -19,8 +19,8 @@ use sfr::circuit::{
     p3_baby_bear::BabyBear,
     p3_field::integers::QuotientMap,
     spongefish::{Permutation, Unit},
-    BabyBearUnit, FieldVar, OwnedParameters, PermutationInstance, PermutationRelation,
-    PermutationWitness, PermutationWitnessBuilder, VarAllocator,
+    BabyBearUnit, FieldVar, PermutationInstance, PermutationRelation, PermutationWitness,
+    PermutationWitnessBuilder, VarAllocator,
 };
 
 /// A number as a unit.
@@ -39,6 +39,21 @@ impl Permutation<3> for Mill {
 
     fn permute(&self, state: &[BabyBearUnit; 3]) -> [BabyBearUnit; 3] {
         (0..8).fold(*state, |[x, y, z], round| [y, z, x + y * z + unit(round)])
+    }
+}
+
+/// The receipt's permutation: two rounds, of the 7th power of both elements and of the first alone, with one matrix.
+#[derive(Clone)]
+struct Stamp;
+
+impl Permutation<2> for Stamp {
+    type U = BabyBearUnit;
+
+    fn permute(&self, &[x, y]: &[BabyBearUnit; 2]) -> [BabyBearUnit; 2] {
+        let seventh = |x: BabyBearUnit| x * (x * x) * (x * x) * (x * x);
+        let mixed = |x, y| [unit(2) * x + y, x + unit(3) * y];
+        let [x, y] = mixed(seventh(x + unit(11)), seventh(y + unit(12)));
+        mixed(seventh(x + unit(13)), y + unit(14))
     }
 }
 
@@ -100,17 +115,15 @@ fn weigh(weights: [u32; 2], salt: u32) -> (PermutationWitness<BabyBearUnit, 3>, 
     (builder.snapshot(), sealed)
 }
 
-/// The receipt: the two seals behind one, by a permutation of width 2 that is given by parameters.
+/// The receipt: the two seals behind one.
 fn receipt(
     out: &mut dyn Write,
     allocator: &VarAllocator<BabyBearUnit>,
     sealed: [FieldVar; 2],
     values: [BabyBearUnit; 2],
 ) -> Result<(), Box<dyn Error>> {
-    // Two rounds, of the 7th power of both elements and of the first alone; then the matrix.
-    let params = OwnedParameters::<2>::new(2, &[0, 11, 12, 1, 13, 14, 2, 1, 1, 3])?;
     let relation = PermutationRelation::<BabyBearUnit, 2>::with_allocator(allocator.clone());
-    let builder = PermutationWitnessBuilder::new(params);
+    let builder = PermutationWitnessBuilder::new(Stamp);
     let mut wires = sealed;
     relation.permute_mut(&mut wires);
     let output = builder.allocate_permutation(&values);

@@ -13,7 +13,7 @@ use crate::{
 /// wire. A refusal leaves publics and scratch all 0.
 pub fn compile<'a>(
     rel: Relation,
-    held: Held<'a>,
+    held: Held<'a, '_>,
     publics: &'a mut [u32],
     scratch: &mut [u32],
 ) -> Compiled<'a> {
@@ -43,7 +43,7 @@ pub fn compile<'a>(
 /// The gate's answer with the parts as they lie in what was lent.
 pub(crate) fn compiled<'a>(
     answer: InstanceAnswer,
-    held: Held<'a>,
+    held: Held<'a, '_>,
     publics: &'a [u32],
 ) -> Compiled<'a> {
     let parts = Parts {

@@ -1,7 +1,7 @@
 //! Sealed-batch relations, proved: every function of `include/sfr.h` behind slices.
 //!
-//! Every function answers on every input: it rests on nothing that its caller promises, and
-//! never panics. A call puts questions in a fixed order; its number is that of the first one
+//! Every function here answers on every input: it rests on nothing that its caller promises, and
+//! never panics (module `circuit` panics where the source does). A call puts questions in a fixed order; its number is that of the first one
 //! that says no, 0 for yes. `accepted()` on an answer makes a `Result` of it, whose error
 //! [`Refused`] has the number and says what it means.
 //!
@@ -36,6 +36,33 @@
 //! # Ok::<(), sfr::Refused>(())
 //! ```
 //!
+//! From fresh to a yes, with one sealed weight and no bytes in between:
+//!
+//! ```
+//! use sfr::{BabyBearUnit, FieldVar, Held, Parameters, Trace, Weighted, PRIME};
+//! let (slots, uses, scratch) = (&mut [0; 3], &mut [0; 3], &mut [0; 3]);
+//! let queries = &mut [FieldVar::ZERO; sfr::queries_words(1, 1)];
+//! let equations = &mut [0; sfr::equation_words(1)];
+//! let publics = &mut [0; sfr::publics_words(2)];
+//! let trace = &mut [BabyBearUnit::ZERO; sfr::trace_words(1, 1)];
+//!
+//! let rel = sfr::new_relation(1, slots, uses).accepted()?;
+//! let (weight, rel) = sfr::allocate_vars(rel, slots, 1).accepted()?;
+//! let (seal, rel) = sfr::allocate_permutation(rel, slots, queries, uses, &[weight]).accepted()?;
+//! let terms = [Weighted { var: weight, weight: BabyBearUnit(2) }]; // twice the weight is 6
+//! let rel = sfr::add_equation(rel, equations, &terms, BabyBearUnit(6)).accepted()?;
+//!
+//! let params = Parameters { rounds: 1, words: &[0, PRIME - 1, 5] }; // x becomes 5(x - 1)^7
+//! let none = Trace { width: 1, steps: 0 };
+//! let rec = sfr::evaluate_step(none, trace, &[BabyBearUnit(3)], params).accepted()?;
+//! sfr::set_var(rel, slots, seal, trace[1]).accepted()?; // the seal is public
+//!
+//! let held = Held { label: b"batch 7", slots, queries, equations, uses };
+//! let parts = sfr::compile(rel, held, publics, scratch).accepted()?;
+//! sfr::is_witness_valid(parts, rec.steps, trace, params, scratch).accepted()?; // yes
+//! # Ok::<(), sfr::Refused>(())
+//! ```
+//!
 //! # The archive
 //!
 //! What runs is `libsfr.a`, which `rt staticlib sfr` makes, at the root of the repository, of the
@@ -48,7 +75,7 @@
 //! # Features
 //!
 //! The crate is `no_std` and needs no heap. `alloc` brings `circuit`, the source's own interface,
-//! owned.
+//! owned: as there, what the source takes for a mistake of its caller is a panic.
 #![no_std]
 #![deny(missing_docs)]
 #![deny(unsafe_op_in_unsafe_fn)]
@@ -65,6 +92,7 @@ mod records;
 mod refused;
 mod relation;
 mod shared;
+mod sizes;
 mod sys;
 mod trace;
 mod types;
@@ -77,6 +105,7 @@ pub use records::*;
 pub use refused::*;
 pub use relation::*;
 pub use shared::*;
+pub use sizes::*;
 pub use trace::*;
 pub use types::*;
 pub use unsound::*;

@@ -1,6 +1,6 @@
 //! Records and answers, laid out as `include/sfr.h` has them.
 //!
-//! Every field is open, and any numbers may be put into a record: what doesn't fit is refused.
+//! Every field of a record is open, and any numbers may be put into one: what doesn't fit is refused.
 
 use crate::{BabyBearUnit, FieldVar, Parts, Refused};
 
@@ -247,7 +247,7 @@ pub struct RecordedOn {
     pub relation: SharedRelation,
 }
 
-/// A trace's record, handed in and back by value.
+/// A trace's record, handed in and back by value: `Trace { width, steps: 0 }` to begin with.
 #[repr(C)]
 #[derive(Clone, Copy, Debug, Default, PartialEq, Eq)]
 pub struct Trace {

@@ -26,7 +26,9 @@ impl Refused {
 
     /// What the number means, as docs/NUMBERS.md has it.
     ///
-    /// For 11, [`unsound_part`](crate::unsound_part) and its like tell which part is meant.
+    /// For 11 of a gate, a write or the check, [`unsound_part`](crate::unsound_part) and its like tell
+    /// which part is meant. A query that is recorded, minted or withdrawn asks the counts alone, an
+    /// equation that is withdrawn where the equations end.
     #[must_use]
     pub fn meaning(self) -> &'static str {
         numbers::meaning(self.number()).unwrap_or("no call answers this number")

@@ -331,11 +331,25 @@ pub fn is_allocated_on(
 /// and uses, exactly a word per slot, as the calls left them; publics, 2 words per assigned wire,
 /// which become the pairs and then 0 to their end; scratch, a word per wire. A refusal leaves
 /// publics and scratch all 0.
+///
+/// ```
+/// let (mut slots, mut uses) = ([0; 4], [[0; 4]; 2]);
+/// let none = sfr::VarAllocator::default();
+/// let (premix, plant, one) = sfr::with_allocator(none, 1, 2, &mut slots, &mut uses[0]).accepted()?;
+/// let (salt, plant, two) = sfr::with_allocator(plant, 1, 1, &mut slots, &mut uses[1]).accepted()?;
+/// let held = sfr::Held { label: b"", slots: &slots, queries: &[], equations: &[], uses: &uses[0] };
+/// let (publics, scratch) = (&mut [0; 8], &mut [0; 4]);
+/// let parts = sfr::compile_on(plant, premix, one, held, publics, scratch).accepted()?;
+/// // The other relation goes on.
+/// let (var, ..) = sfr::allocate_vars_on(plant, salt, two, &mut slots, 1).accepted()?;
+/// assert_eq!((var.0, parts.instance.vars), (1, 1));
+/// # Ok::<(), sfr::Refused>(())
+/// ```
 pub fn compile_on<'a>(
     allocator: VarAllocator,
     index: u32,
     rel: SharedRelation,
-    held: Held<'a>,
+    held: Held<'a, '_>,
     publics: &'a mut [u32],
     scratch: &mut [u32],
 ) -> Compiled<'a> {

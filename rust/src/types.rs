@@ -58,10 +58,11 @@ impl FieldVar {
         }
     }
 
-    /// The wire n places on. Allocations answer the first of their wires.
+    /// The wire n places on: allocations answer the first of their wires. Beyond all words it is the last
+    /// of them, which is no wire.
     #[must_use]
     pub const fn nth(self, n: u32) -> Self {
-        Self(self.0.wrapping_add(n))
+        Self(self.0.saturating_add(n))
     }
 }
 
@@ -110,7 +111,7 @@ macro_rules! words_and_lists {
             #[doc = concat!("These words as ", $what, ", whatever they are.")]
             #[must_use]
             pub const fn list(words: &[u32]) -> &[Self] {
-                // SAFETY: the type is a transparent u32, and of no word less than all.
+                // SAFETY: the type is a transparent u32, and every u32 is a value of it.
                 unsafe { core::slice::from_raw_parts(words.as_ptr().cast(), words.len()) }
             }
 
@@ -157,19 +158,20 @@ pub struct Parameters<'a> {
     pub words: &'a [u32],
 }
 
-/// What a relation holds, lent to the gate.
+/// What a relation holds, lent to the gate. Of the instance that this makes, slots and use counts are no
+/// part: calls go on with them while it is held.
 #[derive(Clone, Copy, Debug, PartialEq, Eq)]
-pub struct Held<'a> {
+pub struct Held<'a, 's> {
     /// The label, UTF-8.
     pub label: &'a [u8],
     /// A unit per wire, or F.
-    pub slots: &'a [u32],
+    pub slots: &'s [u32],
     /// 2w wires each.
     pub queries: &'a [FieldVar],
     /// Each a term count, then wire and weight per term, then the image.
     pub equations: &'a [u32],
     /// How many query cells name the wire, for each slot.
-    pub uses: &'a [u32],
+    pub uses: &'s [u32],
 }
 
 /// An instance with all its parts, lent to the calls that read them. Gate and reads answer it.

@@ -67,7 +67,7 @@ pub fn unsound_part(parts: Parts<'_>) -> Option<Part> {
 /// Which part of what a relation holds [`compile`] finds unsound first; none where it doesn't come to
 /// 11.
 #[must_use]
-pub fn unsound_held(rel: Relation, held: Held<'_>) -> Option<Part> {
+pub fn unsound_held(rel: Relation, held: Held<'_, '_>) -> Option<Part> {
     let none = Relation {
         vars: 1,
         queries: 0,
@@ -104,7 +104,7 @@ pub fn unsound_held_on(
     allocator: VarAllocator,
     index: u32,
     rel: SharedRelation,
-    held: Held<'_>,
+    held: Held<'_, '_>,
 ) -> Option<Part> {
     let alone = Relation {
         width: rel.width,

@@ -7,8 +7,8 @@ use sfr::circuit::{
     p3_baby_bear::BabyBear,
     p3_field::integers::QuotientMap,
     spongefish::Permutation,
-    BabyBearUnit, FieldVar, InvalidRelation, LinearEquation, PermutationInstance,
-    PermutationRelation, PermutationWitness, PermutationWitnessBuilder, QueryAnswerPair, OwnedParameters,
+    BabyBearUnit, FieldVar, InvalidRelation, LinearEquation, OwnedParameters, PermutationInstance,
+    PermutationRelation, PermutationWitness, PermutationWitnessBuilder, QueryAnswerPair,
     VarAllocator,
 };
 
@@ -566,10 +566,12 @@ impl Player {
     }
 }
 
-/// The message of a refusal, which its text repeats.
+/// The message of a refusal, which its two texts repeat.
 fn told(refused: &InvalidRelation) -> Answer {
     let (text, message) = (refused.to_string(), refused.message());
     assert_eq!(text, format!("invalid relation: {message}"));
+    let text = format!("{refused:?}");
+    assert_eq!(text, format!("InvalidRelation {{ message: {message:?} }}"));
     Answer::Refused(message.to_string())
 }
 

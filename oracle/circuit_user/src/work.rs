@@ -2,8 +2,8 @@
 
 use sfr::circuit::{
     p3_baby_bear::BabyBear, p3_field::integers::QuotientMap, spongefish::Permutation, BabyBearUnit,
-    FieldVar, PermutationInstance, PermutationRelation, PermutationWitness,
-    PermutationWitnessBuilder, OwnedParameters,
+    FieldVar, OwnedParameters, PermutationInstance, PermutationRelation, PermutationWitness,
+    PermutationWitnessBuilder,
 };
 
 use crate::times::Timed;

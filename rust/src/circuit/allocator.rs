@@ -22,9 +22,9 @@ pub struct VarAllocator<T> {
 
 /// The slots, and a record of width 1 without queries, by which the calls on wires go.
 pub(super) struct Wires {
-    pub record: Relation,
+    record: Relation,
     /// At least one per wire.
-    pub slots: Vec<u32>,
+    slots: Vec<u32>,
     /// How many wires have a value.
     pub assigned: usize,
 }
@@ -41,10 +41,14 @@ impl Wires {
         }
     }
 
+    /// The slots of the wires.
+    pub fn slots(&self) -> &[u32] {
+        &self.slots[..self.record.vars as usize]
+    }
+
     /// Grows the slots so that n wires more have one, where there may be so many. They are at least
-    /// doubled: n wires that come one by one cost n times a constant, and relations have to count
-    /// stray cells anew 30 times at most.
-    pub fn make_room(&mut self, n: u32) {
+    /// doubled: n wires that come one by one cost n times a constant.
+    fn make_room(&mut self, n: u32) {
         let wanted = self.record.vars as usize + n as usize;
         if wanted > self.slots.len() && wanted <= FieldVar::MAX_COUNT {
             let len = wanted.max(2 * self.slots.len()).min(FieldVar::MAX_COUNT);
@@ -78,13 +82,14 @@ impl Wires {
         set.map(drop)
             .map_err(|refused| (refused, vars[tally.accepted as usize]))
     }
+}
 
-    pub fn public_vars(&self) -> Vec<(FieldVar, BabyBearUnit)> {
-        let held = self.slots[..self.record.vars as usize].iter().zip(0..);
-        held.filter(|&(&slot, _)| slot != UNASSIGNED)
-            .map(|(&slot, index)| (FieldVar(index), BabyBearUnit(slot)))
-            .collect()
-    }
+/// The wires that have a value, with it, by their slots.
+pub(super) fn public_vars(slots: &[u32]) -> Vec<(FieldVar, BabyBearUnit)> {
+    let held = slots.iter().zip(0..);
+    held.filter(|&(&slot, _)| slot != UNASSIGNED)
+        .map(|(&slot, index)| (FieldVar(index), BabyBearUnit(slot)))
+        .collect()
 }
 
 impl<T> Clone for VarAllocator<T> {
@@ -112,9 +117,9 @@ fn refuse_set(refused: Refused, var: FieldVar) -> ! {
     }
 }
 
-/// Where wires are refused, for themselves or for a query's outputs.
+/// Where wires are refused.
 #[cold]
-pub(super) fn refuse_wires(refused: Refused) -> ! {
+fn refuse_wires(refused: Refused) -> ! {
     if refused.number() == 5 {
         panic!(
             "variable count exceeds supported maximum {}",
@@ -220,7 +225,7 @@ impl VarAllocator<BabyBearUnit> {
     ///
     /// # Panics
     ///
-    /// Where the wire isn't allocated, or has another value.
+    /// Where the wire isn't allocated, or has another value; and where the value is p or more.
     pub fn set_var(&self, var: FieldVar, value: BabyBearUnit) {
         let set = self.lock().set(var, value);
         set.unwrap_or_else(|refused| refuse_set(refused, var));
@@ -261,6 +266,6 @@ impl VarAllocator<BabyBearUnit> {
     /// The wires that have a value, with it, in index order.
     #[must_use]
     pub fn public_vars(&self) -> Vec<(FieldVar, BabyBearUnit)> {
-        self.lock().public_vars()
+        public_vars(self.lock().slots())
     }
 }

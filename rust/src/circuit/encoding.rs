@@ -12,7 +12,7 @@ use super::{
     permutation::{width, PermutationInstance, PermutationWitness, QueryAnswerPair},
     refuse,
 };
-use crate::{BabyBearUnit, FieldVar, Instance, Refused, Stores};
+use crate::{sfri_bytes, sfrw_bytes, BabyBearUnit, FieldVar, Instance, Refused, Stores};
 
 /// The first four bytes of an instance.
 pub const INSTANCE_MAGIC: [u8; 4] = *b"SFRI";
@@ -108,8 +108,15 @@ impl<const WIDTH: usize> PermutationInstance<BabyBearUnit, WIDTH> {
     #[must_use]
     pub fn to_bytes(&self) -> Vec<u8> {
         let parts = self.parts();
-        let words = parts.publics.len() + parts.queries.len() + parts.equations.len();
-        let mut out = vec![0; 33 + parts.label.len() + 4 * words];
+        let ins = parts.instance;
+        let len = sfri_bytes(
+            parts.label.len(),
+            ins.width,
+            ins.publics,
+            ins.queries,
+            ins.words,
+        );
+        let mut out = vec![0; len];
         let written = crate::instance_to_bytes(parts, &mut out).accepted();
         written.unwrap_or_else(|refused| refuse(refused));
         out
@@ -141,7 +148,7 @@ impl<const WIDTH: usize> PermutationWitness<BabyBearUnit, WIDTH> {
     pub fn to_bytes(&self) -> Vec<u8> {
         let rec = QueryAnswerPair::record(&self.trace);
         let trace = QueryAnswerPair::cells(&self.trace);
-        let mut out = vec![0; 17 + 4 * trace.len()];
+        let mut out = vec![0; sfrw_bytes(rec.width, rec.steps)];
         let written = crate::witness_to_bytes(rec, trace, &mut out).accepted();
         written.unwrap_or_else(|refused| refuse(refused));
         out

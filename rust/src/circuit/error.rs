@@ -6,10 +6,28 @@ use core::{error::Error, fmt};
 use crate::Refused;
 
 /// A relation, or bytes, of which no instance is made, or bytes of which no witness is.
-#[derive(Clone, Debug, PartialEq, Eq)]
+///
+/// Shown and compared by its message alone, as the source's, which has no number.
+#[derive(Clone)]
 pub struct InvalidRelation {
     message: String,
     refused: Refused,
+}
+
+impl PartialEq for InvalidRelation {
+    fn eq(&self, other: &Self) -> bool {
+        self.message == other.message
+    }
+}
+
+impl Eq for InvalidRelation {}
+
+impl fmt::Debug for InvalidRelation {
+    fn fmt(&self, f: &mut fmt::Formatter<'_>) -> fmt::Result {
+        f.debug_struct("InvalidRelation")
+            .field("message", &self.message)
+            .finish()
+    }
 }
 
 impl InvalidRelation {

@@ -1,7 +1,7 @@
 //! A lock that spins, as the source's does: no standard library, and so nothing to wait with.
 //!
-//! Nothing is held for longer than a call takes, and no code of a user's runs meanwhile. A guard
-//! lets go when it is dropped, also by a panic, and there is no poisoning. A relation's lock is
+//! It is held for a call, or for as long as lists are copied, and no code of a user's runs meanwhile. A
+//! guard lets go when it is dropped, also by a panic, and there is no poisoning. A relation's lock is
 //! taken before its allocator's.
 
 use core::{

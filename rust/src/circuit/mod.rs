@@ -24,19 +24,21 @@
 //! # Ok::<(), spongefish_circuit::InvalidRelation>(())
 //! ```
 //!
-//! Handles are reference counted, and may be sent to and shared between threads. What changes or
-//! judges anything is a proved call of this crate: this module, which isn't proved, grows the
-//! stores that are lent to it, turns its lists into the source's, and its refusals into the
-//! source's panics and errors.
+//! Handles are reference counted, and may be sent to and shared between threads. What is recorded, set,
+//! written, read and judged goes through proved calls of this crate. This module isn't proved: it grows
+//! the stores that are lent to them, turns their lists into the source's, and their refusals into the
+//! source's panics and errors. Of a permutation of the user's own it asks itself whether each step is an
+//! evaluation, and puts the rest of the check together of two calls.
 //!
 //! # What is otherwise than in the source
 //!
-//! - Left out: units other than [`BabyBearUnit`], sponges and session ids, `digest` and its tag,
-//!   and `Encoding` and `FromNarg`. The width is 1 to 24, which is asked when a program is
-//!   compiled.
-//! - A unit holds its number, not a [`BabyBear`](baby_bear::BabyBear), which is another name of
-//!   the same type: it is made by `from`, and not by `BabyBearUnit(element)`, and there is nothing
-//!   to dereference.
+//! - Left out: sponges and session ids, `digest` and its tag, and `Encoding` and `FromNarg`. Methods are
+//!   there for [`BabyBearUnit`] alone: no other unit, and no function that is generic over it. The
+//!   width is 1 to 24, which is asked when a program is built.
+//! - A unit holds its number, not a [`BabyBear`](baby_bear::BabyBear), which is another name of the same
+//!   type: it is made by `from`, and not by `BabyBearUnit(element)`, its field is a `u32`, and there is
+//!   nothing to dereference. Of the crates `p3-baby-bear` and `p3-field` there is no more than the
+//!   source imports.
 //! - Any word may be put into a [`FieldVar`] or a [`BabyBearUnit`]. A wire of 2^30 or more is
 //!   nowhere allocated; where a query or a term names it, or a unit is p or more, the call panics
 //!   with the refusal's text, and so it does where more than 2^30 words of queries, equations or
@@ -44,10 +46,8 @@
 //! - Wires that are allocated together are allocated one after the other, or, where they would be
 //!   more than [`FieldVar::MAX_COUNT`], not at all.
 //! - A file of more than 2^30 wires is refused.
-//! - A check asks the permutation about all steps before it compares what wires carry, and not step
-//!   by step.
-//! - A permutation by its parameters is a [`OwnedParameters`], which the proved calls evaluate themselves.
-//!   [`InvalidRelation::number`] is added.
+//! - A permutation by its parameters is an [`OwnedParameters`], which the proved calls evaluate
+//!   themselves. [`InvalidRelation::number`] is added.
 
 pub mod allocator;
 pub mod baby_bear;

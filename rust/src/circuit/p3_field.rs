@@ -1,4 +1,4 @@
-//! The two traits of the crate `p3-field` that the source's users name.
+//! The two traits of the crate `p3-field` that the source imports.
 
 /// A ring with a zero and a one.
 pub trait PrimeCharacteristicRing: Sized {

@@ -44,7 +44,7 @@ pub fn compile<'a>(
 }
 
 /// What a relation holds.
-pub fn held<'a>(state: &'a State, label: &'a [u8]) -> sfr::Held<'a> {
+pub fn held<'a>(state: &'a State, label: &'a [u8]) -> sfr::Held<'a, 'a> {
     sfr::Held {
         label,
         slots: &state.slots,

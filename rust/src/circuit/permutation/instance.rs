@@ -124,6 +124,10 @@ impl<const WIDTH: usize> PermutationInstance<BabyBearUnit, WIDTH> {
     /// publics theirs, and every equation holds. A permutation that has no
     /// [`parameters`](Permutation::parameters) is asked step by step, up to the first that isn't an
     /// evaluation. Nothing here takes the same time for all witnesses.
+    ///
+    /// # Panics
+    ///
+    /// Where the permutation's parameters are refused by 17.
     pub fn is_witness_valid<P>(
         &self,
         permutation: &P,

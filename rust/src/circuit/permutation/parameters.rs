@@ -32,8 +32,18 @@ impl<const WIDTH: usize> OwnedParameters<WIDTH> {
         let words = words.into();
         Ok(Self { rounds, words })
     }
+
+    fn lent(&self) -> Parameters<'_> {
+        Parameters {
+            rounds: self.rounds,
+            words: &self.words,
+        }
+    }
 }
 
+/// # Panics
+///
+/// Where a unit is p or more.
 impl<const WIDTH: usize> Permutation<WIDTH> for OwnedParameters<WIDTH> {
     type U = BabyBearUnit;
 
@@ -44,18 +54,11 @@ impl<const WIDTH: usize> Permutation<WIDTH> for OwnedParameters<WIDTH> {
     }
 
     fn permute_mut(&self, state: &mut [BabyBearUnit; WIDTH]) {
-        let params = Parameters {
-            rounds: self.rounds,
-            words: &self.words,
-        };
-        let permuted = crate::permute(width::<WIDTH>(), params, state).accepted();
+        let permuted = crate::permute(width::<WIDTH>(), self.lent(), state).accepted();
         permuted.unwrap_or_else(|refused| refuse(refused));
     }
 
     fn parameters(&self) -> Option<Parameters<'_>> {
-        Some(Parameters {
-            rounds: self.rounds,
-            words: &self.words,
-        })
+        Some(self.lent())
     }
 }

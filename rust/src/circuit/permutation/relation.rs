@@ -1,11 +1,11 @@
 //! Relations: queries and equations over an allocator's wires.
 
 use alloc::{borrow::ToOwned, string::String, sync::Arc, vec, vec::Vec};
-use core::{array, borrow::Borrow};
+use core::borrow::Borrow;
 
 use super::{
     super::{
-        allocator::{refuse_wires, VarAllocator, Wires},
+        allocator::{public_vars, VarAllocator},
         error::InvalidRelation,
         expr::Sum,
         lock::Lock,
@@ -33,19 +33,23 @@ pub struct PermutationRelation<T, const WIDTH: usize> {
 }
 
 /// What a relation holds beside its wires.
+///
+/// Queries are recorded on one slot, wire 0's, so that nothing here grows with the allocator's wires:
+/// the cells of all others are stray. The gate records them anew on all slots.
 struct Lists<const WIDTH: usize> {
-    /// Its wire count is the allocator's as it was at the last call.
     record: Relation,
     queries: Vec<QueryAnswerPair<FieldVar, WIDTH>>,
-    /// For as many slots as there were at the last call.
-    uses: Vec<u32>,
+    uses: [u32; 1],
     equations: Vec<u32>,
 }
 
+/// The slot that queries are recorded on.
+const SLOT: [u32; 1] = [0];
+
 impl<const WIDTH: usize> Lists<WIDTH> {
     fn new() -> Self {
-        let (mut slot, mut uses) = ([0], vec![0]);
-        let record = crate::new_relation(width::<WIDTH>(), &mut slot, &mut uses);
+        let mut uses = [0];
+        let record = crate::new_relation(width::<WIDTH>(), &mut SLOT.clone(), &mut uses);
         Self {
             record: record.accepted().unwrap_or_else(|refused| refuse(refused)),
             queries: Vec::new(),
@@ -54,55 +58,12 @@ impl<const WIDTH: usize> Lists<WIDTH> {
         }
     }
 
-    /// Takes over the allocator's wire count, and gives each of its slots a use count: another call,
-    /// or another relation's, may have added to both. A cell that was stray and has a slot now is
-    /// counted there.
-    fn catch_up(&mut self, wires: &Wires) {
-        self.record.vars = wires.record.vars;
-        let counted = self.uses.len();
-        self.uses.resize(wires.slots.len(), 0);
-        if counted == self.uses.len() || self.record.stray == 0 {
-            return;
-        }
-        for var in QueryAnswerPair::cells(&self.queries) {
-            if (counted..self.uses.len()).contains(&var.index()) {
-                self.uses[var.index()] += 1;
-                self.record.stray -= 1;
-            }
-        }
-    }
-
-    fn add_permutation(
-        &mut self,
-        wires: &Wires,
-        pair: &QueryAnswerPair<FieldVar, WIDTH>,
-    ) -> Result<(), Refused> {
-        self.catch_up(wires);
-        self.queries.push(QueryAnswerPair::ROOM);
-        let (queries, uses) = (
-            QueryAnswerPair::cells_mut(&mut self.queries),
-            &mut self.uses,
-        );
-        let (input, output) = (&pair.input, &pair.output);
-        let slots = &wires.slots;
-        let answer = crate::add_permutation(self.record, slots, queries, uses, input, output);
-        self.take(answer.accepted())
-    }
-
-    fn allocate_permutation(
-        &mut self,
-        wires: &mut Wires,
-        input: &[FieldVar; WIDTH],
-    ) -> Result<FieldVar, Refused> {
-        wires.make_room(width::<WIDTH>());
-        self.catch_up(wires);
+    fn add_permutation(&mut self, pair: &QueryAnswerPair<FieldVar, WIDTH>) -> Result<(), Refused> {
         self.queries.push(QueryAnswerPair::ROOM);
         let queries = QueryAnswerPair::cells_mut(&mut self.queries);
-        let (slots, uses) = (&mut wires.slots, &mut self.uses);
-        let minted = crate::allocate_permutation(self.record, slots, queries, uses, input);
-        self.take(minted.accepted().map(|(_, record)| record))?;
-        wires.record.vars = self.record.vars;
-        Ok(minted.first)
+        let (input, output, uses) = (&pair.input, &pair.output, &mut self.uses);
+        let answer = crate::add_permutation(self.record, &SLOT, queries, uses, input, output);
+        self.take(answer.accepted())
     }
 
     fn add_equation(&mut self, terms: &[Weighted], image: BabyBearUnit) -> Result<(), Refused> {
@@ -119,40 +80,79 @@ impl<const WIDTH: usize> Lists<WIDTH> {
         self.equations.truncate(self.record.words as usize);
         taken
     }
+}
+
+/// What the gate is put to: a relation and its wires as they were at one time.
+struct Snapshot<const WIDTH: usize> {
+    /// The slots of the wires.
+    slots: Vec<u32>,
+    /// How many of them have a value.
+    assigned: usize,
+    queries: Vec<QueryAnswerPair<FieldVar, WIDTH>>,
+    equations: Vec<u32>,
+    /// The record of the equations.
+    stated: Relation,
+}
+
+impl<const WIDTH: usize> Snapshot<WIDTH> {
+    /// The queries, recorded on all slots, each in its own place: the record, with the equations', and
+    /// the use counts.
+    fn recorded(&mut self) -> Result<(Relation, Vec<u32>), Refused> {
+        let mut uses = vec![0; self.slots.len()];
+        let fresh = crate::new_relation(width::<WIDTH>(), &mut self.slots, &mut uses).accepted()?;
+        let mut record = Relation {
+            vars: self.slots.len() as u32,
+            equations: self.stated.equations,
+            words: self.stated.words,
+            ..fresh
+        };
+        for i in 0..self.queries.len() {
+            let QueryAnswerPair { input, output } = self.queries[i].clone();
+            let (slots, cells) = (&self.slots, QueryAnswerPair::cells_mut(&mut self.queries));
+            let answer = crate::add_permutation(record, slots, cells, &mut uses, &input, &output);
+            record = answer.accepted()?;
+        }
+        Ok((record, uses))
+    }
 
     /// The gate.
     fn compile(
-        &mut self,
-        wires: &Wires,
+        mut self,
         label: &str,
     ) -> Result<PermutationInstance<BabyBearUnit, WIDTH>, InvalidRelation> {
-        self.catch_up(wires);
-        let mut publics = vec![0; 2 * wires.assigned];
-        let scratch = &mut vec![0; self.record.vars as usize];
+        let recorded = self.recorded();
+        let (record, uses) = recorded.unwrap_or_else(|refused| refuse(refused));
+        let mut publics = vec![0; 2 * self.assigned];
+        let scratch = &mut vec![0; self.slots.len()];
         let held = Held {
             label: label.as_bytes(),
-            slots: &wires.slots,
+            slots: &self.slots,
             queries: QueryAnswerPair::cells(&self.queries),
             equations: &self.equations,
-            uses: &self.uses,
+            uses: &uses,
         };
-        let gate = crate::compile(self.record, held, &mut publics, scratch);
-        let record = gate.accepted().map(|parts| parts.instance);
-        let record = record.map_err(|refused| {
-            let asked = Asked {
-                vars: self.record.vars,
-                publics: wires.public_vars(),
-                width: width::<WIDTH>(),
-                queries: QueryAnswerPair::cells(&self.queries).to_vec(),
-                equations: LinearEquation::of_words(&self.equations),
-            };
-            InvalidRelation::new(refused, asked.message(refused))
-        })?;
-        let (queries, equations) = (self.queries.clone(), self.equations.clone());
-        let label = label.to_owned();
-        Ok(PermutationInstance::new(
-            label, record, publics, queries, equations,
-        ))
+        let gate = crate::compile(record, held, &mut publics, scratch);
+        match gate.accepted().map(|parts| parts.instance) {
+            Ok(record) => {
+                let (label, queries) = (label.to_owned(), self.queries);
+                let made =
+                    PermutationInstance::new(label, record, publics, queries, self.equations);
+                Ok(made)
+            }
+            Err(refused) => Err(InvalidRelation::new(refused, self.message(refused))),
+        }
+    }
+
+    /// What the source says where the gate is refused.
+    fn message(&self, refused: Refused) -> String {
+        let asked = Asked {
+            vars: self.slots.len() as u32,
+            publics: public_vars(&self.slots),
+            width: width::<WIDTH>(),
+            queries: QueryAnswerPair::cells(&self.queries).to_vec(),
+            equations: LinearEquation::of_words(&self.equations),
+        };
+        asked.message(refused)
     }
 }
 
@@ -259,23 +259,23 @@ impl<const WIDTH: usize> PermutationRelation<BabyBearUnit, WIDTH> {
     ///
     /// # Panics
     ///
-    /// Where there would be more than [`FieldVar::MAX_COUNT`] wires; nothing is recorded then.
+    /// Where there would be more than [`FieldVar::MAX_COUNT`] wires, and as
+    /// [`add_permutation`](Self::add_permutation); the output then stays allocated.
     pub fn allocate_permutation(&self, input: &[FieldVar; WIDTH]) -> [FieldVar; WIDTH] {
-        let minted = {
-            let mut lists = self.lists.lock();
-            lists.allocate_permutation(&mut self.allocator.lock(), input)
-        };
-        let first = minted.unwrap_or_else(|refused| refuse_wires(refused));
-        array::from_fn(|i| first.nth(i as u32))
+        let output = self.allocate_vars();
+        self.add_permutation(*input, output);
+        output
     }
 
     /// Records that `input` becomes `output`; wires that aren't allocated are taken.
+    ///
+    /// # Panics
+    ///
+    /// Where an index is [`FieldVar::MAX_COUNT`] or more, or queries would take more than 2^30 words;
+    /// nothing is recorded then.
     pub fn add_permutation(&self, input: [FieldVar; WIDTH], output: [FieldVar; WIDTH]) {
         let pair = QueryAnswerPair::new(input, output);
-        let recorded = {
-            let mut lists = self.lists.lock();
-            lists.add_permutation(&self.allocator.lock(), &pair)
-        };
+        let recorded = self.lists.lock().add_permutation(&pair);
         recorded.unwrap_or_else(|refused| refuse(refused));
     }
 
@@ -283,6 +283,11 @@ impl<const WIDTH: usize> PermutationRelation<BabyBearUnit, WIDTH> {
     ///
     /// [`compile`](Self::compile) refuses it where a wire whose weight isn't 0 is neither in a query
     /// nor public.
+    ///
+    /// # Panics
+    ///
+    /// Where an index is [`FieldVar::MAX_COUNT`] or more, a weight or the image p or more, or equations
+    /// would take more than 2^30 words; nothing is stated then.
     pub fn add_equation(&self, terms: impl Into<Sum<BabyBearUnit>>, image: BabyBearUnit) {
         let terms = terms.into();
         let stated = self.lists.lock().add_equation(terms.terms(), image);
@@ -312,8 +317,17 @@ impl<const WIDTH: usize> PermutationRelation<BabyBearUnit, WIDTH> {
     /// Refused with 13 where a query, with 14 where an equation names a wire that isn't allocated;
     /// with 15 where an equation weights one, but by 0, that is neither in a query nor public.
     pub fn compile(&self) -> Result<PermutationInstance<BabyBearUnit, WIDTH>, InvalidRelation> {
-        let mut lists = self.lists.lock();
-        lists.compile(&self.allocator.lock(), &self.label)
+        let snapshot = {
+            let (lists, wires) = (self.lists.lock(), self.allocator.lock());
+            Snapshot {
+                slots: wires.slots().to_vec(),
+                assigned: wires.assigned,
+                queries: lists.queries.clone(),
+                equations: lists.equations.clone(),
+                stated: lists.record,
+            }
+        };
+        snapshot.compile(&self.label)
     }
 }
 

@@ -26,19 +26,13 @@ impl<P: Permutation<WIDTH>, const WIDTH: usize> Clone for PermutationWitnessBuil
     }
 }
 
-impl<P, const WIDTH: usize> From<P> for PermutationWitnessBuilder<P, WIDTH>
-where
-    P: Permutation<WIDTH, U = BabyBearUnit>,
-{
+impl<P: Permutation<WIDTH>, const WIDTH: usize> From<P> for PermutationWitnessBuilder<P, WIDTH> {
     fn from(permutation: P) -> Self {
         Self::new(permutation)
     }
 }
 
-impl<P, const WIDTH: usize> PermutationWitnessBuilder<P, WIDTH>
-where
-    P: Permutation<WIDTH, U = BabyBearUnit>,
-{
+impl<P: Permutation<WIDTH>, const WIDTH: usize> PermutationWitnessBuilder<P, WIDTH> {
     /// A builder without steps.
     pub fn new(permutation: P) -> Self {
         Self {
@@ -52,6 +46,24 @@ where
         &self.permutation
     }
 
+    /// The steps so far.
+    #[must_use]
+    pub fn trace(&self) -> Vec<QueryAnswerPair<P::U, WIDTH>> {
+        self.trace.lock().clone()
+    }
+
+    /// The witness of the steps so far.
+    #[must_use]
+    pub fn snapshot(&self) -> PermutationWitness<P::U, WIDTH> {
+        let trace = self.trace();
+        PermutationWitness { trace }
+    }
+}
+
+impl<P, const WIDTH: usize> PermutationWitnessBuilder<P, WIDTH>
+where
+    P: Permutation<WIDTH, U = BabyBearUnit>,
+{
     /// Has a step appended, and answers its output.
     fn append(
         &self,
@@ -71,6 +83,10 @@ where
     /// Evaluates the permutation and records the step.
     ///
     /// Where it has [`parameters`](Permutation::parameters), the proved call evaluates it.
+    ///
+    /// # Panics
+    ///
+    /// As [`add_permutation`](Self::add_permutation), and where the parameters are refused by 17.
     pub fn allocate_permutation(&self, input: &[BabyBearUnit; WIDTH]) -> [BabyBearUnit; WIDTH] {
         let Some(params) = self.permutation.parameters() else {
             let output = self.permutation.permute(input);
@@ -82,22 +98,13 @@ where
     }
 
     /// Records a step, which isn't evaluated.
+    ///
+    /// # Panics
+    ///
+    /// Where a unit is p or more, or steps would take more than 2^30 words; nothing is recorded then.
     pub fn add_permutation(&self, input: &[BabyBearUnit; WIDTH], output: &[BabyBearUnit; WIDTH]) {
         let appended = self.append(|rec, trace| crate::append_step(rec, trace, input, output));
         appended.unwrap_or_else(|refused| refuse(refused));
-    }
-
-    /// The steps so far.
-    #[must_use]
-    pub fn trace(&self) -> Vec<QueryAnswerPair<BabyBearUnit, WIDTH>> {
-        self.trace.lock().clone()
-    }
-
-    /// The witness of the steps so far.
-    #[must_use]
-    pub fn snapshot(&self) -> PermutationWitness<BabyBearUnit, WIDTH> {
-        let trace = self.trace();
-        PermutationWitness { trace }
     }
 }
 
