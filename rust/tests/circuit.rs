@@ -105,9 +105,9 @@ fn traces_grow_as_needed() {
     assert_eq!(PermutationWitness::from_bytes(&bytes), Ok(witness));
 }
 
-/// A query of a relation names wires that have no slot, and another relation on the same allocator gives them some.
+/// A query of a relation names wires that nobody has allocated, and another relation on the same allocator does so later.
 #[test]
-fn stray_cells_are_counted_once_they_have_slots() {
+fn wires_that_another_relation_allocates_are_bound_by_queries_before_it() {
     let relation = Relation::<1>::new();
     let other = Relation::<3>::with_allocator(relation.allocator().clone());
     let far = FieldVar(1000);

@@ -28,7 +28,7 @@
 //! written, read and judged goes through proved calls of this crate. This module isn't proved: it grows
 //! the stores that are lent to them, turns their lists into the source's, and their refusals into the
 //! source's panics and errors. Of a permutation of the user's own it asks itself whether each step is an
-//! evaluation, and puts the rest of the check together of two calls.
+//! evaluation, and puts the rest of the check together of set lists and a check of the equations.
 //!
 //! # What is otherwise than in the source
 //!
