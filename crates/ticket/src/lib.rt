@@ -1,4 +1,4 @@
-// A ticket line of the scale house (document 02, R-1 and R-8): which wire it names and how many grams, and grams as steps.
+// A ticket line of the scale house (document 02, R-1): which wire it names and how many grams, and grams as steps.
 //
 // Of a line the byte between the numbers and the last one are looked at first, and then each column once, from the left:
 // blanks, then digits that do not begin with 0, and in the last column a digit. Every open function answers on every input.
@@ -43,13 +43,12 @@ enum Column {
     Bad,
 }
 
-// Grams as steps of 50 g: the nearest count, and where two are as near, the even one.
+// Grams as steps.
 pub fn grams_to_steps(grams: u64) -> u64
     ensures { result ≡ grams_to_steps grams }
 {
     let whole = grams / 50;
-    // Just half a step is dropped where the whole ones are even, and counts where they are odd.
-    if grams % 50 + whole % 2 <= 25 {
+    if grams % 50 < 25 {
         return whole;
     }
     whole + 1

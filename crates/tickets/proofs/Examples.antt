@@ -33,19 +33,19 @@ pub record Example (width : ℕ) (text : List ℕ) (outcome : Outcome) (accepted
   pub leaves : set_tickets_slots (relation width 3 0 0 0 0) (slots unassigned unassigned) text ≡ slots one two
 
 pub record Examples : Type 0 where
-  -- 25 g is 0 steps, and 100,663,296,025 g are p − 1
-  pub both : Example 1 (line 1 25 ++ line 2 100663296025) Accepted 2 2 0 2013265920
+  -- 25 g is 1 step, and 100,663,296,024 g are p − 1
+  pub both : Example 1 (line 1 25 ++ line 2 100663296024) Accepted 2 2 1 2013265920
   -- one gram more is 41, but not where the wire is 3
-  pub too_much : Example 1 (line 1 25 ++ line 2 100663296026) (Refused 41) 1 1 0 unassigned
-  pub too_wide : Example 1 (line 1 26 ++ line 9999999999 999999999999) (Refused 3) 1 1 1 unassigned
+  pub too_much : Example 1 (line 1 25 ++ line 2 100663296025) (Refused 41) 1 1 1 unassigned
+  pub too_wide : Example 1 (line 1 25 ++ line 9999999999 999999999999) (Refused 3) 1 1 1 unassigned
   -- a text that is cut short: 40 when that line is reached, and not before
-  pub cut : Example 1 (line 1 26 ++ (32 ∷ [])) (Refused 40) 1 1 1 unassigned
+  pub cut : Example 1 (line 1 25 ++ (32 ∷ [])) (Refused 40) 1 1 1 unassigned
   pub reached : Example 1 (line 3 25 ++ (32 ∷ [])) (Refused 7) 0 0 unassigned unassigned
-  -- the same count again is repeated, and another is refused: 75 g and 125 g are 2 steps, and one gram more is 3
-  pub again : Example 1 (line 1 75 ++ line 1 125) Accepted 2 1 2 unassigned
-  pub other : Example 1 (line 1 75 ++ (line 1 126 ++ line 2 25)) (Refused 8) 1 1 2 unassigned
+  -- the same count again is repeated, and another is refused
+  pub again : Example 1 (line 1 25 ++ line 1 74) Accepted 2 1 1 unassigned
+  pub other : Example 1 (line 1 25 ++ (line 1 75 ++ line 2 25)) (Refused 8) 1 1 1 unassigned
   -- wire 0 with 0 is repeated; nothing is counted past the refused line
-  pub zero-wire : Example 1 (line 0 25 ++ (line 2 26 ++ (line 0 26 ++ line 1 25))) (Refused 8) 2 1 unassigned 1
+  pub zero-wire : Example 1 (line 0 0 ++ (line 2 25 ++ (line 0 25 ++ line 1 25))) (Refused 8) 2 1 unassigned 1
   -- no text, and a width that 1 turns away
   pub none : Example 1 [] Accepted 0 0 unassigned unassigned
   pub widthless : Example 0 (line 1 25) (Refused 1) 0 0 unassigned unassigned

@@ -1,12 +1,11 @@
--- What a ticket line's number and its pair say, that the lines which a call counts are tickets' lines, and what the lines of a
--- text come to beside a set list of their pairs: up to the first that is no ticket's, where 40 ends the run. Assumes nothing.
-use Prim.Native.Nat.{ℕ, zero, suc, ◌<◌}
-use mathlib.Core.Path.{◌≡◌, refl, sym, ap}
+-- What a ticket line's number says, that the lines which a call counts are tickets' lines, and what the lines of a text
+-- come to beside a set list of their pairs: up to the first that is no ticket's, where 40 ends the run. Assumes nothing.
+use Prim.Native.Nat.{ℕ, zero, suc}
+use mathlib.Core.Path.{◌≡◌, refl, ap}
 use mathlib.Core.Bool.{Bool, true, false, false≢true}
 use mathlib.Core.Logic.{◌↔◌}
 use mathlib.Core.List.{List, [], ◌∷◌, ◌++◌, map}
 use native.Mathlib.Omega.{arith}
-use borrow.Author.Tests.{ltb-true, ltb-false, lt-ltb, le-ltb}
 use lib.Dec.{eqb, ltb}
 use lib.ListN.{length, take}
 use Rattle.limits.specs.Numbers.{prime, max_count}
@@ -17,12 +16,10 @@ use Rattle.allocator.proofs.Run.{accepted-all}
 use Rattle.permutation.specs.Relation.{relation_asks}
 use Rattle.permutation.specs.declared.PermutationRelation.{PermutationRelation}
 use Rattle.ticket.specs.Form.{Of, read_line}
-use Rattle.ticket.specs.Steps.{Nearest}
 use Rattle.ticket.specs.declared.Ticket.{Ticket}
 use Rattle.ticket.specs.declared.Line.{Line}
 use Rattle.ticket.specs.declared.Line.TheVariants as line
-use Rattle.ticket.proofs.Form.{of-read, read_of, bad-iff}
-use Rattle.ticket.proofs.Steps.{steps-nearest, steps-past}
+use Rattle.ticket.proofs.Form.{read_of, bad-iff}
 use Rattle.tickets.specs.Lines.{lines_of, is_ticket, ticket_pair, line_pair, ticket_asks, line_no}
 use Rattle.tickets.specs.Tickets.{set_tickets_run, set_tickets}
 
@@ -51,32 +48,6 @@ line-40 n slots bytes = (
       (ltb (line_pair bytes).var n) (slot_takes slots (line_pair bytes)) e)),
   λ f. let b : read_line bytes ≡ line.Bad = (bad-iff bytes).1 f in rw b,
 )
-
--- ---- of a ticket's line 41 is answered exactly where its wire is below 2^30 and its grams are above 100,663,296,025
-forty-one : (wire steps held takes : Bool)
-    → (ask 3 wire ▸ (ask 41 steps ▸ (ask 7 held ▸ (ask 8 takes ▸ 0))) ≡ 41) ↔ ((wire ≡ true) × (steps ≡ false))
-unfolding ask ◌▸◌
-forty-one true false d e = (λ z. (refl, refl), λ p. refl)
-forty-one true true true true = (λ z. absurd (omega arith), λ p. absurd (false≢true (sym p.1)))
-forty-one true true true false = (λ z. absurd (omega arith), λ p. absurd (false≢true (sym p.1)))
-forty-one true true false e = (λ z. absurd (omega arith), λ p. absurd (false≢true (sym p.1)))
-forty-one false c d e = (λ z. absurd (omega arith), λ p. absurd (false≢true p.0))
-
-pub line-41 : (n : ℕ) (slots bytes : List ℕ) (t : Ticket) → Of t bytes
-    → (line_no n slots bytes ≡ 41) ↔ ((t.wire < max_count) × (100663296025 < t.grams))
-unfolding line_no ask ◌▸◌
-line-41 n slots bytes t o =
-    let r : read_line bytes ≡ line.Of t = of-read t bytes o in
-    let p = ticket_pair (line.Of t) in
-    let asked = forty-one (ltb p.var max_count) (ltb p.value prime) (ltb p.var n) (slot_takes slots p) in
-    rw r (
-      λ z. let b = asked.0 z in (ltb-true _ _ b.0, (steps-past t.grams).0 (ltb-false _ _ b.1)),
-      λ b. asked.1 (lt-ltb _ _ b.0, le-ltb _ _ ((steps-past t.grams).1 b.1)),
-    )
-
--- ---- a ticket's line sets the steps nearest to its grams
-pub line-nearest : (bytes : List ℕ) (t : Ticket) → Of t bytes → Nearest t.grams (line_pair bytes).value
-line-nearest bytes t o = (steps-nearest t.grams _).0 (ap (λ (r : Line). (ticket_pair r).value) (of-read t bytes o))
 
 -- ---- the lines that are counted are tickets' lines, and set what they say
 pub record Counted (bytes : List ℕ) : Type 0 where

@@ -36,19 +36,19 @@ pub const VARS: [u64; 12] = [
 /// grams or steps are as many as a word has values.
 pub const GRAMS: [u64; 18] = [
     0,
+    24,
     25,
-    26,
     74,
     75,
-    125,
+    100,
     u32::MAX as u64,
     1 << 32,
     10_000_000_000,
     99_999_999_999,
     50 * (P as u64 - 1) - 26,
     50 * (P as u64 - 1) - 25,
+    50 * (P as u64 - 1) + 24,
     50 * (P as u64 - 1) + 25,
-    50 * (P as u64 - 1) + 26,
     50 << 32,
     (50 << 32) + 25,
     500_000_000_000,
@@ -63,17 +63,14 @@ pub fn line(var: u64, grams: u64) -> Vec<u8> {
     format!("{var:>10} {grams:>12}\n").into_bytes()
 }
 
-/// Grams that are so many steps: the first, the last or any of them. Half a step goes to an even
-/// count on either side.
+/// Grams that are so many steps: the first, the last or any of them.
 pub fn grams(rng: &mut Rng, steps: u32) -> u64 {
-    let middle = 50 * u64::from(steps);
-    let reach = if steps % 2 == 0 { 25 } else { 24 };
-    let (first, last) = (middle.saturating_sub(reach), middle + reach);
-    match rng.below(3) {
-        0 => first,
-        1 => last,
-        _ => rng.between(first as usize, last as usize) as u64,
-    }
+    let within = match rng.below(3) {
+        0 => 0,
+        1 => 49,
+        _ => rng.below(50) as u64,
+    };
+    (50 * u64::from(steps) + within).saturating_sub(25)
 }
 
 /// A fault in where lines begin and end, or in a column of one line.

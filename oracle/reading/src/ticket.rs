@@ -1,6 +1,4 @@
-//! Weigh tickets (document 02, R-1 and R-8): a text whose lines each set a wire to a count of steps.
-
-use std::cmp::Ordering;
+//! Weigh tickets (document 02, R-1): a text whose lines each set a wire to a count of steps.
 
 use crate::{
     allocator::{count_fresh, set_slot},
@@ -58,12 +56,12 @@ fn columns(line: &[u8]) -> Option<(u64, u64)> {
     (format!("{var:>10} {grams:>12}\n") == text).then_some((var, grams))
 }
 
-/// Grams in steps of 50 g: the nearer of the counts below and above them, and halfway the even one.
+/// Grams in steps of 50 g, halves up.
 fn steps(grams: u64) -> u64 {
-    let (below, rest) = (grams / 50, grams % 50);
-    match rest.cmp(&(50 - rest)) {
-        Ordering::Less => below,
-        Ordering::Equal => below.next_multiple_of(2),
-        Ordering::Greater => below + 1,
+    let (whole, rest) = (grams / 50, grams % 50);
+    if rest < 25 {
+        whole
+    } else {
+        whole + 1
     }
 }

@@ -79,7 +79,7 @@ fn set(slots: &mut [u32], line: &[u8]) -> Result<bool, u32> {
     if var >= u64::from(sfr::MAX_COUNT) {
         return Err(3);
     }
-    let steps = (grams + 24 + grams / 50 % 2) / 50;
+    let steps = (grams + 25) / 50;
     if steps >= u64::from(sfr::PRIME) {
         return Err(41);
     }

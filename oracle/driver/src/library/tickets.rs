@@ -1,7 +1,7 @@
 //! `tickets`: the proved library's ticket texts beside the second reading: lines and all that
 //! lies one byte beside them, cuts, limits, and random texts on what lists of calls make.
 
-use reading::{P, TICKET_LINE};
+use reading::TICKET_LINE;
 
 use super::{relation::Pair, side};
 use crate::{
@@ -26,7 +26,7 @@ pub fn run(options: &Options) -> bool {
     line.inspect(|line| println!("{line}")).is_some()
 }
 
-/// Texts that every run has, among them all grams of the first four steps and around p - 1.
+/// Texts that every run has.
 fn fixed(seen: &mut Seen) -> Compared {
     for var in VARS {
         for grams in GRAMS {
@@ -35,10 +35,6 @@ fn fixed(seen: &mut Seen) -> Compared {
                 text(&[other.into_bytes()], seen)?;
             }
         }
-    }
-    let most = 50 * (u64::from(P) - 1);
-    for grams in (0..=200).chain(most - 100..=most + 100) {
-        text(&[line(1, grams)], seen)?;
     }
     for (i, &grams) in GRAMS.iter().enumerate() {
         beside(&line(VARS[i % VARS.len()], grams), seen)?;
@@ -105,7 +101,7 @@ fn text(lines: &[Vec<u8>], seen: &mut Seen) -> Compared {
 /// but for the last one. That is expected without the second reading, which would take long.
 pub fn long() -> Compared {
     let lines = (1 << 32) / TICKET_LINE + 2;
-    let mut text = line(0, 25).repeat(lines);
+    let mut text = line(0, 24).repeat(lines);
     text.truncate((lines - 1) * TICKET_LINE);
     text.extend(line(1, 150));
     let mut state = State::sized(2, 0, 0);

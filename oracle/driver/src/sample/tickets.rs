@@ -38,8 +38,8 @@ impl Sample {
         self.ticket([&lines[..23], b"\r\n", &lines[24..]].concat());
         self.ticket([&lines[..24], b"\n", &lines[24..]].concat());
         // The same steps again and other ones; a line out of form after a refused one.
-        self.ticket([line(1, 75), line(1, 125), lines.clone()].concat());
-        self.ticket([line(2, 50), line(0, 26), b"00\n".to_vec()].concat());
+        self.ticket([line(1, 75), line(1, 124), lines.clone()].concat());
+        self.ticket([line(2, 50), line(0, 25), b"00\n".to_vec()].concat());
         for (width, vars_count) in [(0, 4), (25, 0), (1, 0), (24, 5), (1, 9)] {
             let mut state = fresh(8);
             (state.rel.width, state.rel.vars_count) = (width, vars_count);
