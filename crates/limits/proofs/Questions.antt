@@ -145,8 +145,11 @@ pub ruleset puts = (here, there, puts-after)
 
 -- accepted: a question that is put says yes, wherever it stands
 pub puts-yes : (qs : List Question) → first_no qs ≡ 0 → (k : ℕ) (says : Bool) → T (ltb 0 k) → Puts k says qs → says ≡ true
-puts-yes qs e k says t here = first_says k says t (both _ _ e).0
-puts-yes qs e k says t (there {qs = rest} p) = puts-yes rest (both _ _ e).1 k says t p
+puts-yes qs e k says t p = go qs e p
+  where
+    go : (qs : List Question) → first_no qs ≡ 0 → Puts k says qs → says ≡ true
+    go qs e here = first_says k says t (both _ _ e).0
+    go qs e (there {qs = rest} p) = go rest (both _ _ e).1 p
 
 -- and where each says yes, nothing is answered
 pub says-accepted : (qs : List Question) → ((i : ℕ) → says_at qs i ≡ true) → first_no qs ≡ 0

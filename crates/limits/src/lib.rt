@@ -4,6 +4,8 @@
 // code the questions are a chain: each takes the number that was answered before it (0 for none yet), and
 // an earlier no stays.
 
+#![tactic(auto)]
+
 ghost use Rattle.std.specs.Prelude.{◌≡◌};
 ghost use Rattle.limits.specs.Questions.{◌▸◌, ask, first_no};
 ghost use Rattle.limits.specs.Asks.{width_asks, store_asks, count_asks};
