@@ -2,6 +2,8 @@
 //
 // Each function is total and says what every word of the store is afterwards.
 
+#![tactic(auto)]
+
 ghost use Rattle.std.specs.Prelude.{◌≡◌, length, replicate, leb};
 ghost use Rattle.limits.specs.Questions.{◌▸◌, ask, first_no};
 ghost use Rattle.words.specs.Store.{all_below, fit_words};

@@ -8,25 +8,18 @@ use Rattle.limits.proofs.Product.{below}
 use Rattle.limits.proofs.Questions.{▸-zero}
 use Rattle.words.proofs.Pieces.{one-more-fits, one-more-below}
 use borrow.Author.Rules.{rules}
-use Rattle.words.proofs.asked_one_more.Statement.{statement}
-use Rattle.words.proofs.asked_one_more.Tie as tie
+use Rattle.words.proofs.asked_one_more.Goals as goal
 
-mul-wanted : tie.Need-overflow-mul-wanted
-mul-wanted c = record { fits = below 32 (search rules) (search rules) }
+pub overflow_mul-wanted : goal.overflow_mul-wanted
+overflow_mul-wanted c = record { fits = below 32 (search rules) (search rules) }
 
-add-wanted : tie.Need-overflow-add-wanted
-add-wanted c =
+pub overflow_add-wanted : goal.overflow_add-wanted
+overflow_add-wanted c =
     let a = c.args in
     record { fits = one-more-below a.width a.n (search rules) (search rules) }
 
-asked-requires : tie.Need-asked-requires
-asked-requires c κs = search rules
-
-returns : tie.Need-returns
+pub returns : goal.returns
 returns c =
-    let a = c.before.args in
+    let a = c.args in
     let asked : c.asked.result ≡ (a.no ▸ ask 10 (leb (a.n * a.width + a.width) (a.len / 2))) = c.asked.ensures in
     rw (asked, one-more-fits a.width a.n a.len, ▸-zero)
-
-pub asked-one-more-spec : {M : Type 1} → statement M
-asked-one-more-spec = tie.close (tie.spec mul-wanted add-wanted asked-requires returns)
