@@ -4,6 +4,8 @@
 // no value yet. The functions here are what the calls on a relation are made of: questions on count and
 // slots, one wire set, a list of wires set, more wires. Each answers on every input.
 
+#![tactic(auto)]
+
 ghost use Rattle.std.specs.Prelude.{◌≡◌};
 ghost use Rattle.limits.specs.Questions.{◌▸◌, first_no};
 ghost use Rattle.allocator.specs.Slots.{slots_asks, grow_asks, wire_asks, pair, pairs, set_run};
@@ -14,11 +16,11 @@ use limits::{MAX_COUNT, P, UNASSIGNED};
 
 // A wire of a relation: a plain index. Wire 0 is the one that every relation assigns the value zero.
 #[repr(C)]
-#[derive(Drop)]
+#[derive(Clone, Copy)]
 pub struct FieldVar(pub u32);
 
 // The value of a wire, as the word that its slot holds.
-#[derive(Drop)]
+#[derive(Clone, Copy)]
 pub enum VarValue {
     Value(u32),
     Nothing,
@@ -26,7 +28,7 @@ pub enum VarValue {
 }
 
 // What setting one wire answers: fresh where its slot was unassigned just before, repeated where it held that value.
-#[derive(Drop)]
+#[derive(Clone, Copy)]
 pub enum Set {
     Fresh,
     Repeated,
@@ -35,7 +37,7 @@ pub enum Set {
 
 // How far pairs were set in turn: the number of the first refused one, or 0, how many were accepted, and how many of
 // those were fresh.
-#[derive(Drop)]
+#[derive(Clone, Copy)]
 pub struct SetPairs {
     pub number: u32,
     pub accepted: usize,

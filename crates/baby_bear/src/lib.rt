@@ -3,6 +3,8 @@
 // What comes out of a sum or a product is below p. What goes in may be any u32: it counts as what it leaves
 // modulo p.
 
+#![tactic(auto)]
+
 ghost use Rattle.std.specs.Prelude.{◌≡◌, max};
 ghost use Rattle.baby_bear.specs.Field.{add_unit, mul_unit, seventh, are_units};
 
@@ -16,7 +18,7 @@ pub const HALF_LEAVES: u64 = 268435454;
 
 // A unit of the field, as a word (the source's `BabyBearUnit`); a caller may put any u32 into it.
 #[repr(C)]
-#[derive(Drop)]
+#[derive(Clone, Copy)]
 pub struct BabyBearUnit(pub u32);
 
 // The sum modulo p (the source's `Ring::add`).

@@ -7,6 +7,8 @@
 // (proofs/Lists.antt). Gate, writes, reads and check need no function here: history/specs/Whole is written with the very
 // definitions that the contracts of `compile`, `encoding`, `decoding` and `validity` cite.
 
+#![tactic(auto)]
+
 ghost use Rattle.allocator.specs.Slots.{pair};
 ghost use Rattle.history.specs.Calls.{Allocate, Set, SetList, Record, Mint, Equate, Tickets, WithdrawQuery, WithdrawEquation, of_outcome, of_first, of_set, of_set_vars, of_set_tickets};
 ghost use Rattle.calls.specs.Performs.{StartsSlots, OnSlots, OnQueries, OnSlotsQueries, OnEquations};

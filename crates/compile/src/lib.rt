@@ -4,6 +4,8 @@
 // store has a word per slot, and of the instance 16 and 12 to 15, where 13 and 15 are by the use counts (a read walks its
 // queries for them). Every open function answers on every input.
 
+#![tactic(auto)]
+
 ghost use Rattle.std.specs.Prelude.{◌≡◌, ◌≤◌, length};
 ghost use Rattle.limits.specs.Numbers.{max_count};
 ghost use Rattle.limits.specs.Questions.{◌▸◌, first_no};
@@ -14,7 +16,7 @@ use limits::{LABEL_END, MAX_COUNT, Outcome, UNASSIGNED};
 use permutation::PermutationRelation;
 
 // The gate's answer; a refused one has an instance of zeros.
-#[derive(Drop)]
+#[derive(Clone, Copy)]
 pub struct Compiled {
     pub outcome: Outcome,
     pub instance: PermutationInstance,

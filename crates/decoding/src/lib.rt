@@ -5,6 +5,8 @@
 // A store that is read into has 0 behind what was read, and is all 0 where a read refuses. Every open function answers on every
 // input.
 
+#![tactic(auto)]
+
 ghost use Rattle.std.specs.Prelude.{◌≡◌};
 ghost use Rattle.decoding.specs.Given.{file_number_of};
 
@@ -20,14 +22,14 @@ pub use sfrw::witness_from_bytes;
 
 // Where a part of the bytes lies.
 #[repr(C)]
-#[derive(Drop)]
+#[derive(Clone, Copy)]
 pub struct Span {
     pub at: usize,
     pub len: usize,
 }
 
 // What a read of an instance answers: its record, and where its label lies; zeros where it was refused.
-#[derive(Drop)]
+#[derive(Clone, Copy)]
 pub struct InstanceRead {
     pub outcome: Outcome,
     pub instance: PermutationInstance,
@@ -35,7 +37,7 @@ pub struct InstanceRead {
 }
 
 // The same with the label itself: the part of the bytes that holds it.
-#[derive(Drop)]
+#[derive(Clone, Copy)]
 pub struct InstanceFile<'a> {
     pub outcome: Outcome,
     pub instance: PermutationInstance,
@@ -43,7 +45,7 @@ pub struct InstanceFile<'a> {
 }
 
 // What a read of a witness answers: the number of steps, 0 where it was refused.
-#[derive(Drop)]
+#[derive(Clone, Copy)]
 pub struct WitnessRead {
     pub outcome: Outcome,
     pub steps: u32,
@@ -51,7 +53,7 @@ pub struct WitnessRead {
 
 // What a reader of label and parts answers: what an accepted read does, and the cursor past them; or the number of the
 // question that said no.
-#[derive(Drop)]
+#[derive(Clone, Copy)]
 enum FileRead {
     Read(InstanceRead, Cursor),
     Refused(u32),

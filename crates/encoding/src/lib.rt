@@ -10,6 +10,8 @@
 // Numbers are little-endian. A write leaves what lies past its bytes as it was, and a refused one changes
 // nothing. Every open function answers on every input.
 
+#![tactic(auto)]
+
 use limits::Outcome;
 
 mod put;
@@ -20,7 +22,7 @@ pub use sfri::instance_to_bytes;
 pub use sfrw::witness_to_bytes;
 
 // What a write answers: how many bytes it wrote, 0 where it was refused.
-#[derive(Drop)]
+#[derive(Clone, Copy)]
 pub struct Written {
     pub outcome: Outcome,
     pub len: usize,

@@ -4,6 +4,8 @@
 // Terms are lent as a list of records, `Weighted`, in order; repeats and zero weights are kept. Each function
 // is total and says what it answers and what every word and record lent is afterwards.
 
+#![tactic(auto)]
+
 ghost use Rattle.std.specs.Prelude.{◌≡◌, map, ◌+◌, ◌≤◌, ◌<◌, leb, ltb, length, set};
 ghost use Rattle.std.proofs.lemmas.List.Edits.{sets};
 ghost use Rattle.limits.specs.Numbers.{prime, word_end};
@@ -17,7 +19,7 @@ use limits::{MAX_COUNT, Outcome, P, WORD_END};
 
 // A wire scaled by a constant: weight · var.
 #[repr(C)]
-#[derive(Drop)]
+#[derive(Clone, Copy)]
 pub struct Weighted {
     pub var: FieldVar,
     pub weight: BabyBearUnit,

@@ -5,6 +5,8 @@
 // Its numbers are here for what writes (crate `encoding`) and what reads (crate `decoding`), and so is what a
 // reader of a field answers. Every open function answers on every input.
 
+#![tactic(auto)]
+
 ghost use Rattle.std.specs.Prelude.{◌≡◌};
 ghost use Rattle.header.specs.Read.{read_header};
 ghost use Rattle.header.specs.Form.{is_magic};
@@ -30,7 +32,7 @@ pub const HEADER_LENGTH: usize = 13;
 
 // What a reader of a field or a part answers: two numbers (a count and how many words the part takes in its store; a
 // wire and a unit; a length or a word, and 0), and the cursor past it; or the number of the question that said no.
-#[derive(Drop)]
+#[derive(Clone, Copy)]
 pub enum Field {
     Read(u32, u32, Cursor),
     Refused(u32),

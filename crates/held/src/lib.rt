@@ -5,6 +5,8 @@
 // as in the definitions, so that each function here answers on every input; where the counts fit, as 2 asks,
 // none are lacking.
 
+#![tactic(auto)]
+
 ghost use Rattle.std.specs.Prelude.{◌≡◌, [], ◌∷◌, ◌+◌, ◌*◌, ◌≤◌, length, take, drop, get_or};
 ghost use Rattle.limits.specs.Questions.{◌▸◌, ask, first_no};
 ghost use Rattle.words.specs.Pieces.{words_of};

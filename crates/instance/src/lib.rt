@@ -6,6 +6,8 @@
 // crates `held` (2 and 11) and `validated` (16, 12 to 15); the gate that makes an instance is the crate `compile`.
 // Every open function answers on every input.
 
+#![tactic(auto)]
+
 ghost use Rattle.std.specs.Prelude.{◌≡◌, ◌*◌, ◌≤◌, length};
 ghost use Rattle.allocator.specs.declared.VarValue.TheVariants.{Nothing};
 ghost use Rattle.instance.specs.Parts.{pairs_at};
@@ -16,7 +18,7 @@ use limits::MAX_COUNT;
 
 // An instance's record: a relation's, and the count of public pairs.
 #[repr(C)]
-#[derive(Drop)]
+#[derive(Clone, Copy)]
 pub struct PermutationInstance {
     pub width: u32,
     pub vars: u32,

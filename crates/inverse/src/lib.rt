@@ -3,6 +3,8 @@
 // The matrix is inverted once a call, then the rounds are undone, the last one first: the inverse times the state,
 // the 7th root of all elements or of the first, the constants taken away.
 
+#![tactic(auto)]
+
 ghost use Rattle.std.specs.Prelude.{◌≡◌};
 ghost use Rattle.limits.specs.Questions.{first_no};
 ghost use Rattle.inverse.specs.Answers.{permute_inverse_front, permute_inverse_no, permute_inverted, StateBehind};

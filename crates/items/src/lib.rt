@@ -5,6 +5,8 @@
 // item has been read. The store then has the items' words, and 0 to its end; all 0 where the reader refuses. Every open
 // function answers on every input.
 
+#![tactic(auto)]
+
 ghost use Rattle.std.specs.Prelude.{◌≡◌, ◌+◌, ◌≤◌, length, drop};
 ghost use Rattle.limits.specs.Numbers.{max_count, max_width};
 ghost use Rattle.words.specs.Pieces.{flat};

@@ -35,7 +35,7 @@ pub const MATRIX_WORDS: usize = 576;
 pub const LABEL_END: usize = 4294967296;
 
 // What a call answers that has no value to give.
-#[derive(Drop)]
+#[derive(Clone, Copy)]
 pub enum Outcome {
     Accepted,
     Refused(u32),

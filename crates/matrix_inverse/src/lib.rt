@@ -3,6 +3,8 @@
 // Row i says that v[i] is the sum over j of its words times u[j]. Unknown by unknown u[c] and v[c] are exchanged, in
 // place: a row is solved for u[c] and the solution put into the others. In the end the rows give u by v.
 
+#![tactic(auto)]
+
 ghost use Rattle.std.specs.Prelude.{◌≡◌};
 ghost use Rattle.matrix_inverse.specs.Words.{is_regular, inverted_words};
 

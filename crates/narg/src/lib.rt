@@ -3,6 +3,8 @@
 // A cursor is a place in lent bytes; it goes in and comes back by value and may stand anywhere, also past the
 // end. Every function answers on every input; what is refused writes nothing.
 
+#![tactic(auto)]
+
 ghost use Rattle.std.specs.Prelude.{◌≡◌, ◌+◌, ◌*◌, ◌-◌, ◌/◌, ◌≤◌, min, length, drop};
 ghost use Rattle.words.specs.Store.{put_words, fit_words};
 ghost use Rattle.narg.specs.Bytes.{u32_bytes, word4, word_in};
@@ -16,27 +18,27 @@ const WORD: usize = 4;
 const BYTE: u32 = 256;
 
 // A place in bytes.
-#[derive(Drop)]
+#[derive(Clone, Copy)]
 pub struct Cursor {
     pub at: usize,
 }
 
 // A word that was read, with the cursor past it.
-#[derive(Drop)]
+#[derive(Clone, Copy)]
 pub enum Word {
     Read(u32, Cursor),
     Short,
 }
 
 // What was written, with the cursor past it.
-#[derive(Drop)]
+#[derive(Clone, Copy)]
 pub enum Put {
     Written(Cursor),
     Full,
 }
 
 // An item that was read into a store, with the cursor past it; or its number.
-#[derive(Drop)]
+#[derive(Clone, Copy)]
 pub enum Item {
     Read(Cursor),
     Refused(u32),

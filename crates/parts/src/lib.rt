@@ -3,6 +3,8 @@
 //
 // Every open function answers on every input. A refused reader of parts leaves its stores all 0.
 
+#![tactic(auto)]
+
 ghost use Rattle.std.specs.Prelude.{◌≡◌, ◌+◌, ◌^◌, ◌<◌, length, drop, replicate};
 ghost use Rattle.limits.specs.Questions.{◌▸◌, ask, first_no};
 ghost use Rattle.instance.specs.Parts.{pairs_at};
@@ -16,7 +18,7 @@ use limits::MAX_COUNT;
 use narg::{Cursor, Word};
 
 // What a reader of the parts answers: the record, and the cursor past them; or the number of the question that said no.
-#[derive(Drop)]
+#[derive(Clone, Copy)]
 pub enum PartsRead {
     Read(PermutationInstance, Cursor),
     Refused(u32),

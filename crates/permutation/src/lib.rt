@@ -4,6 +4,8 @@
 // The record goes in and comes back by value; the slots are lent. Each call puts its questions first and acts only
 // where none says no, so a refusal changes nothing; the set list alone keeps the pairs that it accepted.
 
+#![tactic(auto)]
+
 ghost use Rattle.std.specs.Prelude.{◌≡◌, ◌++◌};
 ghost use Rattle.limits.specs.Outcome.{as_is};
 ghost use Rattle.limits.specs.Questions.{first_no};
@@ -20,7 +22,7 @@ use limits::{MAX_COUNT, Outcome, UNASSIGNED};
 // The relation's record: its width, the counts of wires, queries, equations and used equation words, and the stray
 // count, of the query cells that name wires beyond the slots.
 #[repr(C)]
-#[derive(Drop)]
+#[derive(Clone, Copy)]
 pub struct PermutationRelation {
     pub width: u32,
     pub vars: u32,
@@ -32,28 +34,28 @@ pub struct PermutationRelation {
 
 // What a call answers that allocates: the number of the first new wire. It is 2^30, which is no wire, where
 // no wires are asked for and none are left.
-#[derive(Drop)]
+#[derive(Clone, Copy)]
 pub enum First {
     Var(u32),
     Refused(u32),
 }
 
 // The outcome with the record beside it; a refused call gives the record back as it was.
-#[derive(Drop)]
+#[derive(Clone, Copy)]
 pub struct Recorded {
     pub outcome: Outcome,
     pub relation: PermutationRelation,
 }
 
 // The first new wire with the record beside it; a refused call gives the record back as it was.
-#[derive(Drop)]
+#[derive(Clone, Copy)]
 pub struct Allocated {
     pub first: First,
     pub relation: PermutationRelation,
 }
 
 // A set list's outcome, how many of its first pairs were accepted, and how many of those were fresh.
-#[derive(Drop)]
+#[derive(Clone, Copy)]
 pub struct SetVars {
     pub outcome: Outcome,
     pub accepted: u32,
@@ -61,7 +63,7 @@ pub struct SetVars {
 }
 
 // Whether a wire is allocated.
-#[derive(Drop)]
+#[derive(Clone, Copy)]
 pub enum IsAllocated {
     Yes,
     No,

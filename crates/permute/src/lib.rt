@@ -5,6 +5,8 @@
 // each a kind and w constants, then the w·w words of the matrix, row by row. Every function answers on every
 // input; what it answers is a definition of specs/.
 
+#![tactic(auto)]
+
 ghost use Rattle.std.specs.Prelude.{◌≡◌, ◌+◌, ◌≤◌, length};
 ghost use Rattle.limits.specs.Questions.{◌▸◌, ask};
 ghost use Rattle.words.specs.Pieces.{pieces};

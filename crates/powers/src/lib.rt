@@ -1,5 +1,7 @@
 // Powers of units by squaring.
 
+#![tactic(auto)]
+
 ghost use Rattle.std.specs.Prelude.{◌≡◌};
 ghost use Rattle.baby_bear.specs.Field.{mul_unit, power_unit};
 

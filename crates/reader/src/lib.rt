@@ -4,6 +4,8 @@
 // past it; `moved` is the reader at another place, which may be anywhere, also past the end. Every
 // function answers on every input. Those over a reader only take it apart: the work is done on bytes and a cursor.
 
+#![tactic(auto)]
+
 ghost use Rattle.std.specs.Prelude.{◌≡◌};
 ghost use Rattle.narg.specs.Cursor.{cursor, read_u32};
 ghost use Rattle.reader.specs.At.{part_at, place_at};
@@ -11,7 +13,7 @@ ghost use Rattle.reader.specs.At.{part_at, place_at};
 use narg::{Cursor, Word};
 
 // The input, and how far it is read.
-#[derive(Drop)]
+#[derive(Clone, Copy)]
 pub struct NargReader<'a> {
     pub bytes: &'a [u8],
     pub at: Cursor,

@@ -4,6 +4,8 @@
 // The record goes in and comes back by value; slots, queries, equations and use counts are lent. A call changes nothing
 // where a question says no: the use counts, which 11 is asked of, are the last to be asked and the first to be written.
 
+#![tactic(auto)]
+
 ghost use Rattle.std.specs.Prelude.{◌≤◌, ◌≡◌, ◌++◌};
 ghost use Rattle.limits.specs.Outcome.{as_is};
 ghost use Rattle.limits.specs.Numbers.{max_count};

@@ -27,6 +27,8 @@
 // printed for each operation, and last how many answers were replayed and how many are different. A fault of the sample,
 // as a case that is cut off, counts as a difference.
 
+#![tactic(auto)]
+
 mod answer;
 mod instances;
 mod leaves;

@@ -19,7 +19,7 @@ const PLACE: usize = 40;
 const KINDS: usize = 41;
 
 // What is at each place.
-#[derive(Drop)]
+#[derive(Clone, Copy)]
 pub(crate) struct Tally {
     of: [u64; KINDS],
 }

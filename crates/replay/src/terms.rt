@@ -41,7 +41,7 @@ fn take_terms(list: &[u32]) -> [Weighted; TERMS] {
 }
 
 // What the two calls on a list of terms answer.
-#[derive(Drop)]
+#[derive(Clone, Copy)]
 struct Equated {
     scaled: Outcome,
     recorded: Recorded,

@@ -3,6 +3,8 @@
 // A line for each example: its bytes, whether they are UTF-8 and the place of the first bad byte, as `scan_utf8`
 // answers (without one, their number), and what the bytes are; DIFFERENT stands at the end of a line where the RFC
 // says otherwise. The last line has the counts.
+#![tactic(auto)]
+
 ghost use Rattle.std.specs.Prelude.{◌≤◌};
 
 use libc::STDOUT_FILENO;

@@ -13,7 +13,7 @@ use permutation::PermutationRelation;
 
 // The gate's number with the instance's record, of zeros after a refusal.
 #[repr(C)]
-#[derive(Drop)]
+#[derive(Clone, Copy)]
 pub struct SfrInstanceAnswer {
     pub number: u32,
     pub instance: PermutationInstance,
@@ -55,7 +55,7 @@ pub extern "C" fn sfr_public_value(ins: PermutationInstance, publics: &[u32], va
 
 // The heading: the name where `named`, else the label, and its length.
 #[repr(C)]
-#[derive(Drop)]
+#[derive(Clone, Copy)]
 pub struct SfrHeading {
     pub named: bool,
     pub len: usize,

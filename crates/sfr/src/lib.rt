@@ -4,6 +4,8 @@
 // Each function here only hands its arguments on; what comes back is its own struct with the documents' number
 // first, 0 for yes. A lent list is a pointer and a count.
 
+#![tactic(auto)]
+
 ghost use Rattle.std.specs.Prelude.{◌≡◌, ◌↔◌, true};
 ghost use Rattle.baby_bear.specs.Field.{add_unit, mul_unit};
 ghost use Rattle.utf8.specs.Utf8.{is_utf8, Utf8};
@@ -23,7 +25,7 @@ mod trace;
 
 // The place of the first bad byte, or how many bytes there are where none is bad; and whether the bytes are UTF-8.
 #[repr(C)]
-#[derive(Drop)]
+#[derive(Clone, Copy)]
 pub struct SfrUtf8Scan {
     pub place: usize,
     pub passes: bool,
@@ -31,7 +33,7 @@ pub struct SfrUtf8Scan {
 
 // A word that was read: number 0 and the place after it, or 20, value 0 and the place that was given.
 #[repr(C)]
-#[derive(Drop)]
+#[derive(Clone, Copy)]
 pub struct SfrWord {
     pub number: u32,
     pub value: u32,
@@ -40,7 +42,7 @@ pub struct SfrWord {
 
 // The place after what was read or written, or a refusal's number and the place that was given.
 #[repr(C)]
-#[derive(Drop)]
+#[derive(Clone, Copy)]
 pub struct SfrPlace {
     pub number: u32,
     pub next: usize,

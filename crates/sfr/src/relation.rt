@@ -20,7 +20,7 @@ use tickets::SetTickets;
 
 // A call's number with the record beside it; `first` is the first wire that an allocation answers, else 0.
 #[repr(C)]
-#[derive(Drop)]
+#[derive(Clone, Copy)]
 pub struct SfrRelationAnswer {
     pub number: u32,
     pub first: u32,
@@ -29,7 +29,7 @@ pub struct SfrRelationAnswer {
 
 // A set's number, and whether it is fresh.
 #[repr(C)]
-#[derive(Drop)]
+#[derive(Clone, Copy)]
 pub struct SfrSetAnswer {
     pub number: u32,
     pub fresh: bool,
@@ -37,7 +37,7 @@ pub struct SfrSetAnswer {
 
 // A set list's number, how many of its first pairs were accepted, and how many of those were fresh.
 #[repr(C)]
-#[derive(Drop)]
+#[derive(Clone, Copy)]
 pub struct SfrTally {
     pub number: u32,
     pub accepted: u32,
@@ -46,7 +46,7 @@ pub struct SfrTally {
 
 // A ticket text's number, how many of its first lines were accepted, and how many of those were fresh.
 #[repr(C)]
-#[derive(Drop)]
+#[derive(Clone, Copy)]
 pub struct SfrTicketTally {
     pub number: u32,
     pub accepted: usize,
@@ -55,7 +55,7 @@ pub struct SfrTicketTally {
 
 // A value, where there is one.
 #[repr(C)]
-#[derive(Drop)]
+#[derive(Clone, Copy)]
 pub struct SfrValue {
     pub number: u32,
     pub some: bool,
@@ -64,7 +64,7 @@ pub struct SfrValue {
 
 // Yes or no; no after a refusal.
 #[repr(C)]
-#[derive(Drop)]
+#[derive(Clone, Copy)]
 pub struct SfrFlag {
     pub number: u32,
     pub yes: bool,

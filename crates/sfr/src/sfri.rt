@@ -14,7 +14,7 @@ use instance::PermutationInstance;
 
 // What was read: the record, and where in the input the label lies.
 #[repr(C)]
-#[derive(Drop)]
+#[derive(Clone, Copy)]
 pub struct SfrInstanceRead {
     pub number: u32,
     pub instance: PermutationInstance,

@@ -33,7 +33,7 @@ use sharing::{AllocatedOn, Opened, RecordedOn, SharedRelation, VarAllocator};
 // A call's number with the records beside it; `first` is the relation's number for an opening, the first wire that an
 // allocation answers, else 0.
 #[repr(C)]
-#[derive(Drop)]
+#[derive(Clone, Copy)]
 pub struct SfrSharedAnswer {
     pub number: u32,
     pub first: u32,

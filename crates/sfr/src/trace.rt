@@ -15,7 +15,7 @@ use witness::{PermutationWitness, Traced};
 
 // A call's number with the trace's record beside it.
 #[repr(C)]
-#[derive(Drop)]
+#[derive(Clone, Copy)]
 pub struct SfrTraceAnswer {
     pub number: u32,
     pub trace: PermutationWitness,
@@ -23,7 +23,7 @@ pub struct SfrTraceAnswer {
 
 // How many bytes were written, 0 after a refusal.
 #[repr(C)]
-#[derive(Drop)]
+#[derive(Clone, Copy)]
 pub struct SfrWritten {
     pub number: u32,
     pub len: usize,

@@ -6,6 +6,8 @@
 // reading is the strict one, `decoding::strict_instance_from_bytes_at`, in which 46 follows 27: has the file wires, and
 // does it list wire 0 with value 0? What is here only fetches and prints.
 
+#![tactic(auto)]
+
 use decoding::InstanceRead;
 use instance::PermutationInstance;
 use libc::{STDIN_FILENO, STDOUT_FILENO};

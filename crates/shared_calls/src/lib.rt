@@ -8,6 +8,8 @@
 // the last state its `shared_final`, in lists of any length (proofs/Lists.antt). The gate needs no function here:
 // shared_history/specs/Whole is written with the very definitions that the contract of `shared_compile` cites.
 
+#![tactic(auto)]
+
 ghost use Rattle.std.specs.Prelude.{List, ℕ};
 ghost use Rattle.allocator.specs.Slots.{pair};
 ghost use Rattle.history.specs.Calls.{Allocate, Set, SetList, Record, Mint, Equate, Tickets, WithdrawQuery, WithdrawEquation, of_outcome, of_first, of_set, of_set_vars, of_set_tickets};

@@ -3,6 +3,8 @@
 // It puts 1, 2 and 42, and then is the gate of a relation alone that has the shared wire count for its own: it judges on
 // everybody's sets and on the relation's own queries, equations and use counts. It answers on every input.
 
+#![tactic(auto)]
+
 ghost use Rattle.std.specs.Prelude.{◌≡◌, length};
 ghost use Rattle.limits.specs.Outcome.{as_is};
 ghost use Rattle.compile.specs.Gate.{gate_lent};

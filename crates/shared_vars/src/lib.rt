@@ -4,6 +4,8 @@
 // Each call puts the front of its questions, up to the last that sharing puts in, and then does what the same call does
 // to a relation alone that has the shared wire count for its own. Every open function answers on every input.
 
+#![tactic(auto)]
+
 ghost use Rattle.std.specs.Prelude.{◌≡◌};
 ghost use Rattle.limits.specs.Outcome.{as_is};
 ghost use Rattle.allocator.specs.Slots.{pair};

@@ -4,6 +4,8 @@
 // Wire count and slots are shared by all; each relation has its width, its own counts and stores, and a quota of wires.
 // Both records go in and come back by value. Every open function answers on every input.
 
+#![tactic(auto)]
+
 ghost use Rattle.std.specs.Prelude.{◌≡◌, [], ◌++◌};
 ghost use Rattle.limits.specs.Outcome.{as_is};
 ghost use Rattle.limits.specs.Questions.{◌▸◌, first_no, pick};
@@ -21,7 +23,7 @@ pub const MAX_RELATIONS: u32 = 8;
 
 // What relations share: the wires allocated so far, and how many relations are opened.
 #[repr(C)]
-#[derive(Drop)]
+#[derive(Clone, Copy)]
 pub struct VarAllocator {
     pub vars: u32,
     pub opened: u32,
@@ -29,7 +31,7 @@ pub struct VarAllocator {
 
 // A relation's own record: all of `PermutationRelation` but the wire count, its quota, and the wires that it obtained.
 #[repr(C)]
-#[derive(Drop)]
+#[derive(Clone, Copy)]
 pub struct SharedRelation {
     pub width: u32,
     pub queries: u32,
@@ -41,7 +43,7 @@ pub struct SharedRelation {
 }
 
 // An opening's answer: the relation's number, with the records; refused, the allocator as it was and zeros.
-#[derive(Drop)]
+#[derive(Clone, Copy)]
 pub struct Opened {
     pub outcome: Outcome,
     pub index: u32,
@@ -50,7 +52,7 @@ pub struct Opened {
 }
 
 // The first new wire with the records beside it; a refused call gives them back as they were.
-#[derive(Drop)]
+#[derive(Clone, Copy)]
 pub struct AllocatedOn {
     pub first: First,
     pub allocator: VarAllocator,
@@ -58,7 +60,7 @@ pub struct AllocatedOn {
 }
 
 // The outcome with the relation's record beside it; a refused call gives it back as it was.
-#[derive(Drop)]
+#[derive(Clone, Copy)]
 pub struct RecordedOn {
     pub outcome: Outcome,
     pub relation: SharedRelation,

@@ -1,5 +1,7 @@
 // Items struck from the words of a lent store, and the walk over equations.
 
+#![tactic(auto)]
+
 ghost use Rattle.std.specs.Prelude.{◌≡◌};
 ghost use Rattle.strike.specs.Strike.{fit_struck, end_within};
 

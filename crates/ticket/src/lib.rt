@@ -3,6 +3,8 @@
 // Of a line the byte between the numbers and the last one are looked at first, and then each column once, from the left:
 // blanks, then digits that do not begin with 0, and in the last column a digit. Every open function answers on every input.
 
+#![tactic(auto)]
+
 ghost use Rattle.std.specs.Prelude.{◌^◌, ◌≤◌, ◌<◌, ◌≡◌, length};
 ghost use Rattle.ticket.specs.Form.{read_line};
 ghost use Rattle.ticket.specs.Steps.{grams_to_steps};
@@ -23,21 +25,21 @@ const ZERO: u8 = 48;
 const NINE: u8 = 57;
 
 // What a ticket says: a wire, and grams.
-#[derive(Drop)]
+#[derive(Clone, Copy)]
 pub struct Ticket {
     pub wire: u64,
     pub grams: u64,
 }
 
 // What a line is read as.
-#[derive(Drop)]
+#[derive(Clone, Copy)]
 pub enum Line {
     Of(Ticket),
     Bad,
 }
 
 // What columns are read as.
-#[derive(Drop)]
+#[derive(Clone, Copy)]
 enum Column {
     Number(u64),
     Bad,

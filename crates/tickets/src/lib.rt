@@ -3,6 +3,8 @@
 // The text is lent, 24 bytes to a line, and gone over once. A line's wire is set to its steps; the first line that is
 // refused ends the call, and the lines before it stay set and are counted. Every open function answers on every input.
 
+#![tactic(auto)]
+
 ghost use Rattle.std.specs.Prelude.{◌+◌, ◌≤◌, min, ◌≡◌};
 ghost use Rattle.limits.specs.Outcome.{as_is};
 ghost use Rattle.allocator.specs.Slots.{pair};
@@ -18,7 +20,7 @@ use ticket::{LINE, Line};
 
 // A ticket text's outcome, how many of its first lines were accepted, and how many of those were fresh: as wide as a
 // length, as a text has no limit.
-#[derive(Drop)]
+#[derive(Clone, Copy)]
 pub struct SetTickets {
     pub outcome: Outcome,
     pub accepted: usize,

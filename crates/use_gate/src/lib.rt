@@ -4,6 +4,8 @@
 // The terms are asked by `validated`'s walk. Words that a store lacks count as 0 and slots that are lacking as
 // unassigned, as in the definitions.
 
+#![tactic(auto)]
+
 ghost use Rattle.std.specs.Prelude.{◌≡◌};
 ghost use Rattle.limits.specs.Questions.{◌▸◌};
 ghost use Rattle.expr.specs.Equation.{equations_at};

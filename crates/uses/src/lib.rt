@@ -4,6 +4,8 @@
 // one for each cell, and the stray ones are counted on the way. Then the questions are asked, and where one says no the
 // cells are taken back. So a join that fits looks at each cell once, a strike twice, and no buffer is needed.
 
+#![tactic(auto)]
+
 ghost use Rattle.std.specs.Prelude.{◌≡◌, true, ◌++◌, ℕ, ◌≤◌, ◌<◌, ltb, length, take};
 ghost use Rattle.limits.specs.Questions.{pick};
 ghost use Rattle.uses.specs.Uses.{strays, count_fits, count_after, CountsCells};
@@ -12,7 +14,7 @@ ghost use Rattle.uses.specs.Moves.{MovesCell, Moves, TakesBack, cell_at_most, al
 use limits::{MAX_COUNT, UNASSIGNED};
 
 // A query's cells struck from the counts or joined to them: the number, and the stray count afterwards.
-#[derive(Drop)]
+#[derive(Clone, Copy)]
 pub struct Recount {
     pub number: u32,
     pub stray: u32,
@@ -68,7 +70,7 @@ fn stray_after(strike: bool, stray: u32, by: usize) -> u32
 }
 
 // A cell: whether it is moved, and then 1 where it is stray.
-#[derive(Drop)]
+#[derive(Clone, Copy)]
 struct Cell {
     moved: bool,
     strays: usize,
@@ -115,7 +117,7 @@ fn move_cell(strike: bool, most: u32, end: usize, len: usize, uses: &mut [u32], 
 }
 
 // A list's cells: how many are moved, and how many of those are stray.
-#[derive(Drop)]
+#[derive(Clone, Copy)]
 struct Moved {
     n: usize,
     strays: usize,

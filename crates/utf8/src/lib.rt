@@ -7,6 +7,8 @@
 //
 // What blocks say is for speed only: where one says no, smaller ones and single bytes are asked.
 
+#![tactic(auto)]
+
 ghost use Rattle.std.specs.Prelude.{◌≡◌, true, false, ◌↔◌, ◌+◌, ◌≤◌, ◌<◌, length};
 ghost use Rattle.utf8.specs.Utf8.{Utf8, is_utf8};
 ghost use Rattle.utf8.specs.Place.{FirstBad, scan_utf8};
@@ -26,7 +28,7 @@ const ASCII_BEHIND: usize = 32;
 
 // What a scan tells: the place of the first bad byte, or how many bytes there are where none is bad, and whether the
 // bytes are UTF-8. Bytes that end inside a character have no bad one and don't pass.
-#[derive(Drop)]
+#[derive(Clone, Copy)]
 pub struct Utf8Scan {
     pub place: usize,
     pub passes: bool,

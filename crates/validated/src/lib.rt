@@ -6,6 +6,8 @@
 // is that of a relation's gate too (`use_gate`), with its slots and use counts. Words that a store lacks count
 // as 0 and slots that are lacking as unassigned, as in the definitions.
 
+#![tactic(auto)]
+
 ghost use Rattle.std.specs.Prelude.{◌≡◌, ◌≤◌, length, drop, get_or, replicate};
 ghost use Rattle.limits.specs.Numbers.{unassigned};
 ghost use Rattle.limits.specs.Questions.{first_no};

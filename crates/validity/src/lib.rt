@@ -4,6 +4,8 @@
 // carries: 0 for nothing, and for a unit the unit and one more. It may hold anything at entry and is all 0
 // afterwards, whatever is answered.
 
+#![tactic(auto)]
+
 ghost use Rattle.std.specs.Prelude.{◌≡◌, true, [], ◌+◌, ◌*◌, ◌<◌, ◌≤◌, min, length, drop, replicate};
 ghost use Rattle.limits.specs.Numbers.{prime};
 ghost use Rattle.limits.specs.Questions.{first_no, on_yes};
@@ -25,7 +27,7 @@ use limits::{LABEL_END, Outcome, P};
 
 // What goes in by value beside the lent words: the instance's record, the steps of the trace, and the rounds
 // of the permutation.
-#[derive(Drop)]
+#[derive(Clone, Copy)]
 struct Counts {
     ins: PermutationInstance,
     steps: u32,

@@ -3,6 +3,8 @@
 // Later ones move down by one and the freed words become 0. A call changes nothing where a question says no. Every open
 // function answers on every input.
 
+#![tactic(auto)]
+
 ghost use Rattle.std.specs.Prelude.{◌≡◌, ◌+◌, take, drop};
 ghost use Rattle.limits.specs.Outcome.{as_is};
 ghost use Rattle.limits.specs.Questions.{ask};

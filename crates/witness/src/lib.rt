@@ -3,6 +3,8 @@
 // The record, width and step count, goes in and comes back by value; the trace is lent. Each call puts its
 // questions first and acts only where none says no, so a refusal changes nothing.
 
+#![tactic(auto)]
+
 ghost use Rattle.std.specs.Prelude.{◌≡◌, ◌++◌, ◌+◌, ◌≤◌, ◌<◌, length};
 ghost use Rattle.limits.specs.Numbers.{word_end};
 ghost use Rattle.limits.specs.Outcome.{as_is};
@@ -19,14 +21,14 @@ const MAX_STATE: usize = 24;
 
 // The record of a trace: 2 · width units per step.
 #[repr(C)]
-#[derive(Drop)]
+#[derive(Clone, Copy)]
 pub struct PermutationWitness {
     pub width: u32,
     pub steps: u32,
 }
 
 // The outcome with the record beside it; a refused call gives the record back as it was.
-#[derive(Drop)]
+#[derive(Clone, Copy)]
 pub struct Traced {
     pub outcome: Outcome,
     pub witness: PermutationWitness,

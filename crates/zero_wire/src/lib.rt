@@ -3,6 +3,8 @@
 //
 // Every open function answers on every input.
 
+#![tactic(auto)]
+
 ghost use Rattle.std.specs.Prelude.{◌≡◌};
 ghost use Rattle.limits.specs.Questions.{◌▸◌, ask};
 ghost use Rattle.instance.specs.Parts.{pairs_at};
