@@ -7,7 +7,7 @@ use Prim.Native.Nat.{ℕ, zero, suc, ◌+◌, ◌-◌, ◌*◌, ◌/◌, ◌%◌
 use mathlib.Core.Path.{◌≡◌, refl, sym, ap, ◌∙◌}
 use mathlib.Core.Logic.{⊎_elim}
 use mathlib.Core.Bool.{true}
-use mathlib.Core.List.{List, [], ◌∷◌}
+use mathlib.Core.List.{List, ◌∷◌}
 use native.Mathlib.Omega.{arith}
 use native.Mathlib.Numerals.{add-one}
 use native.Mathlib.Nat.{mul-le-mul, eq-or-lt_of_le}
@@ -139,20 +139,20 @@ module _ {matrix : List ℕ} {w : ℕ} {first : List ℕ} (a : MatrixAsked matri
         rw (drop-cons matrix (m + i * w) 0 r, t.cells m i (omega arith) l, x)
         (ap (λ (q : List ℕ). get_or matrix (m + i * w) 0 ∷ q) (rw y at (turned-row h n i (m + 1) l (omega arith))))
 
-    turned_rows : w ≤ k → (n i : ℕ) → i + n ≡ w → turned_rows w n i columns ≡ rows_of w n (drop (i * w) matrix)
+    turned_rows_are : w ≤ k → (n i : ℕ) → i + n ≡ w → turned_rows w n i columns ≡ rows_of w n (drop (i * w) matrix)
     unfolding turned_rows rows_of
-    turned_rows h zero i e = refl
-    turned_rows h (suc n) i e =
+    turned_rows_are h zero i e = refl
+    turned_rows_are h (suc n) i e =
         let x : 0 * w + i ≡ i = omega arith in
         let y : 0 + i * w ≡ i * w = omega arith in
         let d : i * w + w ≡ suc i * w = omega arith in
         rw (drop-drop w (i * w) matrix, d, rw (x, y) at (turned-row h w i 0 (omega arith) (omega arith)))
-        (ap (λ (q : List (List ℕ)). take w (drop (i * w) matrix) ∷ q) (turned_rows h n (suc i) (omega arith)))
+        (ap (λ (q : List (List ℕ)). take w (drop (i * w) matrix) ∷ q) (turned_rows_are h n (suc i) (omega arith)))
 
     pub turning-done : w ≤ k → Turned matrix w columns
     turning-done h =
         let b : 0 * w ≡ 0 = omega arith in
-        record { units = t.units; rows = rw b at (turned_rows h w 0 (omega arith)) }
+        record { units = t.units; rows = rw b at (turned_rows_are h w 0 (omega arith)) }
 
 -- ---- a few columns added to the sums
 -- one part: f of n is added to sum n, for each n below i
