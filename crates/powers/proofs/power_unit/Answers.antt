@@ -1,5 +1,4 @@
 -- `powers::power_unit` meets its contract. Assumes nothing.
-use borrow.Author.Rules.{rules}
 use Rattle.powers.proofs.Halves.{one-times}
 use Rattle.powers.proofs.power_unit.Goals as goal
 
