@@ -47,9 +47,9 @@ module _ (n : ℕ) (slots : List ℕ) (sets : List Pair) (o : HoldsSlots n slots
       go true v = refl
       go false v = refl
 
-  pub pair_left : (p : Pair) → pair_no n slots p ≡ first_no (set_var_left n sets p)
+  pub pair_left_lem : (p : Pair) → pair_no n slots p ≡ first_no (set_var_left n sets p)
   unfolding pair_no
-  pair_left p =
+  pair_left_lem p =
       ap (λ (k : ℕ). ask 3 (ltb p.var max_count) ▸ (ask 4 (ltb p.value prime) ▸ k))
       (after-seven (ltb p.var n) (slot_takes slots p) (sets_take sets p) (λ e. takes-is p (ltb-true p.var n e)))
 
@@ -107,7 +107,7 @@ run-left no_of left_of pair_of n f g (a ∷ items) slots sets o =
 -- pairs are such items
 pub pairs-left : (n : ℕ) (ps : List Pair) (slots : List ℕ) (sets : List Pair) → HoldsSlots n slots sets
     → RunLeft n sets (pairs_set n sets ps) (pairs_left n sets ps) (set_run n slots ps)
-pairs-left n = run-left (pair_no n) (pair_left n) (λ p. p) n (λ slots p z. z) (λ slots sets o p. pair_left n slots sets o p)
+pairs-left n = run-left (pair_no n) (pair_left n) (λ p. p) n (λ slots p z. z) (λ slots sets o p. pair_left_lem n slots sets o p)
 
 -- ---- a slot's value is what the sets give its wire
 module _ (n : ℕ) (slots : List ℕ) (sets : List Pair) (o : HoldsSlots n slots sets) where
