@@ -71,6 +71,7 @@ fn with_digit(n: u64, b: u8) -> Column
 }
 
 // A column behind the number n that is not the last: while n is 0 a blank may stand there and no 0.
+#[tactic(auto, unfolding(crate::specs::Scan::with_column))]
 fn with_column(n: u64, b: u8) -> Column
     requires { n < 10 ^ 11 }
     ensures { result ≡ with_column n b }
