@@ -1,4 +1,1 @@
 pub mod Found
-pub mod Walk
-pub mod Effects
-pub mod Calls

@@ -66,7 +66,7 @@ pub fn read_u32<'a>(r: NargReader<'a>) -> Word
 // The n bytes at the place, as that very part of the input; where fewer are left, none.
 pub fn take<'a>(r: NargReader<'a>, n: usize) -> &'a [u8]
     ensures { (result.now ≡ part_at r.entry.bytes.now r.entry.at.at n)
-        × (result.ref_ptr ≡ place_at r.entry.bytes.now r.entry.at.at n r.entry.bytes.ptr) }
+        × (result.ref_ptr ≡ place_at r.entry.bytes.now r.entry.at.at n r.entry.bytes.ref_ptr) }
 {
     part_at(r.bytes, r.at, n)
 }
