@@ -36,7 +36,7 @@ use Rattle.allocator.specs.declared.VarValue.{VarValue}
 use Rattle.allocator.specs.declared.VarValue.TheVariants as var_value
 use Rattle.permutation.specs.declared.IsAllocated.TheVariants as allocated
 use Rattle.recording.proofs.Minted.{up_from-length}
-use Rattle.permutation.proofs.Left.{pair_left, RunLeft, after-left, pairs-left, slot-given}
+use Rattle.permutation.proofs.Left.{pair_left_lem, RunLeft, after-left, pairs-left, slot-given}
 
 -- ---- a number that none of the first questions has
 abbrev lacks : ℕ → List Question → Bool
@@ -105,7 +105,7 @@ module _ (width : ℕ) (rel : PermutationRelation) (slots queries equations uses
   unfolding set_var_no pair_no
   set_var-left p =
       after-relation (pair_asks rel.vars slots p)
-      ∙ pair_left rel.vars slots sets o.in_slots p
+      ∙ pair_left_lem rel.vars slots sets o.in_slots p
       ∙ ap (λ (k : ℕ). first_no (set_var_left k sets p)) o.count
 
   before-pairs : (vars values : List ℕ) → set_vars_no rel (length slots) vars values ≡ lists_left vars values
