@@ -4,7 +4,7 @@
 use crate::answer::{SIZE, looked, number, record, relation, three, with_record};
 use crate::sample::{
     FIVE, FOUR, FOURTH, ONE, OTHER, SECOND, SECOND_AFTER, TEXT, THIRD, THIRD_AFTER, THREE, TWO,
-    WORDS, at_most, lent, list, low, same, text, word,
+    WORDS, at_most, lent, list, low, same, same_bytes, text, word,
 };
 use crate::traces::{BYTES, DIRT, written};
 use allocator::FieldVar;
@@ -62,7 +62,7 @@ fn instance_to_bytes(
         equations,
         out,
     );
-    written(answer, check::same(expected, out))
+    written(answer, same_bytes(expected, out))
 }
 
 // The part of the bytes that lies there; none where they end before it.
@@ -83,7 +83,7 @@ fn part(bytes: &[u8], span: Span) -> &[u8] {
 fn read_answer(read: InstanceRead, bytes: &[u8], expected: &[u8], stores: bool) -> [u32; SIZE] {
     let outcome = read.outcome;
     let label = read.label;
-    let same = stores & check::same(expected, part(bytes, label));
+    let same = stores & same_bytes(expected, part(bytes, label));
     with_record(number(outcome), low(label.len), read.instance, same)
 }
 
@@ -152,7 +152,7 @@ fn public_value(given: &[u32], publics: &[u32], var: u32) -> [u32; SIZE] {
 // 35: label, name; 0, the heading's length, the heading.
 fn heading(case: &[u32], raw: &[u8]) -> [u32; SIZE] {
     let part = instance::heading(text(case, raw, TEXT), text(case, raw, OTHER));
-    let same = check::same(text(case, raw, ONE), part);
+    let same = same_bytes(text(case, raw, ONE), part);
     three(0, low(part.len()), limits::asked(0, same, 1))
 }
 

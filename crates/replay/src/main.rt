@@ -29,6 +29,8 @@
 
 #![tactic(auto)]
 
+ghost use Rattle.std.specs.Prelude.{◌≤◌, IfOk, length};
+
 mod answer;
 mod instances;
 mod leaves;
@@ -40,9 +42,10 @@ mod terms;
 mod traces;
 
 use answer::SIZE;
-use libc::STDIN_FILENO;
 use narg::{Cursor, Word};
 use sample::{lent, list, low, same, text, word};
+use std::io;
+use std::io::Read;
 use tally::Tally;
 
 // The longest sample, in bytes.
@@ -128,18 +131,37 @@ fn take_words(bytes: &[u8], out: &mut [u32]) -> usize {
 }
 
 // Replays the sample, which begins with the names of its operations, and prints what came of it.
-fn run(words: &[u32], bytes: &[u8]) {
+fn run(rt: &impl Print, words: &[u32], bytes: &[u8]) -> io::Result<()> {
     let names = sample::case_at(words, 0);
-    tally::print(replay(words, bytes, low(names.len())), names, bytes);
+    tally::print(rt, replay(words, bytes, low(names.len())), names, bytes)
+}
+
+// Reads until the buffer is full or the input ends; answers how many bytes stand at its front.
+fn read_full<R: Read>(from: &mut R, buffer: &mut [u8]) -> io::Result<usize>
+    ensures { IfOk result (λ n. n ≤ length buffer.new) }
+{
+    let mut done = 0;
+    while done < buffer.len() {
+        let n = from.read(&mut buffer[done..])?;
+        if n == 0 {
+            break;
+        }
+        done += n;
+    }
+    Ok(done)
 }
 
 // Takes the sample from standard input.
-fn start(bytes: &mut [u8; BYTES], words: &mut [u32; WORDS]) {
-    let n = io::read_full(STDIN_FILENO, bytes);
+fn start(
+    rt: &(impl Input + Print),
+    bytes: &mut [u8; BYTES],
+    words: &mut [u32; WORDS],
+) -> io::Result<()> {
+    let n = read_full(&mut rt.reader(), bytes)?;
     let m = take_words(sample::bytes_between(bytes, 0, n), words);
-    run(sample::between(words, 0, m), bytes);
+    run(rt, sample::between(words, 0, m), bytes)
 }
 
-fn main() {
-    start(&mut [0; BYTES], &mut [0; WORDS]);
+fn main(rt: HostRuntime) -> io::Result<()> {
+    start(&rt, &mut [0; BYTES], &mut [0; WORDS])
 }

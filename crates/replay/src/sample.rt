@@ -4,7 +4,7 @@
 // case has, the places in it at which its lists begin, and the lists. What a list is goes by its number. Nothing in the
 // sample is trusted: a word that it lacks is 0, and a list that a case does not have is empty.
 
-ghost use Rattle.std.specs.Prelude.{◌≤◌};
+ghost use Rattle.std.specs.Prelude.{◌≡◌, ◌↔◌, ◌≤◌, true};
 
 // What a head counts lists by.
 pub(crate) const LISTS: u32 = 256;
@@ -136,4 +136,11 @@ pub(crate) fn same(list: &[u32], here: &[u32]) -> bool {
         i += 1;
     }
     true
+}
+
+// Are the bytes those of the list?
+pub(crate) fn same_bytes(list: &[u8], here: &[u8]) -> bool
+    ensures { (result ≡ true) ↔ (list.now ≡ here.now) }
+{
+    list == here
 }

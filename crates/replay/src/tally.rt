@@ -4,7 +4,7 @@
 // them differ, and at which word of the sample the last one of these begins.
 
 use crate::sample::text;
-use libc::STDOUT_FILENO;
+use std::io;
 
 // The place of how many cases there are; an operation's number is below it.
 const CASES: usize = 38;
@@ -33,7 +33,7 @@ pub(crate) fn nothing() -> Tally {
 fn grow(tally: Tally, at: usize) -> Tally {
     let mut now = tally;
     if at < KINDS {
-        now.of[at] = std::num::wrapping_add_u64(now.of[at], 1);
+        now.of[at] = now.of[at].wrapping_add(1);
     }
     now
 }
@@ -49,18 +49,20 @@ pub(crate) fn counted(tally: Tally, op: u32, at: u32, agrees: bool) -> Tally {
 }
 
 // A number and its name, and nothing where that has no bytes.
-fn print_line(n: u64, name: &[u8]) {
+fn print_line(rt: &impl Print, n: u64, name: &[u8]) -> io::Result<()> {
     if 0 < name.len() {
-        io::print_decimal(STDOUT_FILENO, n);
-        io::write_all(STDOUT_FILENO, name);
+        rt.print(n)?;
+        rt.write_all(name)?;
     }
+    Ok(())
 }
 
 // A line for each place of the tally, by the names that the sample begins with.
-pub(crate) fn print(tally: Tally, names: &[u32], raw: &[u8]) {
+pub(crate) fn print(rt: &impl Print, tally: Tally, names: &[u32], raw: &[u8]) -> io::Result<()> {
     let mut i = 0;
     while i < KINDS {
-        print_line(tally.of[i], text(names, raw, i as u32));
+        print_line(rt, tally.of[i], text(names, raw, i as u32))?;
         i += 1;
     }
+    Ok(())
 }

@@ -1,7 +1,7 @@
 // Operations 21 to 26: the permutation and the way back through it, a trace's steps, and its bytes written and read.
 
 use crate::answer::{SIZE, number, three};
-use crate::sample::{ONE, TWO, at_most, list, low, word};
+use crate::sample::{ONE, TWO, at_most, list, low, same_bytes, word};
 use encoding::Written;
 use witness::{PermutationWitness, Traced};
 
@@ -51,7 +51,7 @@ fn witness_to_bytes(width: u32, steps: u32, trace: &[u32], expected: &[u8]) -> [
     let n = at_most(expected.len(), BYTES);
     let out = &mut output[0..n];
     let answer = encoding::witness_to_bytes(width, steps, trace, out);
-    written(answer, check::same(expected, out))
+    written(answer, same_bytes(expected, out))
 }
 
 // 24: width, bytes, trace; the number, the steps, the trace.

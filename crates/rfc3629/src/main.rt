@@ -7,7 +7,7 @@
 
 ghost use Rattle.std.specs.Prelude.{◌≤◌};
 
-use libc::STDOUT_FILENO;
+use std::io;
 use utf8::Utf8Scan;
 
 // Examples that are UTF-8: those of section 7, and of each row of section 4 the least and the greatest first
@@ -146,92 +146,95 @@ fn bytes_of(example: &[u8; 11]) -> &[u8] {
 }
 
 // What an example is that is UTF-8.
-fn print_character(what: u8) -> bool {
+fn print_character(rt: &impl Print, what: u8) -> io::Result<()> {
     match what {
-        0 => io::write_all(STDOUT_FILENO, b"section 7: A<NOT IDENTICAL TO><ALPHA>."),
-        1 => io::write_all(STDOUT_FILENO, b"section 7: Korean \"hangugeo\""),
-        2 => io::write_all(STDOUT_FILENO, b"section 7: Japanese \"nihongo\""),
-        3 => io::write_all(
-            STDOUT_FILENO,
-            b"section 7: byte order mark and \"stump of tree\"",
-        ),
-        4 => io::write_all(STDOUT_FILENO, b"no bytes at all"),
-        5 => io::write_all(STDOUT_FILENO, b"row 00-7F"),
-        6 => io::write_all(STDOUT_FILENO, b"row C2-DF 80-BF"),
-        7 => io::write_all(STDOUT_FILENO, b"row E0 A0-BF"),
-        8 => io::write_all(STDOUT_FILENO, b"row E1-EC 80-BF"),
-        9 => io::write_all(STDOUT_FILENO, b"row ED 80-9F"),
-        10 => io::write_all(STDOUT_FILENO, b"row EE-EF 80-BF"),
-        11 => io::write_all(STDOUT_FILENO, b"row F0 90-BF"),
-        12 => io::write_all(STDOUT_FILENO, b"row F1-F3 80-BF"),
-        _ => io::write_all(STDOUT_FILENO, b"row F4 80-8F"),
+        0 => rt.print("section 7: A<NOT IDENTICAL TO><ALPHA>."),
+        1 => rt.print("section 7: Korean \"hangugeo\""),
+        2 => rt.print("section 7: Japanese \"nihongo\""),
+        3 => rt.print("section 7: byte order mark and \"stump of tree\""),
+        4 => rt.print("no bytes at all"),
+        5 => rt.print("row 00-7F"),
+        6 => rt.print("row C2-DF 80-BF"),
+        7 => rt.print("row E0 A0-BF"),
+        8 => rt.print("row E1-EC 80-BF"),
+        9 => rt.print("row ED 80-9F"),
+        10 => rt.print("row EE-EF 80-BF"),
+        11 => rt.print("row F0 90-BF"),
+        12 => rt.print("row F1-F3 80-BF"),
+        _ => rt.print("row F4 80-8F"),
     }
 }
 
 // Why an example is not UTF-8.
-fn print_fault(what: u8) -> bool {
+fn print_fault(rt: &impl Print, what: u8) -> io::Result<()> {
     match what {
-        0 => io::write_all(STDOUT_FILENO, b"second byte out of its range"),
-        1 => io::write_all(STDOUT_FILENO, b"later byte out of its range"),
-        2 => io::write_all(STDOUT_FILENO, b"begins no character"),
-        3 => io::write_all(STDOUT_FILENO, b"overlong form"),
-        4 => io::write_all(STDOUT_FILENO, b"surrogate"),
-        5 => io::write_all(STDOUT_FILENO, b"above 10FFFF"),
-        _ => io::write_all(STDOUT_FILENO, b"cut off"),
+        0 => rt.print("second byte out of its range"),
+        1 => rt.print("later byte out of its range"),
+        2 => rt.print("begins no character"),
+        3 => rt.print("overlong form"),
+        4 => rt.print("surrogate"),
+        5 => rt.print("above 10FFFF"),
+        _ => rt.print("cut off"),
     }
 }
 
 // Two hexadecimal digits and a space.
-fn print_byte(b: u8) {
+fn print_byte(rt: &impl Print, b: u8) -> io::Result<()> {
     let digits = b"0123456789ABCDEF";
     let text = [digits[(b / 16) as usize], digits[(b % 16) as usize], b' '];
-    io::write_all(STDOUT_FILENO, &text);
+    rt.write_all(&text)
 }
 
 // The bytes of an example in nine columns, three characters each.
-fn print_bytes(bytes: &[u8]) {
+fn print_bytes(rt: &impl Print, bytes: &[u8]) -> io::Result<()> {
     let mut i = 0;
     while i < 9 {
         if i < bytes.len() {
-            print_byte(bytes[i]);
+            print_byte(rt, bytes[i])?;
         } else {
-            io::write_all(STDOUT_FILENO, b"   ");
+            rt.print("   ")?;
         }
         i += 1;
     }
+    Ok(())
 }
 
 // The line of an example, which by the RFC is UTF-8 where `expected`.
-fn print_example(example: &[u8; 11], expected: bool, scan: Utf8Scan) {
-    print_bytes(bytes_of(example));
+fn print_example(
+    rt: &impl Print,
+    example: &[u8; 11],
+    expected: bool,
+    scan: Utf8Scan,
+) -> io::Result<()> {
+    print_bytes(rt, bytes_of(example))?;
     if scan.passes {
-        io::write_all(STDOUT_FILENO, b" UTF-8      ");
+        rt.print(" UTF-8      ")?;
     } else {
-        io::write_all(STDOUT_FILENO, b" not UTF-8  ");
+        rt.print(" not UTF-8  ")?;
     }
-    io::print_decimal(STDOUT_FILENO, scan.place as u64);
-    io::write_all(STDOUT_FILENO, b"  ");
+    rt.print(scan.place)?;
+    rt.print("  ")?;
     if expected {
-        print_character(example[0]);
+        print_character(rt, example[0])?;
     } else {
-        print_fault(example[0]);
+        print_fault(rt, example[0])?;
     }
     if scan.passes != expected {
-        io::write_all(STDOUT_FILENO, b"  DIFFERENT");
+        rt.print("  DIFFERENT")?;
     }
-    io::write_all(STDOUT_FILENO, b"\n");
+    rt.println("")
 }
 
 // The last line.
-fn print_counts(examples: u64, accepted: u64, refused: u64, different: u64) {
-    io::print_decimal(STDOUT_FILENO, examples);
-    io::write_all(STDOUT_FILENO, b" examples: ");
-    io::print_decimal(STDOUT_FILENO, accepted);
-    io::write_all(STDOUT_FILENO, b" UTF-8, ");
-    io::print_decimal(STDOUT_FILENO, refused);
-    io::write_all(STDOUT_FILENO, b" not UTF-8, ");
-    io::print_decimal(STDOUT_FILENO, different);
-    io::write_all(STDOUT_FILENO, b" different from RFC 3629\n");
+fn print_counts(
+    rt: &impl Print,
+    examples: u64,
+    accepted: u64,
+    refused: u64,
+    different: u64,
+) -> io::Result<()> {
+    print!(rt; "{examples} examples: {accepted} UTF-8, {refused} not UTF-8, ")?;
+    println!(rt; "{different} different from RFC 3629")
 }
 
 // 1 for yes, 0 for no.
@@ -241,11 +244,8 @@ fn one_if(says: bool) -> u64
     if says { 1 } else { 0 }
 }
 
-fn main() {
-    io::write_all(
-        STDOUT_FILENO,
-        b"RFC 3629: which bytes are UTF-8, and the place of the first bad one\n\n",
-    );
+fn main(rt: HostRuntime) -> io::Result<()> {
+    rt.println("RFC 3629: which bytes are UTF-8, and the place of the first bad one\n")?;
     let mut accepted: u64 = 0;
     let mut different: u64 = 0;
     let mut i: u64 = 0;
@@ -254,11 +254,11 @@ fn main() {
         let example = example_at(i);
         let scan = utf8::scan_utf8(bytes_of(&example));
         let passes = scan.passes;
-        print_example(&example, expected, scan);
+        print_example(&rt, &example, expected, scan)?;
         accepted += one_if(passes);
         different += one_if(passes != expected);
         i += 1;
     }
-    io::write_all(STDOUT_FILENO, b"\n");
-    print_counts(i, accepted, i - accepted, different);
+    rt.println("")?;
+    print_counts(&rt, i, accepted, i - accepted, different)
 }

@@ -8,11 +8,14 @@
 
 #![tactic(auto)]
 
+ghost use Rattle.std.specs.Prelude.{◌≤◌, IfOk, length};
+
 use decoding::InstanceRead;
 use instance::PermutationInstance;
-use libc::{STDIN_FILENO, STDOUT_FILENO};
 use limits::Outcome;
 use narg::{Cursor, Word};
+use std::io;
+use std::io::Read;
 
 // The longest file, and one byte more, so that a longer one is noticed.
 const LONGEST: usize = 65536;
@@ -23,18 +26,8 @@ const BUFFER: usize = 65537;
 const ROOM: usize = 16384;
 
 // A number in 12 columns, a space and the word.
-fn line(n: u32, word: &[u8]) {
-    let mut digits = [0u8; 20];
-    let k = io::decimal(n as u64, &mut digits);
-    let blanks = [b' '; 12];
-    let all = &blanks[..];
-    if k < 12 {
-        io::write_all(STDOUT_FILENO, &all[k..]);
-    }
-    io::write_all(STDOUT_FILENO, &digits[..k]);
-    io::write_all(STDOUT_FILENO, b" ");
-    io::write_all(STDOUT_FILENO, word);
-    io::write_all(STDOUT_FILENO, b"\n");
+fn line(rt: &impl Print, n: u32, word: &str) -> io::Result<()> {
+    println!(rt; "{n:>12} {word}")
 }
 
 // The width that the file names, or 1 where it has too few bytes.
@@ -46,58 +39,77 @@ fn width_of(file: &[u8]) -> u32 {
 }
 
 // A line for each count of the record.
-fn print_counts(ins: PermutationInstance) {
-    line(ins.width, b"width");
-    line(ins.vars, b"wires");
-    line(ins.publics, b"public");
-    line(ins.queries, b"queries");
-    line(ins.equations, b"equations");
+fn print_counts(rt: &impl Print, ins: PermutationInstance) -> io::Result<()> {
+    line(rt, ins.width, "width")?;
+    line(rt, ins.vars, "wires")?;
+    line(rt, ins.publics, "public")?;
+    line(rt, ins.queries, "queries")?;
+    line(rt, ins.equations, "equations")
 }
 
 // The answer, and after a yes the counts.
-fn print_read(read: InstanceRead) {
+fn print_read(rt: &impl Print, read: InstanceRead) -> io::Result<()> {
     let outcome = read.outcome;
     let instance = read.instance;
     match outcome {
         Outcome::Accepted => {
-            line(0, b"answer");
-            print_counts(instance);
+            line(rt, 0, "answer")?;
+            print_counts(rt, instance)
         }
-        Outcome::Refused(k) => line(k, b"answer"),
+        Outcome::Refused(k) => line(rt, k, "answer"),
     }
+}
+
+// Reads until the buffer is full or the input ends; answers how many bytes stand at its front.
+fn read_full<R: Read>(from: &mut R, buffer: &mut [u8]) -> io::Result<usize>
+    ensures { IfOk result (λ n. n ≤ length buffer.new) }
+{
+    let mut done = 0;
+    while done < buffer.len() {
+        let n = from.read(&mut buffer[done..])?;
+        if n == 0 {
+            break;
+        }
+        done += n;
+    }
+    Ok(done)
 }
 
 // Reads the file into the buffer and lists it.
 fn run(
+    rt: &(impl Input + Print),
     buffer: &mut [u8; BUFFER],
     publics: &mut [u32; ROOM],
     queries: &mut [u32; ROOM],
     equations: &mut [u32; ROOM],
     scratch: &mut [u32; ROOM],
-) {
-    let n = io::read_full(STDIN_FILENO, buffer);
+) -> io::Result<()> {
+    let n = read_full(&mut rt.reader(), buffer)?;
     if LONGEST < n {
-        line(10, b"answer");
-        return;
+        return line(rt, 10, "answer");
     }
     let all: &[u8] = buffer;
     let file = &all[..n];
-    print_read(decoding::strict_instance_from_bytes_at(
-        width_of(file),
-        file,
-        publics,
-        queries,
-        equations,
-        scratch,
-    ));
+    print_read(
+        rt,
+        decoding::strict_instance_from_bytes_at(
+            width_of(file),
+            file,
+            publics,
+            queries,
+            equations,
+            scratch,
+        ),
+    )
 }
 
-fn main() {
+fn main(rt: HostRuntime) -> io::Result<()> {
     run(
+        &rt,
         &mut [0; BUFFER],
         &mut [0; ROOM],
         &mut [0; ROOM],
         &mut [0; ROOM],
         &mut [0; ROOM],
-    );
+    )
 }
