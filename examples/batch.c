@@ -4,7 +4,7 @@
  * an equation without it: both lines are struck.
  * From the repository's root:
  *
- *   cc -Iinclude examples/batch.c target/staticlib/libsfr.a -o target/batch && target/batch */
+ *   cc -Iinclude examples/batch.c crates/sfr/out/libsfr.a -o out/batch && out/batch */
 #include <stdio.h>
 #include <stdlib.h>
 #include "sfr.h"

@@ -3,7 +3,7 @@
  * is public to both. The premix mixer reads the same ticket again, which is a repeat. Its equation says hopper - sack = 2,
  * the order; the finishing mixer's hand + sack = hopper. From the repository's root:
  *
- *   cc -Iinclude examples/mixers.c target/staticlib/libsfr.a -o target/mixers && target/mixers */
+ *   cc -Iinclude examples/mixers.c crates/sfr/out/libsfr.a -o out/mixers && out/mixers */
 #include <stdio.h>
 #include <stdlib.h>
 #include "sfr.h"

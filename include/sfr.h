@@ -1,6 +1,6 @@
 /* sfr.h: sealed-batch relations, proved, for C99 and C++11 and later.
  *
- * Link with libsfr.a, for Linux on x86-64, which `rt staticlib sfr` writes to target/staticlib and ./install puts where
+ * Link with libsfr.a, for Linux on x86-64, which `rt lib` in crates/sfr writes to its folder out and ./install puts where
  * pkg-config finds it. Files named here are the repository's. examples/batch.c is a batch from its first wire to a yes;
  * docs/SCOPE.md has the terms in full, and each call's questions. Here stand, in this order: units, UTF-8 and words in
  * bytes; relations; relations on one allocator; permutations and traces; instances; the check; what a number means. The

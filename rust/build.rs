@@ -1,5 +1,5 @@
 //! Links the proved library. `SFR_LIB` names its archive; without it, it is
-//! `target/staticlib/libsfr.a` seen from the root of the repository, where `rt staticlib sfr`
+//! `crates/sfr/out/libsfr.a` seen from the root of the repository, where `rt lib` in `crates/sfr`
 //! puts it.
 
 use std::{env, fs, path::PathBuf};
@@ -15,10 +15,10 @@ fn main() {
     );
     let here = PathBuf::from(set("CARGO_MANIFEST_DIR"));
     let archive = env::var_os("SFR_LIB")
-        .map_or_else(|| here.join("../target/staticlib/libsfr.a"), PathBuf::from);
+        .map_or_else(|| here.join("../crates/sfr/out/libsfr.a"), PathBuf::from);
     let archive = fs::canonicalize(&archive).unwrap_or_else(|error| {
         panic!(
-            "no library at {}: {error}; `rt staticlib sfr` makes it, SFR_LIB names another",
+            "no library at {}: {error}; `rt lib` in crates/sfr makes it, SFR_LIB names another",
             archive.display()
         )
     });

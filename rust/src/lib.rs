@@ -65,8 +65,8 @@
 //!
 //! # The archive
 //!
-//! What runs is `libsfr.a`, which `rt staticlib sfr` makes, at the root of the repository, of the
-//! functions that it has proved, and puts at `target/staticlib/libsfr.a`: there the build script looks
+//! What runs is `libsfr.a`, which `rt lib` makes, in the repository's folder `crates/sfr`, of the
+//! functions that it has proved, and puts at `crates/sfr/out/libsfr.a`: there the build script looks
 //! for it. `SFR_LIB` names another, such as the one that `./install PREFIX` puts at
 //! `PREFIX/lib/libsfr.a`. It is x86-64 code for Linux. The proofs are of those functions. Not proved
 //! are the compiler that made the archive of them, and this crate, which hands slices on as pointers
