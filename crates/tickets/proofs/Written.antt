@@ -10,7 +10,7 @@ use Rattle.words.specs.Store.{All}
 use Rattle.words.specs.Pieces.{pieces, flat}
 use Rattle.words.proofs.Held.{flat-length, pieces-flat}
 use Rattle.allocator.specs.Slots.{Pair}
-use Rattle.ticket.specs.Form.{wire_columns, grams_columns, ticket_line, Of}
+use Rattle.ticket.specs.Form.{wire_columns, grams_columns, ticket_line}
 use Rattle.ticket.specs.declared.Ticket.{Ticket}
 use Rattle.ticket.specs.declared.Line.TheVariants as line
 use Rattle.ticket.proofs.Form.{of-read, line-length}
