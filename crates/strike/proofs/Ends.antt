@@ -27,9 +27,9 @@ rest_at s at (suc n) h =
     rw (z, drop-drop (size_at (drop at s)) at s) (omega arith)
 
 module _ (s : List ℕ) (at n whole : ℕ) (f : at ≤ length s) (e : rest_end n at s ≡ whole) where
-  pub rest_end : n ≤ 0 → at ≡ whole
+  pub rest-ended : n ≤ 0 → at ≡ whole
   unfolding rest_end
-  rest_end h =
+  rest-ended h =
       let z : n ≡ 0 = omega arith in
       let w : min (at + 0) (length s + 1) ≡ whole = rw z at e in
       omega arith
