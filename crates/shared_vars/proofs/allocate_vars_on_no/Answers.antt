@@ -7,24 +7,12 @@ use Rattle.allocator.specs.Slots.{most_asks}
 use Rattle.permutation.specs.Relation.{relation_front}
 use Rattle.sharing.specs.Shares.{on_allocator, shares, quota_asks}
 use Rattle.shared_vars.specs.Answers.{relation_on_no, allocate_vars_on_no}
-use borrow.Author.Rules.{rules}
-use Rattle.shared_vars.proofs.allocate_vars_on_no.Statement.{statement}
-use Rattle.shared_vars.proofs.allocate_vars_on_no.Tie as tie
+use Rattle.shared_vars.proofs.allocate_vars_on_no.Goals as goal
 
-relation-on-no-requires : tie.Need-relation-on-no-requires
-relation-on-no-requires c κs = search rules
-
-asked-quota-requires : tie.Need-asked-quota-requires
-asked-quota-requires c κs = search rules
-
-returns : tie.Need-returns
+pub returns : goal.returns
 unfolding relation_on_no allocate_vars_on_no
 returns c =
-    let a = c.before.before.args in
-    rw (c.asked-quota.ensures, c.before.relation-on-no.ensures)
+    let a = c.args in
+    rw (c.asked_quota.ensures, c.relation_on_no-no.ensures)
     (sym (first_no-append (relation_front (shares a.allocator a.index a.rel) (on_allocator a.allocator a.rel) a.len)
     (most_asks a.allocator.vars a.n ++ quota_asks a.rel.quota a.rel.obtained a.n)))
-
-pub allocate-vars-on-no-spec : {M : Type 1} → statement M
-allocate-vars-on-no-spec =
-    tie.close (tie.spec relation-on-no-requires asked-quota-requires returns)
