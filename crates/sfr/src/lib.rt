@@ -1,4 +1,4 @@
-// The proved functions for C and Rust: the static library libsfr.a (`rt staticlib sfr`), declared in
+// The proved functions for C and Rust: the static library libsfr.a (`rt lib` in this folder), declared in
 // include/sfr.h and rust/src/sys.rs.
 //
 // Each function here only hands its arguments on; what comes back is its own struct with the documents' number

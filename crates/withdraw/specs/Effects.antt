@@ -1,4 +1,4 @@
--- What each withdrawal does, its parts by name, as in `recording/specs/Contracts`. Assumes nothing.
+-- What each withdrawal does, its parts by name, as in `recording/specs/Effects`. Assumes nothing.
 use Rattle.std.specs.Prelude.{ℕ, ◌≡◌, List, length}
 use Rattle.permutation.specs.declared.PermutationRelation.{PermutationRelation}
 use Rattle.permutation.specs.declared.Recorded.{Recorded}
