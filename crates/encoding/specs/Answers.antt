@@ -1,5 +1,5 @@
 -- What the calls that write answer, and what they leave of the output. Assumes nothing.
-use Rattle.std.specs.Prelude.{ℕ, ◌+◌, ◌≡◌, List, [], ◌∷◌, ◌++◌, leb, length, take}
+use Rattle.std.specs.Prelude.{ℕ, ◌≡◌, List, [], ◌∷◌, ◌++◌, leb, length, take}
 use Rattle.limits.specs.Numbers.{prime}
 use Rattle.limits.specs.Questions.{Question, question, first_no, on_yes}
 use Rattle.limits.specs.Asks.{width_asks}
