@@ -6,7 +6,7 @@ use Rattle.encoding.specs.Answers.{instance_to_bytes}
 use Rattle.encoding.proofs.Stored.{written-refused, written-accepted}
 use Rattle.encoding.proofs.Held.{Fits, instance_to_bytes-yes, instance_to_bytes-held}
 use Rattle.encoding.proofs.sfri.instance_to_bytes.Goals as goal
-use Rattle.encoding.proofs.sfri.instance_to_bytes.Goals.{After-instance_to_bytes_no-no, Else-no-ne0}
+use Rattle.encoding.proofs.sfri.instance_to_bytes.Goals.{Else-no-ne0}
 
 -- every question says yes: the output holds the bytes
 fits : (e : Else-no-ne0) → let a = e.args in

@@ -6,7 +6,7 @@ use Rattle.limits.proofs.Questions.{zero-▸}
 use Rattle.held.proofs.Facts.{instance_asks-yes}
 use Rattle.encoding.proofs.Held.{Few, few, instance_to_bytes-first, instance_to_bytes-then}
 use Rattle.encoding.proofs.sfri.instance_to_bytes_no.Goals as goal
-use Rattle.encoding.proofs.sfri.instance_to_bytes_no.Goals.{After-asked_instance-no, After-held_words-words}
+use Rattle.encoding.proofs.sfri.instance_to_bytes_no.Goals.{After-held_words-words}
 
 -- where 1, 2 and 11 say yes, what is held is few
 held-few : (c : After-held_words-words) →

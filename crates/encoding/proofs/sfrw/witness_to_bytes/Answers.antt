@@ -12,7 +12,7 @@ use Rattle.encoding.proofs.Length.{length-header}
 use Rattle.encoding.proofs.Stored.{put_then, written-refused, written-accepted}
 use Rattle.encoding.proofs.Steps.{witness_to_bytes-yes, witness_to_bytes-held}
 use Rattle.encoding.proofs.sfrw.witness_to_bytes.Goals as goal
-use Rattle.encoding.proofs.sfrw.witness_to_bytes.Goals.{After-held_pieces-held, After-witness_to_bytes_no-no}
+use Rattle.encoding.proofs.sfrw.witness_to_bytes.Goals.{After-held_pieces-held}
 
 -- every question says yes: the output holds the bytes
 fits : (p : After-held_pieces-held) → witness_fixed + 4 * length p.held_pieces-held.result.now ≤ length p.args.out.now
