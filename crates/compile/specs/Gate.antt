@@ -1,6 +1,6 @@
 -- The gate (the source's `compile`): its questions, the publics that it makes, and its answer.
 -- Assumes nothing.
-use Rattle.std.specs.Prelude.{ℕ, suc, ◌+◌, ◌*◌, ◌-◌, ◌≤◌, ◌≡◌, List, [], ◌∷◌, ◌++◌, eqb, leb, length, take, replicate}
+use Rattle.std.specs.Prelude.{ℕ, suc, ◌*◌, ◌-◌, ◌≤◌, ◌≡◌, List, [], ◌∷◌, ◌++◌, eqb, leb, length, take, replicate}
 use Rattle.limits.specs.Numbers.{max_count, unassigned}
 use Rattle.limits.specs.Questions.{ask, ◌▸◌, Question, question, first_no, in_turn, pick, on_yes}
 use Rattle.limits.specs.Asks.{store_asks}
