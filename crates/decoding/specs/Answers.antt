@@ -136,5 +136,5 @@ pub record FileReads (rule : Rule) (width : ℕ) (bytes : Bor (List ℕ)) (befor
   pub outcome : r.outcome ≡ (instance_answer width (instance_got rule width bytes.now before)).outcome
   pub instance : r.instance ≡ (instance_answer width (instance_got rule width bytes.now before)).instance
   pub label : r.label.now ≡ label_read (instance_got rule width bytes.now before)
-  pub place : r.label.ptr ≡ label_place (instance_got rule width bytes.now before) bytes.ref_ptr
+  pub place : r.label.ref_ptr ≡ label_place (instance_got rule width bytes.now before) bytes.ref_ptr
   pub left : StoresAfter (instance_got rule width bytes.now before) before after
