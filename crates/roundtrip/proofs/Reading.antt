@@ -10,7 +10,7 @@ use borrow.Author.Tests.{eq-eqb}
 use lib.Dec.{leb}
 use lib.ListN.{length}
 use Rattle.limits.specs.Numbers.{prime, max_count}
-use Rattle.limits.specs.Questions.{ask, ◌▸◌, Question, question, first_no}
+use Rattle.limits.specs.Questions.{ask, Question, question, first_no}
 use Rattle.limits.proofs.Questions.{▸-zero, ▸-assoc, first_no-append}
 use Rattle.words.specs.Store.{All}
 use Rattle.words.specs.Pieces.{words_of}
