@@ -1,6 +1,6 @@
 -- An instance through its bytes, after a gate that accepted: what the write and the read still ask, that read
 -- equals written, and the check of what was read. Assumes nothing.
-use Prim.Native.Nat.{ℕ, ◌+◌, ◌*◌, ◌-◌}
+use Prim.Native.Nat.{ℕ, ◌*◌}
 use mathlib.Core.Path.{◌≡◌, refl, sym, ap, ap₂, ◌∙◌, subst}
 use mathlib.Core.Bool.{true}
 use mathlib.Core.List.{List, [], ◌++◌}
@@ -291,15 +291,15 @@ module _ (s : State) (l : Ledger) (i : Agrees s.relation.width s l)
   written-no : Accepted written.outcome → write_no ≡ 0
   written-no a = accepted-no write_no a
 
-  read_no : (a : Accepted written.outcome) → Accepted back.outcome → read_no (written-no a) ≡ 0
-  read_no a b = accepted-no _ (sym (read-outcome (written-no a)) ∙ b)
+  read-accepted : (a : Accepted written.outcome) → Accepted back.outcome → read_no (written-no a) ≡ 0
+  read-accepted a b = accepted-no _ (sym (read-outcome (written-no a)) ∙ b)
 
   pub filed : Filed w s.queries s.equations it made f l
   unfolding instance_to_bytes_no
   filed = record {
     writes = record { by-questions = refl; by-ledger = ap outcome_of write-left };
     reads = λ a. read-outcome (written-no a) ∙ ap outcome_of (read_left (written-no a));
-    same = λ a b. same-file (written-no a) (read_no a b);
+    same = λ a b. same-file (written-no a) (read-accepted a b);
     strictly = λ a. strict-too (written-no a);
-    checks = λ a b. read-checks (written-no a) (read_no a b);
+    checks = λ a b. read-checks (written-no a) (read-accepted a b);
   }

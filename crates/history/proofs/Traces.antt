@@ -144,18 +144,18 @@ module _ (w : ℕ) (least : 1 ≤ w) (most : w ≤ max_width) (t : TraceLent) wh
   written-no : Accepted (witness_written w t).outcome → write_no ≡ 0
   written-no a = accepted-no write_no a
 
-  read_no : (a : Accepted (witness_written w t).outcome) → Accepted (witness_read_back w t).outcome → read_no (written-no a) ≡ 0
-  read_no a b = accepted-no _ (sym (read-outcome (written-no a)) ∙ b)
+  read-accepted : (a : Accepted (witness_written w t).outcome) → Accepted (witness_read_back w t).outcome → read_no (written-no a) ≡ 0
+  read-accepted a b = accepted-no _ (sym (read-outcome (written-no a)) ∙ b)
 
   pub traced : Traced w t
   unfolding witness_to_bytes_no
   traced = record {
     writes = record { by-questions = refl; by-ledger = ap outcome_of write-left };
     reads = λ a. read-outcome (written-no a) ∙ ap outcome_of (read_left (written-no a));
-    same-steps = λ a b. steps-are (written-no a) (read_no a b);
-    same-words = λ a b. words_are (written-no a) (read_no a b);
+    same-steps = λ a b. steps-are (written-no a) (read-accepted a b);
+    same-words = λ a b. words_are (written-no a) (read-accepted a b);
   }
 
   pub trace-read : Accepted (witness_written w t).outcome → Accepted (witness_read_back w t).outcome
       → TraceHeld w (witness_read_back w t).steps (trace_read_back w t)
-  trace-read a b = read_held (written-no a) (read_no a b)
+  trace-read a b = read_held (written-no a) (read-accepted a b)
