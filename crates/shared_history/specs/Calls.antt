@@ -36,8 +36,8 @@ pub data SharedCall : Type 0 where
   On : (r : ℕ) (handed : OwnState) → Call → SharedCall
 
 -- what a call on number r gets
-abbrev pub field_own : SharedState → ℕ → OwnState → OwnState
-field_own p r handed = get_or p.owns r handed
+abbrev pub own_at : SharedState → ℕ → OwnState → OwnState
+own_at p r handed = get_or p.owns r handed
 
 -- a relation with the shared count and the shared slots: what a relation alone would be
 abbrev pub seen : SharedState → OwnState → State
@@ -51,7 +51,7 @@ shares_of p r m = shares p.allocator r m.relation
 abbrev pub lengths_for : SharedState → SharedCall → Lengths
 lengths_for p (Open width quota queries equations uses) =
     record { slots = length p.slots; queries = length queries; equations = length equations; uses = length uses }
-lengths_for p (On r handed c) = lengths_of (seen p (field_own p r handed))
+lengths_for p (On r handed c) = lengths_of (seen p (own_at p r handed))
 
 -- how many wires a call asks for, at a width
 abbrev pub wires_of : ℕ → Call → ℕ
@@ -73,7 +73,7 @@ taken w c a = on_accepted a (wires_of w c) 0
 -- of an opening and of a relation's call, on the state that it gets
 unfoldable pub shared_asks : SharedState → SharedCall → List Question
 shared_asks p (Open width quota queries equations uses) = with_allocator_asks p.allocator width (length p.slots) (length uses)
-shared_asks p (On r handed c) = let m = field_own p r handed in asks_with (shares_of p r m) (seen p m) c
+shared_asks p (On r handed c) = let m = own_at p r handed in asks_with (shares_of p r m) (seen p m) c
 
 -- the number up to the last question that sharing puts in, 42 or 43
 unfoldable pub front_no : SharedState → ℕ → OwnState → Call → ℕ
@@ -91,7 +91,7 @@ shared_answer p (Open width quota queries equations uses) =
     let o = with_allocator p.allocator width quota p.slots uses in
     record { outcome = o.outcome; first = o.index; accepted = 0; fresh = 0 }
 shared_answer p (On r handed c) =
-    let m = field_own p r handed in
+    let m = own_at p r handed in
     on_yes (front_no p r m c) (answer (seen p m) c) (refused_with (front_no p r m c))
 
 -- ---- what a call leaves
@@ -131,7 +131,7 @@ shared_after p (Open width quota queries equations uses) =
             uses = with_allocator_uses p.allocator width p.slots uses;
           } ∷ [])) p.owns;
     }
-shared_after p (On r handed c) = let m = field_own p r handed in on_yes (front_no p r m c) (acted_on p r m c) p
+shared_after p (On r handed c) = let m = own_at p r handed in on_yes (front_no p r m c) (acted_on p r m c) p
 
 -- ---- the ledger
 -- of each relation: its width and quota, the wires that it obtained, its queries and its equations
