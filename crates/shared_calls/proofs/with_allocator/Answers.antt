@@ -1,0 +1,11 @@
+-- `shared_calls::with_allocator` meets its contract: what `sharing::with_allocator` ensures is what the list has.
+-- Assumes nothing.
+use Rattle.shared_calls.proofs.Laws.{opens}
+use Rattle.shared_calls.proofs.with_allocator.Goals as goal
+
+pub returns : goal.returns
+returns c =
+    let done = c in
+    let a = done.args in
+    let made = done.with_allocator.ensures in
+    opens a.width a.quota _ a.allocator a.slots.now a.uses.now _ _ made.answers made.leaves made.leaves-too

@@ -1,0 +1,12 @@
+-- `shared_calls::withdraw_query_on` meets its contract: what `shared_withdraw::withdraw_query_on` ensures is what the list has.
+-- Assumes nothing.
+use Rattle.shared_calls.proofs.Laws.{query-withdrawn}
+use Rattle.shared_calls.proofs.withdraw_query_on.Goals as goal
+
+pub returns : goal.returns
+returns c =
+    let done = c in
+    let a = done.args in
+    let made = done.withdraw_query_on.ensures in
+    query-withdrawn a.allocator a.index a.rel a.slots.now a.queries.now a.uses.now a.i _ _ _
+    made.answers made.leaves made.leaves-too
