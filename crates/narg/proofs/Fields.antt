@@ -19,7 +19,7 @@ use Rattle.narg.specs.Reader.{Got, got, stop, on_got, ◌>>◌, give, need, word
 pub never : {A : Type 0} {a : A} {r : List ℕ} {k : ℕ} → stop k ≡ got a r → ⊥
 never e = let z : ◌≡◌ {A = ℕ} 0 1 = cc in omega arith
 
--- ---- bytes (of a lent slice, in a function's proof: `λ i. (c.shared-slice-known.given i).fits`)
+-- ---- bytes (of a lent slice `s`, in a function's answers: `λ i. (c.type_inv.s i).fits`)
 pub is_bytes-rest : (bytes rest : List ℕ) → IsBytes (bytes ++ rest) → IsBytes rest
 is_bytes-rest bytes rest h i = rw get_or-append-add at (h (length bytes + i))
 
