@@ -1,4 +1,4 @@
--- `add_permutation` meets its contract: the answer.args.uses.now what is asked last, and two writes, one behind the other, are
+-- `add_permutation` meets its contract: the counts answer what is asked last, and two writes, one behind the other, are
 -- the query.
 -- Assumes nothing.
 use Prim.Native.Nat.{ℕ, ◌+◌}
@@ -13,44 +13,41 @@ use Rattle.words.specs.Store.{fit_words}
 use Rattle.words.specs.Pieces.{words_of}
 use Rattle.words.proofs.Pieces.{pieces-few}
 use Rattle.words.proofs.Held.{halves-put}
-use Rattle.uses.specs.Uses.{uses_after}
 use Rattle.uses.proofs.Left.{uses-left, stray-left}
 use Rattle.permutation.specs.Answers.{relation}
 use Rattle.permutation.proofs.Answered.{recorded-refused, recorded-accepted}
 use Rattle.recording.specs.Numbers.{add_permutation_no}
-use Rattle.recording.specs.Answers.{one_query, queries_with}
 use Rattle.recording.proofs.Accepted.{AddPermutation, add_permutation-yes}
 use Rattle.recording.proofs.Tallied.{record-early, record-late}
 use Rattle.recording.proofs.add_permutation.Goals as goal
 use Rattle.recording.proofs.add_permutation.Goals.{After-count_cells-counted, Else-counted-ne0}
 
+-- 1, 2, 9 and 3 said yes, and the cells are counted: the number is the call's
 late : (w : After-count_cells-counted) → w.count_cells-counted.result.number ≡ (add_permutation_no w.args.rel (length w.args.slots.now) (length w.args.queries.now) w.args.uses.now w.args.input.now w.args.output.now)
 late w =
     record-late w.args.rel (length w.args.slots.now) (length w.args.queries.now) w.args.uses.now w.args.input.now w.args.output.now _ w.add_permutation_no-no.ensures w.if-no-ne0.false _ _
     w.asked_one_more-room.ensures w.count_cells-counted.ensures.number
 
-yes : (t : Else-counted-ne0) → let o = t in AddPermutation o.args.rel (length o.args.queries.now) o.args.input.now o.args.output.now
+-- all said yes
+yes : (t : Else-counted-ne0) → AddPermutation t.args.rel (length t.args.queries.now) t.args.input.now t.args.output.now
 yes t = add_permutation-yes _ _ _ _ _ _ (sym (record-late t.args.rel (length t.args.slots.now) (length t.args.queries.now) t.args.uses.now t.args.input.now t.args.output.now _ t.add_permutation_no-no.ensures t.if-no-ne0.false _ _
     t.asked_one_more-room.ensures t.count_cells-counted.ensures.number) ∙ t.if-counted-ne0.false)
 
 pub returns-then-no-ne0 : goal.returns-then-no-ne0
 returns-then-no-ne0 c =
-    let o = c in
-    let e = record-early o.args.rel (length o.args.slots.now) (length o.args.queries.now) o.args.uses.now o.args.input.now o.args.output.now _ c.add_permutation_no-no.ensures c.if-no-ne0.true in record {
-      answer = recorded-refused (add_permutation_no o.args.rel (length o.args.slots.now) (length o.args.queries.now) o.args.uses.now o.args.input.now o.args.output.now) _ e (one_query o.args.rel (length o.args.slots.now) (o.args.input.now ++ o.args.output.now)) o.args.rel c.if-no-ne0.true;
-      queries = store-refused (add_permutation_no o.args.rel (length o.args.slots.now) (length o.args.queries.now) o.args.uses.now o.args.input.now o.args.output.now) _ e (queries_with o.args.rel (o.args.input.now ++ o.args.output.now) o.args.queries.now) o.args.queries.now c.if-no-ne0.true;
-      uses = store-refused (add_permutation_no o.args.rel (length o.args.slots.now) (length o.args.queries.now) o.args.uses.now o.args.input.now o.args.output.now) _ e (uses_after false o.args.uses.now (o.args.input.now ++ o.args.output.now)) o.args.uses.now c.if-no-ne0.true;
+    let e = record-early c.args.rel (length c.args.slots.now) (length c.args.queries.now) c.args.uses.now c.args.input.now c.args.output.now _ c.add_permutation_no-no.ensures c.if-no-ne0.true in record {
+      answer = recorded-refused _ _ e _ c.args.rel c.if-no-ne0.true;
+      queries = store-refused _ _ e _ c.args.queries.now c.if-no-ne0.true;
+      uses = store-refused _ _ e _ c.args.uses.now c.if-no-ne0.true;
     }
 
 pub returns-then-counted-ne0 : goal.returns-then-counted-ne0
 returns-then-counted-ne0 c =
-    let w = c in
-    let o = w in
     let e = late (goal.at.returns-then-counted-ne0 c).After-count_cells-counted in
     record {
-      answer = recorded-refused (add_permutation_no o.args.rel (length o.args.slots.now) (length o.args.queries.now) o.args.uses.now o.args.input.now o.args.output.now) _ e (one_query o.args.rel (length o.args.slots.now) (o.args.input.now ++ o.args.output.now)) o.args.rel c.if-counted-ne0.true;
-      queries = store-refused (add_permutation_no o.args.rel (length o.args.slots.now) (length o.args.queries.now) o.args.uses.now o.args.input.now o.args.output.now) _ e (queries_with o.args.rel (o.args.input.now ++ o.args.output.now) o.args.queries.now) o.args.queries.now c.if-counted-ne0.true;
-      uses = uses-left false (length o.args.slots.now) o.args.uses.now o.args.rel.stray (o.args.input.now ++ o.args.output.now) _ _ _ w.count_cells-counted.ensures (add_permutation_no o.args.rel (length o.args.slots.now) (length o.args.queries.now) o.args.uses.now o.args.input.now o.args.output.now) e;
+      answer = recorded-refused _ _ e _ c.args.rel c.if-counted-ne0.true;
+      queries = store-refused _ _ e _ c.args.queries.now c.if-counted-ne0.true;
+      uses = uses-left false (length c.args.slots.now) c.args.uses.now c.args.rel.stray (c.args.input.now ++ c.args.output.now) _ _ _ c.count_cells-counted.ensures _ e;
     }
 
 pub overflow_mul-at : goal.overflow_mul-at
@@ -67,23 +64,21 @@ overflow_add-result c =
 
 pub returns : goal.returns
 returns c =
-    let t = c in
     let w = (goal.at.returns c).After-count_cells-counted in
-    let o = w in
     let e = late w in
     let f = yes (goal.at.returns c).Else-counted-ne0 in
     let m = w.count_cells-counted.ensures in
-    let z = t.if-counted-ne0.false in
-    let at = words_of o.args.rel.width o.args.rel.queries in
+    let z = c.if-counted-ne0.false in
+    let at = words_of w.args.rel.width w.args.rel.queries in
     record {
       answer =
-          ap (λ (n : ℕ). record { outcome = outcome.Accepted; relation = relation o.args.rel.width o.args.rel.vars (o.args.rel.queries + 1) o.args.rel.equations o.args.rel.words n })
-          (stray-left false (length o.args.slots.now) o.args.uses.now o.args.rel.stray (o.args.input.now ++ o.args.output.now) _ _ _ m z)
-          ∙ recorded-accepted (add_permutation_no o.args.rel (length o.args.slots.now) (length o.args.queries.now) o.args.uses.now o.args.input.now o.args.output.now) _ e (one_query o.args.rel (length o.args.slots.now) (o.args.input.now ++ o.args.output.now)) o.args.rel z;
+          ap (λ (n : ℕ). record { outcome = outcome.Accepted; relation = relation w.args.rel.width w.args.rel.vars (w.args.rel.queries + 1) w.args.rel.equations w.args.rel.words n })
+          (stray-left false (length w.args.slots.now) w.args.uses.now w.args.rel.stray (w.args.input.now ++ w.args.output.now) _ _ _ m z)
+          ∙ recorded-accepted _ _ e _ w.args.rel z;
       queries =
           c.put-2.ensures
-          ∙ ap (fit_words (at + o.args.rel.width) o.args.output.now) c.put.ensures
-          ∙ halves-put o.args.rel.width o.args.rel.queries o.args.input.now o.args.output.now o.args.queries.now f.inputs f.outputs f.room
-          ∙ store-accepted (add_permutation_no o.args.rel (length o.args.slots.now) (length o.args.queries.now) o.args.uses.now o.args.input.now o.args.output.now) _ e (queries_with o.args.rel (o.args.input.now ++ o.args.output.now) o.args.queries.now) o.args.queries.now z;
-      uses = uses-left false (length o.args.slots.now) o.args.uses.now o.args.rel.stray (o.args.input.now ++ o.args.output.now) _ _ _ m (add_permutation_no o.args.rel (length o.args.slots.now) (length o.args.queries.now) o.args.uses.now o.args.input.now o.args.output.now) e;
+          ∙ ap (fit_words (at + w.args.rel.width) w.args.output.now) c.put.ensures
+          ∙ halves-put w.args.rel.width w.args.rel.queries w.args.input.now w.args.output.now w.args.queries.now f.inputs f.outputs f.room
+          ∙ store-accepted _ _ e _ w.args.queries.now z;
+      uses = uses-left false (length w.args.slots.now) w.args.uses.now w.args.rel.stray (w.args.input.now ++ w.args.output.now) _ _ _ m _ e;
     }

@@ -14,8 +14,7 @@ returns-then-held-at c =
 
 pub returns : goal.returns
 returns c =
-    let h = c in
-    let a = h.args in
+    let a = c.args in
     let s = take a.used a.equations.now in
-    let l : a.at ≤ length s = rw h.held_words-held.ensures at c.if-held-at.false in
-    c.asked.ensures ∙ ends-part a.at a.n _ s h.held_words-held.ensures l _ c.end_within.ensures
+    let l : a.at ≤ length s = rw c.held_words-held.ensures at c.if-held-at.false in
+    c.asked.ensures ∙ ends-part a.at a.n _ s c.held_words-held.ensures l _ c.end_within.ensures
