@@ -24,47 +24,43 @@ returns-then-values-i c =
 
 pub shape_of-slots-then-no-ne0 : goal.shape_of-slots-then-no-ne0
 shape_of-slots-then-no-ne0 c =
-    let d = c in
-    let l = d.loop-i in
-    ap length d.assign_var-set.ensures.slots ∙ item-length (pair_no _) (λ p. p) l.slots _ ∙ l.invariant.3
+    let l = c.loop-i in
+    ap length c.assign_var-set.ensures.slots ∙ item-length (pair_no _) (λ p. p) l.slots _ ∙ l.invariant.3
 
 pub returns-then-no-ne0 : goal.returns-then-no-ne0
 returns-then-no-ne0 c =
-    let d = c in
-    let l = d.loop-i in
-    let a = d.args in
+    let l = c.loop-i in
+    let a = c.args in
     let vars = a.vars.now in
     let values = a.values.now in
     let p = pair (get_or vars l.i 0) (get_or values l.i 0) in
-    let split = pairs-at vars values l.i d.loop-i-test.true d.if-values-i.false in
-    let answered = c.set_no-no.ensures ∙ item-number (pair_no a.count) (λ p. p) l.slots p _ _ d.assign_var-set.ensures in
+    let split = pairs-at vars values l.i c.loop-i-test.true c.if-values-i.false in
+    let answered = c.set_no-no.ensures ∙ item-number (pair_no a.count) (λ p. p) l.slots p _ _ c.assign_var-set.ensures in
     told
-    (ap (λ (t : List ℕ). ran c.set_no-no.result l.i l.fresh t) d.assign_var-set.ensures.slots
+    (ap (λ (t : List ℕ). ran c.set_no-no.result l.i l.fresh t) c.assign_var-set.ensures.slots
     ∙ run-refused (pair_no a.count) (λ p. p) l.slots l.i l.fresh _ p _ _ split l.invariant.2 _ answered c.if-no-ne0.true)
 
 pub overflow_add-fresh : goal.overflow_add-fresh
 overflow_add-fresh c =
-    let d = c in
-    let l = d.loop-i in
-    omega (arith, l.invariant.1, c.set_fresh-fresh.ensures, set-one d.assign_var-set.result)
+    let l = c.loop-i in
+    omega (arith, l.invariant.1, c.set_fresh-fresh.ensures, set-one c.assign_var-set.result)
 
 pub loop-i-preserved : goal.loop-i-preserved
 loop-i-preserved c =
-    let d = c in
-    let l = d.loop-i in
-    let a = d.args in
+    let l = c.loop-i in
+    let a = c.args in
     let vars = a.vars.now in
     let values = a.values.now in
     let p = pair (get_or vars l.i 0) (get_or values l.i 0) in
-    let split = pairs-at vars values l.i d.loop-i-test.true d.if-values-i.false in
-    let answered = c.set_no-no.ensures ∙ item-number (pair_no a.count) (λ p. p) l.slots p _ _ d.assign_var-set.ensures in
+    let split = pairs-at vars values l.i c.loop-i-test.true c.if-values-i.false in
+    let answered = c.set_no-no.ensures ∙ item-number (pair_no a.count) (λ p. p) l.slots p _ _ c.assign_var-set.ensures in
     let zero : pair_no a.count l.slots p ≡ 0 = sym answered ∙ c.if-no-ne0.false in
-    let one = c.set_fresh-fresh.ensures ∙ item-fresh (pair_no a.count) (λ p. p) l.slots p _ _ d.assign_var-set.ensures zero in (
+    let one = c.set_fresh-fresh.ensures ∙ item-fresh (pair_no a.count) (λ p. p) l.slots p _ _ c.assign_var-set.ensures zero in (
       omega arith,
-      omega (arith, l.invariant.1, c.set_fresh-fresh.ensures, set-one d.assign_var-set.result),
-      ap (λ (t : List ℕ). counted (l.i + 1) (l.fresh + c.set_fresh-fresh.result) (set_run a.count t (drop (l.i + 1) (pairs vars values)))) d.assign_var-set.ensures.slots
+      omega (arith, l.invariant.1, c.set_fresh-fresh.ensures, set-one c.assign_var-set.result),
+      ap (λ (t : List ℕ). counted (l.i + 1) (l.fresh + c.set_fresh-fresh.result) (set_run a.count t (drop (l.i + 1) (pairs vars values)))) c.assign_var-set.ensures.slots
           ∙ run-accepted (pair_no a.count) (λ p. p) l.slots l.i l.fresh _ p _ _ split l.invariant.2 _ one zero,
-      ap length d.assign_var-set.ensures.slots ∙ item-length (pair_no a.count) (λ p. p) l.slots p ∙ l.invariant.3,
+      ap length c.assign_var-set.ensures.slots ∙ item-length (pair_no a.count) (λ p. p) l.slots p ∙ l.invariant.3,
     )
 
 pub returns : goal.returns

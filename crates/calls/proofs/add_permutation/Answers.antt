@@ -5,7 +5,6 @@ use Rattle.calls.proofs.add_permutation.Goals as goal
 
 pub returns : goal.returns
 returns c =
-    let done = c in
-    let a = done.args in
-    let made = done.add_permutation.ensures in
+    let a = c.args in
+    let made = c.add_permutation.ensures in
     recorded a.rel a.slots.now a.queries.now a.uses.now a.input.now a.output.now _ _ _ made.answer made.queries made.uses

@@ -5,7 +5,6 @@ use Rattle.calls.proofs.allocate_permutation.Goals as goal
 
 pub returns : goal.returns
 returns c =
-    let done = c in
-    let a = done.args in
-    let made = done.allocate_permutation.ensures in
+    let a = c.args in
+    let made = c.allocate_permutation.ensures in
     minted a.rel a.slots.now a.queries.now a.uses.now a.input.now _ _ _ _ made.answer made.slots made.queries made.uses

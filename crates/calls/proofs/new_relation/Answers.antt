@@ -5,7 +5,6 @@ use Rattle.calls.proofs.new_relation.Goals as goal
 
 pub returns : goal.returns
 returns c =
-    let done = c in
-    let a = done.args in
-    let made = done.new_relation.ensures in
+    let a = c.args in
+    let made = c.new_relation.ensures in
     started a.width a.slots.now a.uses.now _ _ _ made.answer made.slots made.uses

@@ -5,9 +5,7 @@ use Rattle.compile.proofs.asked_made.Goals as goal
 
 pub returns : goal.returns
 returns c =
-    let h = c in
-    let s = h in
-    let a = s.args in
+    let a = c.args in
     made_by a.rel a.slots.now a.equations.now a.uses.now a.count a.publics a.scratch _ _ _ _ _ _
-    h.held_words.ensures c.held_words-2.ensures s.asked-a.ensures h.asked-b.ensures
-    h.asked-c.ensures c.asked_used.ensures
+    c.held_words.ensures c.held_words-2.ensures c.asked-a.ensures c.asked-b.ensures
+    c.asked-c.ensures c.asked_used.ensures

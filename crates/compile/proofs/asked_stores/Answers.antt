@@ -5,14 +5,13 @@ use Rattle.compile.proofs.asked_stores.Goals as goal
 
 pub returns : goal.returns
 returns c =
-    let d = c in
     rw (
       c.asked.ensures,
       c.asked_store-f.ensures,
       c.asked_store-e.ensures,
       c.asked-d.ensures,
-      d.asked-c.ensures,
-      d.asked_store-b.ensures,
-      d.asked_held-a.ensures,
+      c.asked-c.ensures,
+      c.asked_store-b.ensures,
+      c.asked_held-a.ensures,
     )
     (simp (▸-assoc, ▸-zero))

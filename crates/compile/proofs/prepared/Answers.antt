@@ -6,8 +6,7 @@ use Rattle.compile.proofs.prepared.Goals as goal
 
 pub returns : goal.returns
 returns c =
-    let s = c in
-    let a = s.args in
+    let a = c.args in
     prepared-by
     (gate_lent a.rel a.label.now a.slots.now a.queries.now a.equations.now a.uses.now a.publics a.scratch) _ _ _ _
-    s.asked_relation-a.ensures s.asked_stores-b.ensures c.asked_store-c.ensures c.asked_sound.ensures
+    c.asked_relation-a.ensures c.asked_stores-b.ensures c.asked_store-c.ensures c.asked_sound.ensures

@@ -20,14 +20,12 @@ returns-then-not-equation_fits c =
 
 pub write_ends-requires : goal.write_ends-requires
 write_ends-requires c =
-    let d = c in
-    let a = d.args in
-    let f : a.at + equation_size a.n ≤ length a.out.now = leb-true _ _ (sym d.equation_fits.ensures ∙ d.if-not-equation_fits.false) in
+    let a = c.args in
+    let f : a.at + equation_size a.n ≤ length a.out.now = leb-true _ _ (sym c.equation_fits.ensures ∙ c.if-not-equation_fits.false) in
     (omega arith, f)
 
 pub returns : goal.returns
 returns c =
-    let d = c in
-    let a = d.args in
-    let f = sym d.equation_fits.ensures ∙ d.if-not-equation_fits.false in
+    let a = c.args in
+    let f = sym c.equation_fits.ensures ∙ c.if-not-equation_fits.false in
     (simp (lt-ltb a.n word_end (omega arith)) (sym f), c.write_ends.ensures)

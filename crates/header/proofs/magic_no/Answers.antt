@@ -10,20 +10,16 @@ returns-then-magic-lt-VERSION_AT c s ef em = part-magic-short s _ _ ef em _ _ (o
 
 pub returns-then-not-is_magic : goal.returns-then-not-is_magic
 returns-then-not-is_magic c s ef em =
-    let m = c in
-    part-magic-no s _ _ ef em _ _ (omega arith) (sym m.is_magic.ensures ∙ c.if-not-is_magic.true)
+    part-magic-no s _ _ ef em _ _ (omega arith) (sym c.is_magic.ensures ∙ c.if-not-is_magic.true)
 
 pub returns-then-mark-lt1 : goal.returns-then-mark-lt1
 returns-then-mark-lt1 c s ef em =
-    let m = c in
-    part-version-short s _ _ ef em _ _ (omega arith) (sym m.is_magic.ensures ∙ c.if-not-is_magic.false) (omega arith)
+    part-version-short s _ _ ef em _ _ (omega arith) (sym c.is_magic.ensures ∙ c.if-not-is_magic.false) (omega arith)
 
 pub returns-then-mark-version : goal.returns-then-mark-version
 returns-then-mark-version c s ef em =
-    let m = c in
-    part-version-no s _ _ ef em _ _ (omega arith) (sym m.is_magic.ensures ∙ c.if-not-is_magic.false) (omega arith) c.if-mark-version.true
+    part-version-no s _ _ ef em _ _ (omega arith) (sym c.is_magic.ensures ∙ c.if-not-is_magic.false) (omega arith) c.if-mark-version.true
 
 pub returns : goal.returns
 returns c s ef em =
-    let m = c in
-    part-magic-yes s _ _ ef em _ _ (omega arith) (sym m.is_magic.ensures ∙ c.if-not-is_magic.false) (omega arith) c.if-mark-version.false
+    part-magic-yes s _ _ ef em _ _ (omega arith) (sym c.is_magic.ensures ∙ c.if-not-is_magic.false) (omega arith) c.if-mark-version.false

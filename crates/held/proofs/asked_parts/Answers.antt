@@ -5,14 +5,13 @@ use Rattle.held.proofs.asked_parts.Goals as goal
 
 pub returns : goal.returns
 returns c =
-    let d = c in
     rw (
       c.asked.ensures,
       c.asked-f.ensures,
       c.asked_pieces-e.ensures,
-      d.asked-d.ensures,
-      d.asked_store-c.ensures,
-      d.asked_store-b.ensures,
-      d.asked_store-a.ensures,
+      c.asked-d.ensures,
+      c.asked_store-c.ensures,
+      c.asked_store-b.ensures,
+      c.asked_store-a.ensures,
     )
     (simp (▸-assoc, ▸-zero))

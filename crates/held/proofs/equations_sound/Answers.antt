@@ -16,26 +16,23 @@ overflow_sub-held c = omega arith
 
 pub returns-then-held-at : goal.returns-then-held-at
 returns-then-held-at c =
-    let t = c in
-    let l = t.loop-left in
-    let s = t.args.held.now in
+    let l = c.loop-left in
+    let s = c.args.held.now in
     let h : length s - l.at < size_at (drop l.at s) = rw c.size_at-size.ensures at c.if-held-at.true in
-    rest-long s l.at l.left _ l.invariant.1 t.loop-left-test.true l.invariant.0 h
+    rest-long s l.at l.left _ l.invariant.1 c.loop-left-test.true l.invariant.0 h
 
 pub equation_sound-requires : goal.equation_sound-requires
 equation_sound-requires c =
-    let t = c in
-    let l = t.loop-left in
-    let s = t.args.held.now in
+    let l = c.loop-left in
+    let s = c.args.held.now in
     let h : l.at + (2 + 2 * get_or s l.at 0) ≤ length s = omega (arith, size_is s l.at, c.size_at-size.ensures) in
     h
 
 pub returns-then-not-equation_sound : goal.returns-then-not-equation_sound
 returns-then-not-equation_sound c =
-    let t = c in
-    let l = t.loop-left in
-    let s = t.args.held.now in
-    rest-unsound s l.at l.left _ l.invariant.1 t.loop-left-test.true l.invariant.0
+    let l = c.loop-left in
+    let s = c.args.held.now in
+    rest-unsound s l.at l.left _ l.invariant.1 c.loop-left-test.true l.invariant.0
     (sym c.equation_sound.ensures ∙ c.if-not-equation_sound.true)
 
 pub overflow_add-at : goal.overflow_add-at
@@ -49,12 +46,11 @@ loop-left-smaller c = omega arith
 
 pub loop-left-preserved : goal.loop-left-preserved
 loop-left-preserved c =
-    let t = c in
-    let l = t.loop-left in
-    let s = t.args.held.now in
+    let l = c.loop-left in
+    let s = c.args.held.now in
     let e = c.size_at-size.ensures in (
       omega arith,
-      rw e (rest_more s l.at l.left _ l.invariant.1 t.loop-left-test.true l.invariant.0
+      rw e (rest_more s l.at l.left _ l.invariant.1 c.loop-left-test.true l.invariant.0
           (sym c.equation_sound.ensures ∙ c.if-not-equation_sound.false)),
     )
 

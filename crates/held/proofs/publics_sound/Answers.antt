@@ -18,26 +18,23 @@ returns-then-held-i c =
 
 pub returns-then-held-i-ge-MAX_COUNT : goal.returns-then-held-i-ge-MAX_COUNT
 returns-then-held-i-ge-MAX_COUNT c =
-    let t = c in
-    let l = t.loop-left in
-    let s = t.args.held.now in
-    sound-wire s l.i l.left _ l.invariant t.loop-left-test.true c.if-held-i-ge-MAX_COUNT.true
+    let l = c.loop-left in
+    let s = c.args.held.now in
+    sound-wire s l.i l.left _ l.invariant c.loop-left-test.true c.if-held-i-ge-MAX_COUNT.true
 
 pub returns-then-word_at-ge-P : goal.returns-then-word_at-ge-P
 returns-then-word_at-ge-P c =
-    let t = c in
-    let l = t.loop-left in
-    let s = t.args.held.now in
+    let l = c.loop-left in
+    let s = c.args.held.now in
     let e : prime ≤ get_or s (l.i + 1) 0 = rw c.word_at.ensures at c.if-word_at-ge-P.true in
-    sound-unit s l.i l.left _ l.invariant t.loop-left-test.true c.if-held-i-ge-MAX_COUNT.false e
+    sound-unit s l.i l.left _ l.invariant c.loop-left-test.true c.if-held-i-ge-MAX_COUNT.false e
 
 pub loop-left-preserved : goal.loop-left-preserved
 loop-left-preserved c =
-    let t = c in
-    let l = t.loop-left in
-    let s = t.args.held.now in
+    let l = c.loop-left in
+    let s = c.args.held.now in
     let e : get_or s (l.i + 1) 0 < prime = rw c.word_at.ensures at c.if-word_at-ge-P.false in
-    sound_more s l.i l.left _ l.invariant t.loop-left-test.true c.if-held-i-ge-MAX_COUNT.false e
+    sound_more s l.i l.left _ l.invariant c.loop-left-test.true c.if-held-i-ge-MAX_COUNT.false e
 
 pub returns : goal.returns
 returns c =

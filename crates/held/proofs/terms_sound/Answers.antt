@@ -35,9 +35,8 @@ loop-left-smaller c = omega arith
 
 pub loop-left-preserved : goal.loop-left-preserved
 loop-left-preserved c =
-    let t = c in
-    let l = t.loop-left in
-    (pairs-more _ l.sound l.i l.left _ l.invariant.0 t.loop-left-test.true, omega arith)
+    let l = c.loop-left in
+    (pairs-more _ l.sound l.i l.left _ l.invariant.0 c.loop-left-test.true, omega arith)
 
 pub returns : goal.returns
 returns c =

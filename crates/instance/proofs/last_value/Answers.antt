@@ -32,20 +32,18 @@ bounds-publics-at-then-publics-at c = omega arith
 pub returns-then-publics-at : goal.returns-then-publics-at
 unfolding value_of
 returns-then-publics-at c =
-    let t = c in
-    let l = t.loop-left in
-    let a = t.args in
-    value_found l.left a.publics.now a.x _ l.invariant.1 t.loop-left-test.true c.if-publics-at.true
+    let l = c.loop-left in
+    let a = c.args in
+    value_found l.left a.publics.now a.x _ l.invariant.1 c.loop-left-test.true c.if-publics-at.true
 
 pub loop-left-smaller : goal.loop-left-smaller
 loop-left-smaller c = omega arith
 
 pub loop-left-preserved : goal.loop-left-preserved
 loop-left-preserved c =
-    let t = c in
-    let l = t.loop-left in
-    let a = t.args in
-    (omega arith, value-earlier l.left a.publics.now a.x _ l.invariant.1 t.loop-left-test.true c.if-publics-at.false)
+    let l = c.loop-left in
+    let a = c.args in
+    (omega arith, value-earlier l.left a.publics.now a.x _ l.invariant.1 c.loop-left-test.true c.if-publics-at.false)
 
 pub returns : goal.returns
 unfolding value_of

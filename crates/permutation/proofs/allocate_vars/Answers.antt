@@ -25,19 +25,17 @@ returns-then-no-ne0 c =
 
 pub overflow_add-result : goal.overflow_add-result
 overflow_add-result c =
-    let d = c in
-    let a = d.args in
-    let y = allocate_vars-yes a.rel (length a.slots.now) a.n (sym d.allocate_vars_no-no.ensures ∙ d.if-no-ne0.false) in
+    let a = c.args in
+    let y = allocate_vars-yes a.rel (length a.slots.now) a.n (sym c.allocate_vars_no-no.ensures ∙ c.if-no-ne0.false) in
     omega arith
 
 pub returns : goal.returns
 returns c =
-    let d = c in
-    let a = d.args in
+    let a = c.args in
     let s = a.slots.now in
     let no = allocate_vars_no a.rel (length s) a.n in
-    let e = d.allocate_vars_no-no.ensures in
-    let z = d.if-no-ne0.false in
+    let e = c.allocate_vars_no-no.ensures in
+    let z = c.if-no-ne0.false in
     let y = allocate_vars-yes a.rel (length s) a.n (sym e ∙ z) in record {
       answer = allocated-accepted no _ e (more_vars a.rel a.n) a.rel a.rel.vars z;
       slots =

@@ -29,14 +29,12 @@ bounds-slots-0 c =
 
 pub returns : goal.returns
 returns c =
-    let done = c in
-    let asked = done in
-    let a = asked.args in
+    let a = c.args in
     let s = a.slots.now in
     let u = a.uses.now in
     let no = new_relation_no a.width (length s) (length u) in
-    let e = asked.new_relation_no-no.ensures in record {
-      answer = recorded-accepted no _ e (relation a.width 1 0 0 0 0) (relation 0 0 0 0 0 0) asked.if-no-ne0.false;
-      slots = store-accepted no _ e (set s 0 0) s asked.if-no-ne0.false;
-      uses = done.fill.ensures ∙ store-accepted no _ e (replicate (length u) 0) u asked.if-no-ne0.false;
+    let e = c.new_relation_no-no.ensures in record {
+      answer = recorded-accepted no _ e (relation a.width 1 0 0 0 0) (relation 0 0 0 0 0 0) c.if-no-ne0.false;
+      slots = store-accepted no _ e (set s 0 0) s c.if-no-ne0.false;
+      uses = c.fill.ensures ∙ store-accepted no _ e (replicate (length u) 0) u c.if-no-ne0.false;
     }

@@ -11,6 +11,5 @@ returns-then-no-ne0 c =
 
 pub returns : goal.returns
 returns c =
-    let b = c in
-    let a = b.args in
-    pair-answered a.rel a.slots.now (pair a.var.0 a.value.0) _ b.asked_relation-no.ensures b.if-no-ne0.false _ _ c.assign_var.ensures
+    let a = c.args in
+    pair-answered a.rel a.slots.now (pair a.var.0 a.value.0) _ c.asked_relation-no.ensures c.if-no-ne0.false _ _ c.assign_var.ensures

@@ -13,30 +13,26 @@ returns-then-no-ne0 c =
 
 pub overflow_cast-accepted : goal.overflow_cast-accepted
 overflow_cast-accepted c =
-    let b = c in
-    let a = b.args in
-    let y = tallies-fit a.rel a.slots.now a.vars.now a.values.now _ b.set_vars_no-no.ensures b.if-no-ne0.false in
+    let a = c.args in
+    let y = tallies-fit a.rel a.slots.now a.vars.now a.values.now _ c.set_vars_no-no.ensures c.if-no-ne0.false in
     let d = c.set_pairs-run.ensures in
     omega (arith, y.0, ap (λ (q : SetPairs). q.accepted) d.answer)
 
 pub overflow_cast-fresh : goal.overflow_cast-fresh
 overflow_cast-fresh c =
-    let b = c in
-    let a = b.args in
-    let y = tallies-fit a.rel a.slots.now a.vars.now a.values.now _ b.set_vars_no-no.ensures b.if-no-ne0.false in
+    let a = c.args in
+    let y = tallies-fit a.rel a.slots.now a.vars.now a.values.now _ c.set_vars_no-no.ensures c.if-no-ne0.false in
     let d = c.set_pairs-run.ensures in
     omega (arith, y.1, ap (λ (q : SetPairs). q.fresh) d.answer)
 
 pub returns-then-no-ne0-2 : goal.returns-then-no-ne0-2
 returns-then-no-ne0-2 c =
-    let b = c in
-    let a = b.args in
+    let a = c.args in
     let d = c.set_pairs-run.ensures in
-    pairs-refused a.rel a.slots.now a.vars.now a.values.now _ b.set_vars_no-no.ensures b.if-no-ne0.false _ _ d _ c.asked-no.ensures c.if-no-ne0-2.true
+    pairs-refused a.rel a.slots.now a.vars.now a.values.now _ c.set_vars_no-no.ensures c.if-no-ne0.false _ _ d _ c.asked-no.ensures c.if-no-ne0-2.true
 
 pub returns : goal.returns
 returns c =
-    let b = c in
-    let a = b.args in
+    let a = c.args in
     let d = c.set_pairs-run.ensures in
-    pairs-accepted a.rel a.slots.now a.vars.now a.values.now _ b.set_vars_no-no.ensures b.if-no-ne0.false _ _ d _ c.asked-no.ensures c.if-no-ne0-2.false
+    pairs-accepted a.rel a.slots.now a.vars.now a.values.now _ c.set_vars_no-no.ensures c.if-no-ne0.false _ _ d _ c.asked-no.ensures c.if-no-ne0-2.false

@@ -19,25 +19,22 @@ returns-then-count-x c =
 
 pub bounds-slots-x : goal.bounds-slots-x
 bounds-slots-x c =
-    let d = c in
-    let a = d.args in
-    let y = value-yes a.rel (length a.slots.now) a.var.0 (sym d.value_of_no-no.ensures ∙ d.if-no-ne0.false) in
+    let a = c.args in
+    let y = value-yes a.rel (length a.slots.now) a.var.0 (sym c.value_of_no-no.ensures ∙ c.if-no-ne0.false) in
     omega arith
 
 pub returns-then-held : goal.returns-then-held
 returns-then-held c =
-    let d = c in
-    let a = d.args in
-    let e = d.value_of_no-no.ensures in
-    let z = d.if-no-ne0.false in
+    let a = c.args in
+    let e = c.value_of_no-no.ensures in
+    let z = c.if-no-ne0.false in
     let y = value-yes a.rel (length a.slots.now) a.var.0 (sym e ∙ z) in
     value_none a.rel a.slots.now a.var.0 _ e z (omega arith) (omega arith) c.if-held.true
 
 pub returns : goal.returns
 returns c =
-    let d = c in
-    let a = d.args in
-    let e = d.value_of_no-no.ensures in
-    let z = d.if-no-ne0.false in
+    let a = c.args in
+    let e = c.value_of_no-no.ensures in
+    let z = c.if-no-ne0.false in
     let y = value-yes a.rel (length a.slots.now) a.var.0 (sym e ∙ z) in
     value-held a.rel a.slots.now a.var.0 _ e z (omega arith) (omega arith) c.if-held.false

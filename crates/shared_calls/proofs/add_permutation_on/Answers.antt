@@ -5,8 +5,7 @@ use Rattle.shared_calls.proofs.add_permutation_on.Goals as goal
 
 pub returns : goal.returns
 returns c =
-    let done = c in
-    let a = done.args in
-    let made = done.add_permutation_on.ensures in
+    let a = c.args in
+    let made = c.add_permutation_on.ensures in
     recorded a.allocator a.index a.rel a.slots.now a.queries.now a.uses.now a.input.now a.output.now _ _ _
     made.answers made.leaves made.leaves-too

@@ -5,7 +5,6 @@ use Rattle.shared_calls.proofs.with_allocator.Goals as goal
 
 pub returns : goal.returns
 returns c =
-    let done = c in
-    let a = done.args in
-    let made = done.with_allocator.ensures in
+    let a = c.args in
+    let made = c.with_allocator.ensures in
     opens a.width a.quota _ a.allocator a.slots.now a.uses.now _ _ made.answers made.leaves made.leaves-too

@@ -5,8 +5,7 @@ use Rattle.shared_calls.proofs.withdraw_query_on.Goals as goal
 
 pub returns : goal.returns
 returns c =
-    let done = c in
-    let a = done.args in
-    let made = done.withdraw_query_on.ensures in
+    let a = c.args in
+    let made = c.withdraw_query_on.ensures in
     query-withdrawn a.allocator a.index a.rel a.slots.now a.queries.now a.uses.now a.i _ _ _
     made.answers made.leaves made.leaves-too

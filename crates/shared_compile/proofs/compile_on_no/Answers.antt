@@ -14,16 +14,15 @@ use Rattle.shared_compile.proofs.compile_on_no.Goals as goal
 pub returns : goal.returns
 unfolding compile_on_no
 returns c =
-    let w = c in
-    let a = w.args in
+    let a = c.args in
     let s = length a.slots.now in
     rw (
       c.asked_opened.ensures,
       c.asked_store-no.ensures,
       c.asked_stores-no.ensures,
       c.asked_slots_on-no.ensures,
-      w.asked_width-no.ensures,
-      w.on_allocator-held.ensures,
+      c.asked_width-no.ensures,
+      c.on_allocator-held.ensures,
     )
     (chain-all
     (width_asks a.rel.width

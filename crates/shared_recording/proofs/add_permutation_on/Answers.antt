@@ -25,8 +25,7 @@ returns-then-no-ne0 c =
 
 pub returns : goal.returns
 returns c =
-    let b = c in
-    let a = b.args in
+    let a = c.args in
     let x = on_allocator a.allocator a.rel in
     let l = length a.slots.now in
     let s = a.queries.now in
@@ -36,7 +35,7 @@ returns c =
     let k = add_permutation_on_no a.allocator a.index a.rel l (length s) (length u) i o in
     let d = c.add_permutation-done.ensures in
     let e = c.on_allocator.ensures in
-    both-through k _ b.add_permutation_on_no-no.ensures b.if-no-ne0.false
+    both-through k _ c.add_permutation_on_no-no.ensures c.if-no-ne0.false
     (recorded_on a.rel (add_permutation x l s u i o)) (recorded_not a.rel k) s (add_permutation_queries x l s u i o) u (add_permutation_uses x l s u i o) _ _ _
     (c.recorded_on.ensures
     ∙ ap (λ (q : Recorded). recorded_on a.rel q) (d.answer ∙ ap (λ (y : PermutationRelation). add_permutation y l s u i o) e))

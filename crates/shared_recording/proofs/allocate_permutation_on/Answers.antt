@@ -30,21 +30,19 @@ returns-then-no-ne0 c =
 
 pub overflow_add-more : goal.overflow_add-more
 overflow_add-more c =
-    let b = c in
-    let a = b.args in
-    let y = mint-within a.allocator a.index a.rel (length a.slots.now) (length a.queries.now) a.uses.now a.input.now (sym b.mint_front_no-no.ensures ∙ b.if-no-ne0.false) in
+    let a = c.args in
+    let y = mint-within a.allocator a.index a.rel (length a.slots.now) (length a.queries.now) a.uses.now a.input.now (sym c.mint_front_no-no.ensures ∙ c.if-no-ne0.false) in
     omega (arith, y, c.struct_known-1.given)
 
 pub returns : goal.returns
 returns c =
-    let b = c in
-    let a = b.args in
+    let a = c.args in
     let x = on_allocator a.allocator a.rel in
     let s = a.slots.now in
     let q = a.queries.now in
     let u = a.uses.now in
     let i = a.input.now in
-    let z = sym b.mint_front_no-no.ensures ∙ b.if-no-ne0.false in
+    let z = sym c.mint_front_no-no.ensures ∙ c.if-no-ne0.false in
     let d = c.allocate_permutation-done.ensures in
     let e = c.on_allocator.ensures in
     let more = a.rel.obtained + a.rel.width in

@@ -23,11 +23,10 @@ returns-then-within_quota c =
 pub returns : goal.returns
 unfolding mint_front_no
 returns c =
-    let b = c in
-    let a = b.args in
-    let over = mint-over (leb (a.rel.obtained + a.rel.width) a.rel.quota) _ _ _ (sym b.within_quota.ensures ∙ b.if-within_quota.false) in
+    let a = c.args in
+    let over = mint-over (leb (a.rel.obtained + a.rel.width) a.rel.quota) _ _ _ (sym c.within_quota.ensures ∙ c.if-within_quota.false) in
     over
-    (rw (c.asked_quota.ensures, c.asked_half-no.ensures, b.mint_sizes_on-no.ensures)
+    (rw (c.asked_quota.ensures, c.asked_half-no.ensures, c.mint_sizes_on-no.ensures)
     (chain-from (mint_sizes (shares a.allocator a.index a.rel) (on_allocator a.allocator a.rel) a.slots a.room a.uses a.input.now)
     (half_asks a.rel.width 3 max_count a.input.now
     ∷ (most_asks a.allocator.vars a.rel.width ++ quota_asks a.rel.quota a.rel.obtained a.rel.width)

@@ -25,22 +25,20 @@ returns-then-no-ne0 c =
 
 pub overflow_add-more : goal.overflow_add-more
 overflow_add-more c =
-    let b = c in
-    let a = b.args in
-    let q = allocate-within a.allocator a.index a.rel (length a.slots.now) a.n (sym b.allocate_vars_on_no-no.ensures ∙ b.if-no-ne0.false) in
+    let a = c.args in
+    let q = allocate-within a.allocator a.index a.rel (length a.slots.now) a.n (sym c.allocate_vars_on_no-no.ensures ∙ c.if-no-ne0.false) in
     omega (arith, q, c.struct_known-1.given)
 
 pub returns : goal.returns
 returns c =
-    let b = c in
-    let a = b.args in
+    let a = c.args in
     let x = on_allocator a.allocator a.rel in
     let s = a.slots.now in
     let k = allocate_vars_on_no a.allocator a.index a.rel (length s) a.n in
     let d = c.allocate_vars-done.ensures in
     let o = c.on_allocator.ensures in
     let more = a.rel.obtained + a.n in
-    does-through k _ b.allocate_vars_on_no-no.ensures b.if-no-ne0.false
+    does-through k _ c.allocate_vars_on_no-no.ensures c.if-no-ne0.false
     (allocated_on a.allocator a.rel (allocate_vars x s a.n) more) (allocated_not a.allocator a.rel k)
     s (allocate_vars_slots x s a.n) _ _
     (c.allocated_on.ensures

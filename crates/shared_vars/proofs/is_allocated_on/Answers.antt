@@ -17,9 +17,8 @@ returns-then-no-ne0 c =
 
 pub returns : goal.returns
 returns c =
-    let b = c in
-    let a = b.args in
+    let a = c.args in
     let k = is_allocated_on_no a.allocator a.index a.rel in
     c.is_allocated.ensures
     ∙ ap (λ (y : PermutationRelation). is_allocated y a.var.0) c.on_allocator.ensures
-    ∙ through-by (is_allocated (on_allocator a.allocator a.rel) a.var.0) (is_allocated-is.Refused k) k _ b.is_allocated_on_no-no.ensures b.if-no-ne0.false
+    ∙ through-by (is_allocated (on_allocator a.allocator a.rel) a.var.0) (is_allocated-is.Refused k) k _ c.is_allocated_on_no-no.ensures c.if-no-ne0.false

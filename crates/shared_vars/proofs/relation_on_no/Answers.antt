@@ -12,19 +12,17 @@ use Rattle.shared_vars.proofs.relation_on_no.Goals as goal
 pub returns-then-allocator-gt0 : goal.returns-then-allocator-gt0
 unfolding relation_on_no
 returns-then-allocator-gt0 c =
-    let t = c in
-    let a = t.args in
+    let a = c.args in
     rw (
       c.asked_opened.ensures,
       c.asked_relation-no.ensures ∙ first_no-append (width_asks a.rel.width) (slots_asks a.allocator.vars a.len)
-          ∙ slots-counted (first_no (width_asks a.rel.width)) a.allocator.opened a.allocator.vars a.len t.if-allocator-gt0.true,
+          ∙ slots-counted (first_no (width_asks a.rel.width)) a.allocator.opened a.allocator.vars a.len c.if-allocator-gt0.true,
     )
     (simp (first_no-append, ▸-assoc, ▸-zero))
 
 pub returns : goal.returns
 unfolding relation_on_no
 returns c =
-    let t = c in
-    let a = t.args in
-    rw (c.asked_opened-2.ensures, c.asked_store-no.ensures ∙ slots-alone _ a.allocator.opened a.allocator.vars a.len t.if-allocator-gt0.false, c.asked_width-no.ensures)
+    let a = c.args in
+    rw (c.asked_opened-2.ensures, c.asked_store-no.ensures ∙ slots-alone _ a.allocator.opened a.allocator.vars a.len c.if-allocator-gt0.false, c.asked_width-no.ensures)
     (simp (first_no-append, ▸-assoc, zero-▸, ▸-zero))

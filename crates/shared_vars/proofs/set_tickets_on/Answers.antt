@@ -22,10 +22,9 @@ returns-then-no-ne0 c =
 pub returns : goal.returns
 unfolding set_tickets_on_run
 returns c =
-    let b = c in
-    let a = b.args in
+    let a = c.args in
     let s = a.slots.now in
     runs-through set_tickets_of (relation_on_no a.allocator a.index a.rel (length s)) _
-    b.relation_on_no-no.ensures s b.if-no-ne0.false
+    c.relation_on_no-no.ensures s c.if-no-ne0.false
     (λ (y : PermutationRelation). set_tickets_run y s a.text.now) _ _ c.on_allocator.ensures _ _
     c.set_tickets.ensures

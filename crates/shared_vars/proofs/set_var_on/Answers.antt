@@ -22,15 +22,14 @@ returns-then-no-ne0 c =
 
 pub returns : goal.returns
 returns c =
-    let b = c in
-    let a = b.args in
+    let a = c.args in
     let x = on_allocator a.allocator a.rel in
     let s = a.slots.now in
     let p = pair a.var.0 a.value.0 in
     let k = relation_on_no a.allocator a.index a.rel (length s) in
     let d = c.set_var.ensures in
     let o = c.on_allocator.ensures in
-    does-through k _ b.relation_on_no-no.ensures b.if-no-ne0.false
+    does-through k _ c.relation_on_no-no.ensures c.if-no-ne0.false
     (set_var x s p) (set.Refused k) s (set_var_slots x s p) _ _
     (d.answer ∙ ap (λ (y : PermutationRelation). set_var y s p) o)
     (d.slots ∙ ap (λ (y : PermutationRelation). set_var_slots y s p) o)

@@ -19,10 +19,9 @@ returns-then-no-ne0 c =
 
 pub returns : goal.returns
 returns c =
-    let b = c in
-    let a = b.args in
+    let a = c.args in
     let s = a.slots.now in
     let k = relation_on_no a.allocator a.index a.rel (length s) in
     c.value_of.ensures
     ∙ ap (λ (y : PermutationRelation). value_of y s a.var.0) c.on_allocator.ensures
-    ∙ through-by (value_of (on_allocator a.allocator a.rel) s a.var.0) (var_value.Refused k) k _ b.relation_on_no-no.ensures b.if-no-ne0.false
+    ∙ through-by (value_of (on_allocator a.allocator a.rel) s a.var.0) (var_value.Refused k) k _ c.relation_on_no-no.ensures c.if-no-ne0.false

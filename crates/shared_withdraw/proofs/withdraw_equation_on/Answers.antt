@@ -22,14 +22,13 @@ returns-then-no-ne0 c =
 
 pub returns : goal.returns
 returns c =
-    let b = c in
-    let a = b.args in
+    let a = c.args in
     let x = on_allocator a.allocator a.rel in
     let s = a.equations.now in
     let k = add_equation_on_no a.allocator a.index a.rel (length s) in
     let d = c.withdraw_equation-done.ensures in
     let e = c.on_allocator.ensures in
-    does-through k _ b.add_equation_on_no-no.ensures b.if-no-ne0.false
+    does-through k _ c.add_equation_on_no-no.ensures c.if-no-ne0.false
     (recorded_on a.rel (withdraw_equation x s a.i)) (recorded_not a.rel k) s (withdraw_equation_equations x s a.i) _ _
     (c.recorded_on.ensures
     ∙ ap (λ (q : Recorded). recorded_on a.rel q) (d.answer ∙ ap (λ (y : PermutationRelation). withdraw_equation y s a.i) e))

@@ -24,8 +24,7 @@ returns-then-no-ne0 c =
 
 pub returns : goal.returns
 returns c =
-    let b = c in
-    let a = b.args in
+    let a = c.args in
     let x = on_allocator a.allocator a.rel in
     let l = length a.slots.now in
     let s = a.queries.now in
@@ -33,7 +32,7 @@ returns c =
     let k = withdraw_query_on_no a.allocator a.index a.rel l (length s) (length u) in
     let d = c.withdraw_query-done.ensures in
     let e = c.on_allocator.ensures in
-    both-through k _ b.withdraw_query_on_no-no.ensures b.if-no-ne0.false
+    both-through k _ c.withdraw_query_on_no-no.ensures c.if-no-ne0.false
     (recorded_on a.rel (withdraw_query x l s u a.i)) (recorded_not a.rel k)
     s (withdraw_query_queries x l s u a.i) u (withdraw_query_uses x l s u a.i) _ _ _
     (c.recorded_on.ensures

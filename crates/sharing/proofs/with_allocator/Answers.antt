@@ -26,51 +26,45 @@ returns-then-no-ne0 c =
 
 pub overflow_add-result : goal.overflow_add-result
 overflow_add-result c =
-    let through = c in
-    let a = through.args in
+    let a = c.args in
     let y = opens-yes a.allocator a.width (length a.slots.now) (length a.uses.now)
-    (sym through.with_allocator_no-no.ensures ∙ through.if-no-ne0.false) in
+    (sym c.with_allocator_no-no.ensures ∙ c.if-no-ne0.false) in
     omega (arith, y.left)
 
 pub returns-then-index-gt0 : goal.returns-then-index-gt0
 returns-then-index-gt0 c =
-    let filled = c in
-    let through = filled in
-    let a = through.args in
+    let a = c.args in
     let s = a.slots.now in
     let u = a.uses.now in
-    let e = through.with_allocator_no-no.ensures in
-    let z = through.if-no-ne0.false in
+    let e = c.with_allocator_no-no.ensures in
+    let z = c.if-no-ne0.false in
     let some : 0 < a.allocator.opened = omega (arith, c.if-index-gt0.true) in
     record {
       answers =
           ap (λ (m : SharedRelation). record { outcome = outcome.Accepted; index = a.allocator.opened; allocator = record { vars = a.allocator.vars; opened = a.allocator.opened + 1 }; relation = m }) c.new_shared-then-index-gt0.ensures
           ∙ opening-later a.allocator a.width a.quota s u _ e z some;
       leaves = slots-later a.allocator a.width a.quota s u _ e z some;
-      leaves-too = filled.fill.ensures ∙ uses-accepted a.allocator a.width a.quota s u _ e z;
+      leaves-too = c.fill.ensures ∙ uses-accepted a.allocator a.width a.quota s u _ e z;
     }
 
 pub bounds-slots-0 : goal.bounds-slots-0
 bounds-slots-0 c =
-    let through = c in
-    let a = through.args in
+    let a = c.args in
     (opens-yes a.allocator a.width (length a.slots.now) (length a.uses.now)
-    (sym through.with_allocator_no-no.ensures ∙ through.if-no-ne0.false)).room
+    (sym c.with_allocator_no-no.ensures ∙ c.if-no-ne0.false)).room
 
 pub returns : goal.returns
 returns c =
-    let filled = c in
-    let through = filled in
-    let a = through.args in
+    let a = c.args in
     let s = a.slots.now in
     let u = a.uses.now in
-    let e = through.with_allocator_no-no.ensures in
-    let z = through.if-no-ne0.false in
+    let e = c.with_allocator_no-no.ensures in
+    let z = c.if-no-ne0.false in
     let none : a.allocator.opened ≤ 0 = omega (arith, c.if-index-gt0.false) in
     record {
       answers =
           ap (λ (m : SharedRelation). record { outcome = outcome.Accepted; index = 0; allocator = record { vars = 1; opened = 1 }; relation = m }) c.new_shared-2.ensures
           ∙ opening-first a.allocator a.width a.quota s u _ e z none;
       leaves = slots-first a.allocator a.width a.quota s u _ e z none;
-      leaves-too = filled.fill.ensures ∙ uses-accepted a.allocator a.width a.quota s u _ e z;
+      leaves-too = c.fill.ensures ∙ uses-accepted a.allocator a.width a.quota s u _ e z;
     }

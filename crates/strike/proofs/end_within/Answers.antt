@@ -12,18 +12,16 @@ loop-left-init c = let a = c.args in (omega arith, rest-whole a.n a.held.now)
 
 pub returns-then-held-at : goal.returns-then-held-at
 returns-then-held-at c =
-    let t = c in
-    let l = t.loop-left in
-    let s = t.args.held.now in
+    let l = c.loop-left in
+    let s = c.args.held.now in
     let h : length s - l.at < size_at (drop l.at s) = rw c.size_at-size.ensures at c.if-held-at.true in
-    rest-long s l.at l.left _ l.invariant.0 l.invariant.1 t.loop-left-test.true h
+    rest-long s l.at l.left _ l.invariant.0 l.invariant.1 c.loop-left-test.true h
 
 pub loop-left-preserved : goal.loop-left-preserved
 loop-left-preserved c =
-    let t = c in
-    let l = t.loop-left in
-    let s = t.args.held.now in
-    (omega arith, rw c.size_at-size.ensures (rest_more s l.at l.left _ l.invariant.0 l.invariant.1 t.loop-left-test.true))
+    let l = c.loop-left in
+    let s = c.args.held.now in
+    (omega arith, rw c.size_at-size.ensures (rest_more s l.at l.left _ l.invariant.0 l.invariant.1 c.loop-left-test.true))
 
 pub returns : goal.returns
 returns c = let l = c.loop-left in rest-ended c.args.held.now l.at l.left _ l.invariant.0 l.invariant.1 c.loop-left-test.false

@@ -28,8 +28,7 @@ loop-i-preserved c =
 
 pub returns : goal.returns
 returns c =
-    let d = c in
-    let l = d.loop-i in
-    let a = d.args in
+    let l = c.loop-i in
+    let a = c.args in
     let h : a.end - a.n + a.n ≤ length l.s = omega arith in
-    fill-mid (a.end - a.n) a.n 0 l.s _ h c.fill.ensures ∙ moving-ends a.at a.n a.end a.s.now l.i l.s d.loop-i-test.false l.invariant
+    fill-mid (a.end - a.n) a.n 0 l.s _ h c.fill.ensures ∙ moving-ends a.at a.n a.end a.s.now l.i l.s c.loop-i-test.false l.invariant

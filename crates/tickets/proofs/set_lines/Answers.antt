@@ -18,13 +18,12 @@ loop-at-init c = (omega arith, omega arith, omega arith, from-none _, refl)
 
 pub returns-then-no-ne0 : goal.returns-then-no-ne0
 returns-then-no-ne0 c =
-    let d = c in
-    let l = d.loop-at in
-    let a = d.args in
+    let l = c.loop-at in
+    let a = c.args in
     let text = a.text.now in
-    let end = d.line_end-end.result in
-    let split = next-line text l.at end d.line_end-end.ensures d.loop-at-test.true in
-    let made = d.set_line-set.ensures in
+    let end = c.line_end-end.result in
+    let split = next-line text l.at end c.line_end-end.ensures c.loop-at-test.true in
+    let made = c.set_line-set.ensures in
     let answered = c.set_no-no.ensures ∙ item-number (line_no a.count) line_pair l.slots _ _ _ made in
     told
     (ap (λ (t : List ℕ). ran c.set_no-no.result l.i l.fresh t) made.slots
@@ -32,24 +31,22 @@ returns-then-no-ne0 c =
 
 pub overflow_add-fresh : goal.overflow_add-fresh
 overflow_add-fresh c =
-    let d = c in
-    let l = d.loop-at in
-    omega (arith, l.invariant.2, c.set_fresh-fresh.ensures, set-one d.set_line-set.result)
+    let l = c.loop-at in
+    omega (arith, l.invariant.2, c.set_fresh-fresh.ensures, set-one c.set_line-set.result)
 
 pub loop-at-preserved : goal.loop-at-preserved
 loop-at-preserved c =
-    let d = c in
-    let l = d.loop-at in
-    let a = d.args in
+    let l = c.loop-at in
+    let a = c.args in
     let text = a.text.now in
-    let end = d.line_end-end.result in
-    let split = next-line text l.at end d.line_end-end.ensures d.loop-at-test.true in
-    let made = d.set_line-set.ensures in
+    let end = c.line_end-end.result in
+    let split = next-line text l.at end c.line_end-end.ensures c.loop-at-test.true in
+    let made = c.set_line-set.ensures in
     let zero = sym (c.set_no-no.ensures ∙ item-number (line_no a.count) line_pair l.slots _ _ _ made) ∙ c.if-no-ne0.false in
     let one = c.set_fresh-fresh.ensures ∙ item-fresh (line_no a.count) line_pair l.slots _ _ _ made zero in (
       omega arith,
       omega arith,
-      omega (arith, l.invariant.2, c.set_fresh-fresh.ensures, set-one d.set_line-set.result),
+      omega (arith, l.invariant.2, c.set_fresh-fresh.ensures, set-one c.set_line-set.result),
       ap (λ (t : List ℕ). counted (l.i + 1) (l.fresh + c.set_fresh-fresh.result) (set_lines a.count t (drop end text))) made.slots
           ∙ run-accepted (line_no a.count) line_pair l.slots l.i l.fresh _ _ _ _ split l.invariant.3 _ one zero,
       ap length made.slots ∙ item-length (line_no a.count) line_pair l.slots _ ∙ l.invariant.4,

@@ -15,6 +15,5 @@ returns-then-steps c =
 
 pub returns : goal.returns
 returns c =
-    let b = c in
-    let a = b.args in
-    as-pair a.count a.slots.now (pair a.wire a.steps) (omega arith) (omega arith) _ _ b.assign_var.ensures
+    let a = c.args in
+    as-pair a.count a.slots.now (pair a.wire a.steps) (omega arith) (omega arith) _ _ c.assign_var.ensures

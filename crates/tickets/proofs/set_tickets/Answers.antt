@@ -21,19 +21,15 @@ returns-then-no-ne0 c =
 pub returns-then-no-ne0-2 : goal.returns-then-no-ne0-2
 unfolding set_tickets_run
 returns-then-no-ne0-2 c =
-    let d = c in
-    let b = d in
-    let a = b.args in
-    let made = d.set_lines-run.ensures in
-    items_refused tell _ _ b.asked_relation-no.ensures a.slots.now (set_lines a.rel.vars a.slots.now a.text.now) b.if-no-ne0.false _ _ _ _
+    let a = c.args in
+    let made = c.set_lines-run.ensures in
+    items_refused tell _ _ c.asked_relation-no.ensures a.slots.now (set_lines a.rel.vars a.slots.now a.text.now) c.if-no-ne0.false _ _ _ _
     (λ i. ran (made.answer i).number (made.answer i).accepted (made.answer i).fresh (made.slots i)) c.if-no-ne0-2.true
 
 pub returns : goal.returns
 unfolding set_tickets_run
 returns c =
-    let d = c in
-    let b = d in
-    let a = b.args in
-    let made = d.set_lines-run.ensures in
-    items-accepted tell _ _ b.asked_relation-no.ensures a.slots.now (set_lines a.rel.vars a.slots.now a.text.now) b.if-no-ne0.false _ _ _ _
+    let a = c.args in
+    let made = c.set_lines-run.ensures in
+    items-accepted tell _ _ c.asked_relation-no.ensures a.slots.now (set_lines a.rel.vars a.slots.now a.text.now) c.if-no-ne0.false _ _ _ _
     (λ i. ran (made.answer i).number (made.answer i).accepted (made.answer i).fresh (made.slots i)) c.if-no-ne0-2.false

@@ -18,9 +18,8 @@ returns-then-not-uses_below c =
 
 pub returns : goal.returns
 returns c =
-    let d = c in
-    let a = d.args in
-    let below = sym d.uses_below.ensures ∙ d.if-not-uses_below.false in
+    let a = c.args in
+    let below = sym c.uses_below.ensures ∙ c.if-not-uses_below.false in
     c.asked_equations.ensures
     ∙ used-terms a.vars a.slots.now a.uses.now a.stray (equations_at a.n a.held.now) below
-    ∙ sym (goes_on a.no _ d.if-no-ne0.false)
+    ∙ sym (goes_on a.no _ c.if-no-ne0.false)

@@ -14,55 +14,49 @@ loop-left-init c = refl
 pub returns-then-vars-x : goal.returns-then-vars-x
 unfolding terms_no
 returns-then-vars-x c =
-    let t = c in
-    let l = t.loop-left in
-    let a = t.args in
+    let l = c.loop-left in
+    let a = c.args in
     let s = a.s.now in
     let f = bound_by a.slots.now a.uses.now in
     let h : a.vars ≤ get_or s l.i 0 = rw c.word_at-x.ensures at c.if-vars-x.true in
-    terms-beyond a.vars f s l.i l.left _ l.invariant t.loop-left-test.true h
+    terms-beyond a.vars f s l.i l.left _ l.invariant c.loop-left-test.true h
 
 pub returns-then-s-i : goal.returns-then-s-i
 unfolding terms_no
 returns-then-s-i c =
-    let t = c in
-    let l = t.loop-left in
-    let a = t.args in
+    let l = c.loop-left in
+    let a = c.args in
     let s = a.s.now in
     let f = bound_by a.slots.now a.uses.now in
     let h : get_or s l.i 0 < a.vars = rw c.word_at-x.ensures at c.if-vars-x.false in
-    terms-lacking a.vars f s l.i l.left _ l.invariant t.loop-left-test.true h c.if-s-i.true
+    terms-lacking a.vars f s l.i l.left _ l.invariant c.loop-left-test.true h c.if-s-i.true
 
 pub returns-then-not-is_bound : goal.returns-then-not-is_bound
 unfolding terms_no
 returns-then-not-is_bound c =
-    let d = c in
-    let t = d in
-    let l = t.loop-left in
-    let a = t.args in
+    let l = c.loop-left in
+    let a = c.args in
     let s = a.s.now in
     let f = bound_by a.slots.now a.uses.now in
-    let e = d.word_at-x.ensures in
-    let h : get_or s l.i 0 < a.vars = rw e at d.if-vars-x.false in
-    let w : get_or s (l.i + 1) 0 ≡ 0 → ⊥ = λ z. c.if-word_at-ne0.true (d.word_at.ensures ∙ z) in
+    let e = c.word_at-x.ensures in
+    let h : get_or s l.i 0 < a.vars = rw e at c.if-vars-x.false in
+    let w : get_or s (l.i + 1) 0 ≡ 0 → ⊥ = λ z. c.if-word_at-ne0.true (c.word_at.ensures ∙ z) in
     let b = ap f (sym e) ∙ sym c.is_bound.ensures ∙ c.if-not-is_bound.true in
-    terms-unbound a.vars f s l.i l.left _ l.invariant t.loop-left-test.true h w b
+    terms-unbound a.vars f s l.i l.left _ l.invariant c.loop-left-test.true h w b
 
 pub loop-left-preserved : goal.loop-left-preserved
 loop-left-preserved c =
-    let d = c in
-    let t = d in
-    let l = t.loop-left in
-    let a = t.args in
+    let l = c.loop-left in
+    let a = c.args in
     let s = a.s.now in
     let f = bound_by a.slots.now a.uses.now in
-    let e = d.word_at-x.ensures in
-    let h : get_or s l.i 0 < a.vars = rw e at d.if-vars-x.false in
+    let e = c.word_at-x.ensures in
+    let h : get_or s l.i 0 < a.vars = rw e at c.if-vars-x.false in
     elim c.if-word_at-ne0.branch [
       | then-word_at-ne0+else-not-is_bound w ↦
-          terms-bound a.vars f s l.i l.left _ l.invariant t.loop-left-test.true h (ap f (sym e) ∙ sym w.is_bound.ensures ∙ w.if-not-is_bound.false)
+          terms-bound a.vars f s l.i l.left _ l.invariant c.loop-left-test.true h (ap f (sym e) ∙ sym w.is_bound.ensures ∙ w.if-not-is_bound.false)
       | else-word_at-ne0 w ↦
-          terms-zero a.vars f s l.i l.left _ l.invariant t.loop-left-test.true h (sym d.word_at.ensures ∙ w.if-word_at-ne0.false)
+          terms-zero a.vars f s l.i l.left _ l.invariant c.loop-left-test.true h (sym c.word_at.ensures ∙ w.if-word_at-ne0.false)
     ]
 
 pub returns : goal.returns

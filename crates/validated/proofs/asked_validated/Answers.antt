@@ -21,14 +21,12 @@ validated-answer-requires c =
 
 pub returns : goal.returns
 returns c =
-    let v = c in
-    let f = v in
-    let a = f.args in
-    let n : length f.fill.new.s ≡ length a.scratch.now = ap length f.fill.ensures ∙ length-replicate _ _ in
+    let a = c.args in
+    let n : length c.fill.new.s ≡ length a.scratch.now = ap length c.fill.ensures ∙ length-replicate _ _ in
     record {
       answer =
-          v.validated-answer.ensures
+          c.validated-answer.ensures
           ∙ ap (gate_no (parts_of a.ins a.publics.now a.queries.now a.equations.now)) n
-          ∙ sym (goes_on a.no _ v.if-no-ne0.false);
-      scratch = c.fill-2.ensures ∙ ap (λ (k : ℕ). replicate {A = ℕ} k 0) (v.validated-answer.auto.marks ∙ n);
+          ∙ sym (goes_on a.no _ c.if-no-ne0.false);
+      scratch = c.fill-2.ensures ∙ ap (λ (k : ℕ). replicate {A = ℕ} k 0) (c.validated-answer.auto.marks ∙ n);
     }

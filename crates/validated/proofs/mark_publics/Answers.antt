@@ -14,12 +14,11 @@ loop-left-init c = (λ says end m. m, refl)
 
 pub returns-then-vars-x : goal.returns-then-vars-x
 returns-then-vars-x c =
-    let t = c in
-    let l = t.loop-left in
-    let a = t.args in
+    let l = c.loop-left in
+    let a = c.args in
     let s = a.s.now in
     let h : a.vars ≤ get_or s l.i 0 = rw c.word_at-x.ensures at c.if-vars-x.true in
-    l.invariant.0 _ _ (rw (pairs-at s l.i l.left t.loop-left-test.true) (mark-no a.vars l.marks _ _ h))
+    l.invariant.0 _ _ (rw (pairs-at s l.i l.left c.loop-left-test.true) (mark-no a.vars l.marks _ _ h))
 
 pub bounds-marks-x : goal.bounds-marks-x
 bounds-marks-x c = omega arith
@@ -29,9 +28,8 @@ shape_of-marks-then-s-i c = simp length-set (search rules)
 
 pub returns-then-s-i : goal.returns-then-s-i
 returns-then-s-i c =
-    let t = c in
-    let l = t.loop-left in
-    let a = t.args in
+    let l = c.loop-left in
+    let a = c.args in
     let s = a.s.now in
     let e = c.word_at-x.ensures in
     let z : get_or s l.i 0 ≡ 0 = get_or-eq_default s 0 c.if-s-i.true in
@@ -39,7 +37,7 @@ returns-then-s-i c =
     let d : length s ≤ l.i + 2 = omega arith in
     rw (e, z)
     (l.invariant.0 _ _
-    (rw (pairs-at s l.i l.left t.loop-left-test.true, z, drop_of_length-le s d)
+    (rw (pairs-at s l.i l.left c.loop-left-test.true, z, drop_of_length-le s d)
     (mark-more a.vars l.marks 0 _ k (mark-lacking a.vars (l.left - 1) l.marks k))))
 
 pub overflow_add-i : goal.overflow_add-i
@@ -53,15 +51,14 @@ loop-left-smaller c = omega arith
 
 pub loop-left-preserved : goal.loop-left-preserved
 loop-left-preserved c =
-    let t = c in
-    let l = t.loop-left in
-    let a = t.args in
+    let l = c.loop-left in
+    let a = c.args in
     let s = a.s.now in
     let e = c.word_at-x.ensures in
     let h : get_or s l.i 0 < a.vars = rw e at c.if-vars-x.false in
     rw e (
       λ says end m.
-          l.invariant.0 says end (rw (pairs-at s l.i l.left t.loop-left-test.true) (mark-more a.vars l.marks _ _ h m)),
+          l.invariant.0 says end (rw (pairs-at s l.i l.left c.loop-left-test.true) (mark-more a.vars l.marks _ _ h m)),
       length-set l.marks (get_or s l.i 0) 1 ∙ l.invariant.1,
     )
 

@@ -13,11 +13,10 @@ loop-i-init c = (λ says end m. m, omega arith, refl)
 
 pub returns-then-vars-x : goal.returns-then-vars-x
 returns-then-vars-x c =
-    let t = c in
-    let l = t.loop-i in
-    let a = t.args in
+    let l = c.loop-i in
+    let a = c.args in
     let s = a.s.now in
-    l.invariant.0 _ _ (rw (drop-cons s l.i 0 t.loop-i-test.true) (mark-no a.vars l.marks _ _ c.if-vars-x.true))
+    l.invariant.0 _ _ (rw (drop-cons s l.i 0 c.loop-i-test.true) (mark-no a.vars l.marks _ _ c.if-vars-x.true))
 
 pub bounds-marks-x : goal.bounds-marks-x
 bounds-marks-x c = omega arith
@@ -30,12 +29,11 @@ loop-i-smaller c = omega arith
 
 pub loop-i-preserved : goal.loop-i-preserved
 loop-i-preserved c =
-    let t = c in
-    let l = t.loop-i in
-    let a = t.args in
+    let l = c.loop-i in
+    let a = c.args in
     let s = a.s.now in (
       rw add-one
-          (λ says end m. l.invariant.0 says end (rw (drop-cons s l.i 0 t.loop-i-test.true) (mark-more a.vars l.marks _ _ c.if-vars-x.false m))),
+          (λ says end m. l.invariant.0 says end (rw (drop-cons s l.i 0 c.loop-i-test.true) (mark-more a.vars l.marks _ _ c.if-vars-x.false m))),
       omega arith,
       length-set l.marks _ 1 ∙ l.invariant.2,
     )

@@ -7,5 +7,4 @@ use Rattle.zero_wire.proofs.asked_zero_wire.Goals as goal
 
 pub returns : goal.returns
 returns c =
-    let z = c in
-    c.asked.ensures ∙ ap (λ (b : Bool). z.args.no ▸ ask 46 b) z.starts_at_zero.ensures
+    c.asked.ensures ∙ ap (λ (b : Bool). c.args.no ▸ ask 46 b) c.starts_at_zero.ensures
