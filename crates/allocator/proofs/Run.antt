@@ -11,29 +11,17 @@ use native.Mathlib.Omega.{arith}
 use native.Mathlib.Nat.{not-suc-le-zero, le_of_suc-le-suc}
 use native.Mathlib.Numerals.{add-one}
 use lib.ListN.{length, take, drop, get_or, length-set}
-use Rattle.limits.specs.Questions.{Question, ◌▸◌, first_no, pick, on_yes}
+use Rattle.limits.specs.Questions.{Question, first_of_two, ◌▸◌, first_no, pick, on_yes}
 use Rattle.limits.proofs.Questions.{on_yes-no, first_no-append}
-use Rattle.limits.specs.Outcome.{outcome_of}
+use Rattle.limits.specs.Outcome.{Outcome, outcome_of, refusal}
 use Rattle.words.specs.Store.{All}
-use Rattle.limits.specs.declared.Outcome.{Outcome}
-use Rattle.limits.specs.declared.Outcome.TheVariants.{Accepted, Refused}
+use Rattle.std.specs.Prelude.{Result, Ok, Err}
+use Rattle.limits.specs.declared.Refused.{Refused}
 use Rattle.limits.proofs.Answered.{outcome-refused, outcome-accepted, stays_by}
 use Rattle.allocator.specs.Slots.{Pair, pair, pairs, is_fresh, SetRun, ran, after_item, set_items, items_asks, run_after, one_accepted, with_pair}
 use Rattle.allocator.specs.Assign.{how_far, Runs}
 
--- ---- the common pairs of two lists, from place i on
-pairs-suc : (vars values : List ℕ) (i : ℕ) → i < length vars → i < length values
-    → drop i (pairs vars values) ≡ pair (get_or vars i 0) (get_or values i 0) ∷ drop (suc i) (pairs vars values)
-pairs-suc [] values i h k = absurd (not-suc-le-zero h)
-pairs-suc (x ∷ vars) [] i h k = absurd (not-suc-le-zero k)
-pairs-suc (x ∷ vars) (v ∷ values) zero h k = refl
-pairs-suc (x ∷ vars) (v ∷ values) (suc i) h k =
-    pairs-suc vars values i (le_of_suc-le-suc h) (le_of_suc-le-suc k)
-
-pub pairs-at : (vars values : List ℕ) (i : ℕ) → i < length vars → i < length values
-    → drop i (pairs vars values) ≡ pair (get_or vars i 0) (get_or values i 0) ∷ drop (i + 1) (pairs vars values)
-pairs-at vars values i h k = rw add-one (pairs-suc vars values i h k)
-
+-- ---- the common pairs of two lists, from place i on: none where one of them has ended
 pub pairs_end : (vars values : List ℕ) (i : ℕ) → (length vars ≤ i) ⊎ (length values ≤ i) → drop i (pairs vars values) ≡ []
 pairs_end [] values zero o = refl
 pairs_end [] values (suc i) o = refl
@@ -48,9 +36,13 @@ pairs_end (x ∷ vars) (v ∷ values) (suc i) (inr h) = pairs_end vars values i 
 abbrev pub counted : (accepted fresh : ℕ) → SetRun → SetRun
 counted i f r = ran r.number (i + r.accepted) (f + r.fresh) r.slots
 
--- a run as the answer and the slots
-pub told : {a run : SetRun} → a ≡ run → Runs how_far run (how_far a) a.slots
-told e = record { answer = ap how_far e; slots = ap (λ (r : SetRun). r.slots) e }
+-- a run as the answer and the slots: what its number comes to, and how many were accepted and fresh
+pub told : {a run : SetRun} {o : Outcome} → o ≡ outcome_of a.number → a ≡ run
+    → Runs how_far run (record { outcome = o; accepted = a.accepted; fresh = a.fresh }) a.slots
+told {a} o e = record {
+  answer = ap (λ (t : Outcome). record { outcome = t; accepted = a.accepted; fresh = a.fresh }) o ∙ ap how_far e;
+  slots = ap (λ (r : SetRun). r.slots) e;
+}
 
 pub from-none : (r : SetRun) → counted 0 0 r ≡ r
 from-none r =
@@ -155,7 +147,7 @@ module _ {A : Type 0} (no_of : List ℕ → A → ℕ) (pair_of : A → Pair) wh
   -- its number is the first no of the items' questions
   pub run-number : (asks : List ℕ → A → List Question) → ((slots : List ℕ) (a : A) → no_of slots a ≡ first_no (asks slots a))
       → (slots : List ℕ) (items : List A) → (set_items no_of pair_of slots items).number ≡ first_no (items_asks asks pair_of slots items)
-  unfolding set_items ◌▸◌
+  unfolding set_items first_of_two
   run-number asks n slots [] = refl
   run-number asks n slots (a ∷ items) =
       go (no_of slots a) _ (run-number asks n (with_pair slots (pair_of a)) items)
@@ -170,7 +162,7 @@ module _ {A : Type 0} (no_of : List ℕ → A → ℕ) (pair_of : A → Pair) wh
 
 -- ---- a run behind earlier questions
 pub after-number : (k : ℕ) (r : SetRun) (slots : List ℕ) → (run_after k r slots).number ≡ k ▸ r.number
-unfolding ◌▸◌
+unfolding first_of_two
 after-number zero r slots = refl
 after-number (suc k) r slots = refl
 
@@ -190,19 +182,22 @@ module _ {A : Type 0} (tell : Outcome → (accepted fresh : ℕ) → A) (before 
     slots = ap (λ (t : SetRun). t.slots) q;
   }
 
-  pub stopped : (k ≡ 0 → ⊥) → Tells (tell (Refused k) 0 0) slots
-  stopped h = tells (ran k 0 0 slots) (rw (sym e) (stays_by k items (ran k 0 0 slots) h)) (Refused k) (outcome-refused k h)
+  pub stopped : (k ≡ 0 → ⊥) → Tells (tell (Err (refusal k)) 0 0) slots
+  stopped h = tells (ran k 0 0 slots) (rw (sym e) (stays_by k items (ran k 0 0 slots) h)) (Err (refusal k)) (outcome-refused k h)
 
   -- j, n, f, slots₁: how far they came
   module _ (z : k ≡ 0) (j n f : ℕ) (slots₁ : List ℕ) (d : ran j n f slots₁ ≡ items) where
     went_on : ran j n f slots₁ ≡ run_after before items slots
     went_on = let y : before ≡ 0 = sym e ∙ z in rw y d
 
-    pub items_refused : (j ≡ 0 → ⊥) → Tells (tell (Refused j) n f) slots₁
-    items_refused h = tells (ran j n f slots₁) went_on (Refused j) (outcome-refused j h)
+    pub items-told : (o : Outcome) → o ≡ outcome_of j → Tells (tell o n f) slots₁
+    items-told o e = tells (ran j n f slots₁) went_on o e
 
-    pub items-accepted : j ≡ 0 → Tells (tell Accepted n f) slots₁
-    items-accepted y = tells (ran j n f slots₁) went_on Accepted (outcome-accepted j y)
+    pub items_refused : (j ≡ 0 → ⊥) → Tells (tell (Err (refusal j)) n f) slots₁
+    items_refused h = items-told (Err (refusal j)) (outcome-refused j h)
+
+    pub items-accepted : j ≡ 0 → Tells (tell (Ok tt) n f) slots₁
+    items-accepted y = items-told (Ok tt) (outcome-accepted j y)
 
 -- there are no more pairs than wires
 pub pairs-within : (vars values : List ℕ) → length (pairs vars values) ≤ length vars

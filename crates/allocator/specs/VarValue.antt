@@ -1,10 +1,12 @@
--- The value of a wire that was looked at. Assumes nothing.
-use Rattle.std.specs.Prelude.{ℕ}
-use Rattle.allocator.specs.declared.VarValue.{VarValue}
-use Rattle.allocator.specs.declared.VarValue.TheVariants as var_value
+-- The value of a wire that was looked at: some or none, or refused. Assumes nothing.
+use Rattle.std.specs.Prelude.{ℕ, Option, Result}
+use Rattle.limits.specs.Outcome.{answer_number}
+use Rattle.limits.specs.declared.Refused.{Refused}
+
+-- what the look answers
+abbrev pub VarValue : Type 0
+VarValue = Result (Option ℕ) Refused
 
 -- document 01's number of the answer: 0 where there is a value, and where there is none
 abbrev pub value_number : VarValue → ℕ
-value_number (var_value.Value v) = 0
-value_number var_value.Nothing = 0
-value_number (var_value.Refused k) = k
+value_number = answer_number

@@ -5,7 +5,7 @@
 
 #![tactic(auto)]
 
-ghost use Rattle.std.specs.Prelude.{◌≡◌, max};
+ghost use Rattle.std.specs.Prelude.{◌≡◌};
 ghost use Rattle.baby_bear.specs.Field.{add_unit, mul_unit, seventh, are_units};
 
 use limits::P;
@@ -49,18 +49,5 @@ pub fn seventh(a: BabyBearUnit) -> BabyBearUnit
 pub fn are_units(words: &[u32]) -> bool
     ensures { result ≡ are_units words.now }
 {
-    let mut top = 0;
-    let mut i = 0;
-    while i < words.len() {
-        top = larger(top, words[i]);
-        i += 1;
-    }
-    top < P
-}
-
-// The larger of the two.
-fn larger(a: u32, b: u32) -> u32
-    ensures { result ≡ max a b }
-{
-    if a < b { b } else { a }
+    words.iter().copied().fold(0, |top, x| top.max(x)) < P
 }

@@ -4,7 +4,10 @@ use Prim.Native.Nat.{ℕ}
 use mathlib.Core.Path.{◌≡◌, sym, ap}
 use mathlib.Core.List.{List}
 use lib.ListN.{length}
+use Rattle.permutation.specs.Records.{Recorded, Allocated}
 use Rattle.allocator.specs.Slots.{Pair}
+use Rattle.std.specs.Prelude.{Result}
+use Rattle.limits.specs.declared.Refused.{Refused}
 use Rattle.allocator.specs.declared.Set as declared
 use Rattle.expr.specs.Weighted.{terms_of}
 use Rattle.expr.specs.declared.Weighted.{Weighted}
@@ -12,8 +15,6 @@ use Rattle.permutation.specs.Answers.{new_relation, new_slots, new_uses, allocat
 use Rattle.recording.specs.Answers.{add_permutation, add_permutation_queries, add_permutation_uses, allocate_permutation, allocate_permutation_slots, allocate_permutation_queries, allocate_permutation_uses, add_equation, add_equation_equations}
 use Rattle.withdraw.specs.Answers.{withdraw_equation, withdraw_equation_equations, withdraw_query, withdraw_query_queries, withdraw_query_uses}
 use Rattle.permutation.specs.declared.PermutationRelation.{PermutationRelation}
-use Rattle.permutation.specs.declared.Recorded.{Recorded}
-use Rattle.permutation.specs.declared.Allocated.{Allocated}
 use Rattle.permutation.specs.declared.SetVars.{SetVars}
 use Rattle.tickets.specs.Tickets.{set_tickets, set_tickets_slots}
 use Rattle.tickets.specs.declared.SetTickets.{SetTickets}
@@ -37,7 +38,7 @@ module _ (rel : PermutationRelation) where
     leaves = λ j. state (sym e j).relation (sym h j) queries equations uses;
   }
 
-  pub set : (slots : List ℕ) (p : Pair) (r : declared.Set) (slots' : List ℕ) → r ≡ set_var rel slots p → slots' ≡ set_var_slots rel slots p
+  pub set : (slots : List ℕ) (p : Pair) (r : Result declared.Set Refused) (slots' : List ℕ) → r ≡ set_var rel slots p → slots' ≡ set_var_slots rel slots p
       → OnSlots rel slots (Set p) (of_set r) rel slots'
   unfolding answer after
   set slots p r slots' e h queries equations uses = record {

@@ -1,10 +1,10 @@
 -- What code says that makes one call of demand 3's list, and what the theorem says of calls made in turn.
 -- Assumes nothing.
+use Rattle.permutation.specs.Records.{Recorded}
+use Rattle.limits.specs.Outcome.{Outcome}
 use Rattle.std.specs.Prelude.{ℕ, ◌≡◌, List}
-use Rattle.limits.specs.declared.Outcome.{Outcome}
 use Rattle.permutation.specs.Answers.{new_relation}
 use Rattle.permutation.specs.declared.PermutationRelation.{PermutationRelation}
-use Rattle.permutation.specs.declared.Recorded.{Recorded}
 use Rattle.history.specs.Along.{PerformsBy, PerformedBy, called_in}
 use Rattle.history.specs.Calls.{Call, State, state, Answer, answer, after, fresh, first_ledger, Entry, ledger_of}
 use Rattle.history.specs.Whole.{last, last_ledger, Whole}

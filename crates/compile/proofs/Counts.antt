@@ -6,7 +6,7 @@ use mathlib.Core.List.{List, [], ◌++◌, append-nil, append_assoc}
 use borrow.Author.Tests.{le-leb, leb-true, eq-eqb}
 use lib.ListN.{length, take}
 use Rattle.limits.specs.Numbers.{max_count}
-use Rattle.limits.specs.Questions.{◌▸◌, Question, first_no, pick}
+use Rattle.limits.specs.Questions.{first_of_two, ◌▸◌, Question, first_no, pick}
 use Rattle.limits.specs.Asks.{width_asks, store_asks}
 use Rattle.limits.proofs.Questions.{ask-yes, goes_on, first_no-append, here, there, puts-yes}
 use Rattle.words.specs.Pieces.{words_of}
@@ -30,7 +30,7 @@ after ps qs rs e = first_no-append ps qs ∙ ap (λ (n : ℕ). first_no ps ▸ n
 
 -- what follows is asked only where nothing said no before
 only : (a b c : ℕ) → (a ≡ 0 → b ≡ c) → a ▸ b ≡ a ▸ c
-unfolding ◌▸◌
+unfolding first_of_two
 only zero b c f = f refl
 only (suc a) b c f = refl
 

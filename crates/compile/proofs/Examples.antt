@@ -4,7 +4,7 @@ use Prim.Native.Nat.{ℕ}
 use mathlib.Core.Path.{◌≡◌, refl}
 use mathlib.Core.List.{List, [], ◌∷◌, ◌++◌}
 use Rattle.limits.specs.Numbers.{unassigned}
-use Rattle.limits.specs.Questions.{ask, ◌▸◌, first_no}
+use Rattle.limits.specs.Questions.{ask, first_of_two, first_no}
 use Rattle.words.specs.Store.{all_below}
 use Rattle.utf8.specs.Utf8.{is_utf8, follow}
 use Rattle.allocator.specs.Slots.{pair}
@@ -66,7 +66,7 @@ pub record Examples : Type 0 where
   pub wire-held : compile_no (lent 1 1073741824 (0 ∷ 1 ∷ 0 ∷ 0 ∷ []) 1) ≡ 11
 
 pub gate-examples : Examples
-unfolding ask ◌▸◌ all_below is_utf8 follow equation_at size_at equations_sound slots_sound publics_of compiled_parts compile_no compile_publics
+unfolding ask first_of_two all_below is_utf8 follow equation_at size_at equations_sound slots_sound publics_of compiled_parts compile_no compile_publics
 gate-examples =
     record {
       weightless = refl;

@@ -2,19 +2,20 @@
 use Prim.Native.Nat.{ℕ, zero, suc, ◌*◌, ◌-◌}
 use mathlib.Core.Path.{◌≡◌, refl, sym, ap, ◌∙◌}
 use mathlib.Core.Bool.{Bool, true}
-use mathlib.Core.List.{List, [], ◌∷◌, append-nil}
+use mathlib.Core.List.{List, append-nil}
 use borrow.Author.Tests.{leb-true}
 use lib.Dec.{eqb, leb}
 use lib.ListN.{length, take, replicate, length-replicate}
+use Rattle.std.specs.Prelude.{Err, Ok}
 use Rattle.limits.specs.Questions.{Question, ask, ◌▸◌, first_no}
-use Rattle.limits.specs.Asks.{store_asks}
-use Rattle.limits.proofs.Questions.{stays, goes_on, join, both, says-yes, zero-▸, ▸-assoc, first_no-append, chain-from}
+use Rattle.limits.specs.Outcome.{Outcome, outcome_of, refusal}
+use Rattle.limits.specs.declared.Refused.{Refused}
+use Rattle.limits.proofs.Answered.{accepted-zero, refused-number, refused-some}
+use Rattle.limits.proofs.Questions.{stays, goes_on, join, both, says-yes, zero-▸, ▸-assoc, first_no-append}
 use Rattle.words.specs.Store.{put_words}
 use Rattle.words.specs.Pieces.{steps_of}
 use Rattle.allocator.specs.Slots.{Pair}
 use Rattle.expr.specs.Equation.{equations_at}
-use Rattle.permutation.specs.Relation.{relation_asks}
-use Rattle.limits.specs.declared.Outcome.TheVariants as outcome
 use Rattle.permutation.specs.declared.PermutationRelation.{PermutationRelation}
 use Rattle.instance.specs.Parts.{pair_vars, pair_words, parts_of}
 use Rattle.instance.proofs.Parts.{pairs_at-pair_words, pairs_at-take}
@@ -22,7 +23,8 @@ use Rattle.held.proofs.Facts.{facts-all_below}
 use Rattle.validated.specs.Validated.{bound_by, gate_asks_by}
 use Rattle.use_gate.specs.UseGate.{uses_below, used_no}
 use Rattle.use_gate.proofs.Same.{used-no}
-use Rattle.compile.specs.Gate.{GateLent, publics_of, publics_store, PutsPublics, instance_of, refused_by, compiled_parts, lent_parts, lent_stores_asks, lent_sound_asks, prepared_asks, prepared_no, made_asks, compile_no, compile, compile_publics, asked_made}
+use Rattle.compile.specs.Records.{gated}
+use Rattle.compile.specs.Gate.{GateLent, publics_of, publics_store, PutsPublics, instance_of, compiled_parts, lent_parts, prepared_asks, prepared_no, made_asks, compile_no, compile, compile_publics, asked_made}
 use Rattle.compile.proofs.Publics.{put-zeros}
 use Rattle.compile.proofs.Rising.{publics_of-below}
 
@@ -42,15 +44,7 @@ module _ (rel : PermutationRelation) (slots queries equations : List ℕ) where
         equations = equations_at rel.equations (take rel.words equations);
       }
 
--- ---- the questions in parts
-pub prepared-by : (l : GateLent) (a b c r : ℕ) → a ≡ first_no (relation_asks l.relation (length l.slots))
-    → b ≡ a ▸ first_no (lent_stores_asks l) → c ≡ b ▸ first_no (store_asks (length l.uses)) → r ≡ c ▸ first_no (lent_sound_asks l)
-    → r ≡ prepared_no l
-unfolding prepared_no
-prepared-by l a b c r ea eb ec er =
-    rw (er, ec, eb, ea)
-    (chain-from (relation_asks l.relation (length l.slots)) (lent_stores_asks l ∷ store_asks (length l.uses) ∷ lent_sound_asks l ∷ []))
-
+-- ---- the numbers of 10, 16 and 13 to 15, one after the other
 pub made_by : (rel : PermutationRelation) (slots equations uses : List ℕ) (count publics scratch a b c r : ℕ) (allocated held : List ℕ)
     → allocated ≡ take rel.vars slots → held ≡ take rel.words equations
     → a ≡ 0 ▸ ask 10 (leb (2 * count) publics) → b ≡ a ▸ ask 10 (eqb (length uses) (length slots)) → c ≡ b ▸ ask 16 (leb rel.vars scratch)
@@ -99,24 +93,27 @@ module _ (l : GateLent) where
       rw (← used-no (lent_parts l) (take rel.vars l.slots) l.uses rel.stray (facts-all_below rel.vars (pair_vars ps) (publics_of-below rel l.slots)))
       (simp ▸-assoc)
 
-  -- ---- by the number: a refusal answers it and leaves zeros
-  pub record Refuses (k : ℕ) : Type 0 where
-    pub answer : refused_by k ≡ compile l
+  -- ---- a refusal answers its number and leaves zeros
+  pub record Refuses (q : Refused) : Type 0 where
+    pub answer : gated (Err q) ≡ compile l
     pub publics : replicate l.publics 0 ≡ compile_publics l
 
-  refuses-by : (k : ℕ) → compile_no l ≡ k → (k ≡ 0 → ⊥) → Refuses k
+  refuses-by : (k : ℕ) → compile_no l ≡ k → (k ≡ 0 → ⊥) → Refuses (refusal k)
   unfolding compile compile_publics
   refuses-by zero e h = absurd (h refl)
   refuses-by (suc k) e h = record { answer = rw e; publics = rw e }
 
-  module _ (first : ℕ) (e : first ≡ prepared_no l) where
-    pub refuses-first : (first ≡ 0 → ⊥) → Refuses first
-    refuses-first h = refuses-by first (compile_no-is ∙ ap (λ (n : ℕ). n ▸ made_no) (sym e) ∙ stays first made_no h) h
+  -- 1, 2 and 11 were asked
+  module _ {f : Outcome} (is : f ≡ outcome_of (prepared_no l)) where
+    pub refuses-first : {q : Refused} → f ≡ Err q → Refuses q
+    refuses-first {q} was =
+        let e = refused-number _ _ is was in
+        let h = λ (z : q.0 ≡ 0). refused-some _ _ is was (e ∙ z) in
+        refuses-by q.0 (compile_no-is ∙ ap (λ (n : ℕ). n ▸ made_no) e ∙ stays q.0 made_no h) h
 
-    -- the questions before said yes; then the count and the store that the gate makes, and what 10, 16 and 13 to 15
-    -- answer
-    module _ (z : first ≡ 0) (zeros : List ℕ) (o : zeros ≡ replicate l.publics 0) (count : ℕ) (store : List ℕ)
-        (made : PutsPublics (take rel.vars l.slots) zeros count store) (k : ℕ) (g : k ≡ code_no count) where
+    -- they said yes; then the count and the store that the gate makes, and what 10, 16 and 13 to 15 answer
+    module _ {u : Unit {0}} (was : f ≡ Ok u) (zeros : List ℕ) (o : zeros ≡ replicate l.publics 0) (count : ℕ) (store : List ℕ)
+        (made : PutsPublics (take rel.vars l.slots) zeros count store) {g : Outcome} (asked : g ≡ outcome_of (code_no count)) where
       count-is : count ≡ length ps
       unfolding publics_of
       count-is = made.count
@@ -127,19 +124,26 @@ module _ (l : GateLent) where
           let n : length zeros ≡ l.publics = ap length o ∙ length-replicate _ _ in
           made.stored (rw n (leb-true _ _ h)) ∙ ap (put_words 0 (pair_words ps)) o ∙ put-zeros l.publics ps
 
-      made-is : k ≡ made_no
-      made-is = g ∙ ap code_no count-is ∙ code_is
+      made-is : code_no count ≡ made_no
+      made-is = ap code_no count-is ∙ code_is
 
-      pub refuses-made : (k ≡ 0 → ⊥) → Refuses k
-      refuses-made h = refuses-by k (compile_no-is ∙ goes_on (prepared_no l) made_no (sym e ∙ z) ∙ sym made-is) h
+      first-zero : prepared_no l ≡ 0
+      first-zero = accepted-zero _ _ is was
+
+      pub refuses-made : {q : Refused} → g ≡ Err q → Refuses q
+      refuses-made {q} said =
+          let e = refused-number _ _ asked said in
+          refuses-by q.0 (compile_no-is ∙ goes_on (prepared_no l) made_no first-zero ∙ sym made-is ∙ e)
+          (λ (z : q.0 ≡ 0). refused-some _ _ asked said (e ∙ z))
 
       pub record Accepts : Type 0 where
-        pub answer : record { outcome = outcome.Accepted; instance = instance_of rel count } ≡ compile l
+        pub answer : gated (Ok (instance_of rel count)) ≡ compile l
         pub publics : store ≡ compile_publics l
 
-      pub accepts : k ≡ 0 → Accepts
+      pub accepts : {v : Unit {0}} → g ≡ Ok v → Accepts
       unfolding compile compile_publics
-      accepts y =
-          let n : compile_no l ≡ 0 = compile_no-is ∙ join (prepared_no l) made_no (sym e ∙ z) (sym made-is ∙ y) in
-          let f : fits ≡ true = says-yes 9 _ (both _ _ (sym made-is ∙ y)).0 in
+      accepts said =
+          let y = sym made-is ∙ accepted-zero _ _ asked said in
+          let n : compile_no l ≡ 0 = compile_no-is ∙ join (prepared_no l) made_no first-zero y in
+          let f : fits ≡ true = says-yes 9 _ (both _ _ y).0 in
           record { answer = rw (n, count-is); publics = rw n (store_is f) }

@@ -1,6 +1,6 @@
 -- The gate (the source's `compile`): its questions, the publics that it makes, and its answer.
 -- Assumes nothing.
-use Rattle.std.specs.Prelude.{ℕ, suc, ◌*◌, ◌-◌, ◌≤◌, ◌≡◌, List, [], ◌∷◌, ◌++◌, eqb, leb, length, take, replicate}
+use Rattle.std.specs.Prelude.{ℕ, suc, ◌*◌, ◌-◌, ◌≤◌, ◌≡◌, List, [], ◌∷◌, ◌++◌, eqb, leb, length, take, replicate, Err}
 use Rattle.limits.specs.Numbers.{max_count, unassigned}
 use Rattle.limits.specs.Questions.{ask, ◌▸◌, Question, question, first_no, in_turn, pick, on_yes}
 use Rattle.limits.specs.Asks.{store_asks}
@@ -12,8 +12,7 @@ use Rattle.allocator.specs.Slots.{Pair, pair}
 use Rattle.expr.specs.Equation.{equations_at}
 use Rattle.permutation.specs.Sharing.{Sharing, alone}
 use Rattle.permutation.specs.Relation.{relation_asks_with, queries_asks, equations_asks}
-use Rattle.limits.specs.Outcome.{outcome_of}
-use Rattle.limits.specs.declared.Outcome.TheVariants as outcome
+use Rattle.limits.specs.Outcome.{outcome_of, refusal}
 use Rattle.permutation.specs.declared.PermutationRelation.{PermutationRelation}
 use Rattle.instance.specs.Parts.{Parts, pair_words}
 use Rattle.held.specs.Held.{label_asks, equations_sound, slots_sound}
@@ -21,7 +20,7 @@ use Rattle.validated.specs.Validated.{bound_by, gate_asks, gate_asks_by}
 use Rattle.use_gate.specs.UseGate.{uses_below, used_no}
 use Rattle.instance.specs.Looks.{no_instance}
 use Rattle.instance.specs.declared.PermutationInstance.{PermutationInstance}
-use Rattle.compile.specs.declared.Compiled.{Compiled}
+use Rattle.compile.specs.Records.{Compiled}
 
 -- what the gate is lent: the relation's record, what the label and the stores that it reads hold, and how long the
 -- stores are that it writes
@@ -177,7 +176,7 @@ walked_asks = walked_asks_with alone
 -- ---- its answer, and what it leaves
 -- a refused gate's answer
 abbrev pub refused_by : ℕ → Compiled
-refused_by k = record { outcome = outcome.Refused k; instance = no_instance }
+refused_by k = record { outcome = Err (refusal k); instance = no_instance }
 
 -- the answer: the outcome, and the instance or zeros
 unfoldable pub compile : GateLent → Compiled
@@ -205,8 +204,8 @@ pub record PutsPublics (slots out : List ℕ) (n : ℕ) (left : List ℕ) : Type
   pub count : n ≡ length (publics_from 0 slots)
   pub stored : 2 * length (publics_from 0 slots) ≤ length out → left ≡ put_words 0 (pair_words (publics_from 0 slots)) out
 
--- ---- what `asked_made`, a private function, answers, with so many publics: 10, 16 and 13 to 15; 12 never says no of
--- those that the gate makes
+-- ---- the number of what `ask_made`, a private function, asks, with so many publics: 10, 16 and 13 to 15; 12 never says
+-- no of those that the gate makes
 abbrev pub asked_made : PermutationRelation → (slots equations uses : List ℕ) → (count publics scratch : ℕ) → ℕ
 asked_made rel slots equations uses count publics scratch =
     ((ask 10 (leb (2 * count) publics) ▸ ask 10 (eqb (length uses) (length slots))) ▸ ask 16 (leb rel.vars scratch))

@@ -3,7 +3,7 @@ use Prim.Native.Nat.{ℕ, zero, suc}
 use mathlib.Core.Path.{◌≡◌, refl, sym, ◌∙◌}
 use mathlib.Core.Bool.{Bool, true, false}
 use mathlib.Core.List.{List, [], ◌∷◌}
-use Rattle.limits.specs.Questions.{ask, ◌▸◌}
+use Rattle.limits.specs.Questions.{ask, first_of_two, ◌▸◌}
 use Rattle.narg.specs.Reader.{Got, got, Reader, on_got, or_stop, ◌>>◌, give, need, number}
 use Rattle.narg.proofs.Fields.{never}
 use Rattle.items.specs.Answers.{got_after}
@@ -14,7 +14,7 @@ on_got-after zero a r next = refl
 on_got-after (suc k) a r next = refl
 
 pub after-after : {A : Type 0} (j k : ℕ) (g : Got A) → got_after j (got_after k g) ≡ got_after (j ▸ k) g
-unfolding ◌▸◌
+unfolding first_of_two
 after-after zero k g = refl
 after-after (suc j) k g = refl
 

@@ -6,7 +6,7 @@ use mathlib.Core.Path.{◌≡◌, refl}
 use mathlib.Core.List.{List, [], ◌∷◌, ◌++◌}
 use lib.ListN.{length, take, replicate}
 use Rattle.limits.specs.Numbers.{prime}
-use Rattle.limits.specs.Questions.{ask, ◌▸◌}
+use Rattle.limits.specs.Questions.{ask, first_of_two}
 use Rattle.words.specs.Store.{all_below}
 use Rattle.utf8.specs.Utf8.{rows, follow, is_utf8}
 use Rattle.narg.specs.Bytes.{u32_bytes}
@@ -78,7 +78,7 @@ others rule =
 -- strictly: 46 wherever the rule is broken and the bytes hold their fields, in order, and fit
 pub strictly : (broken strict_rule ≡ replicate 5 (46 ∷ 20 ∷ 46 ∷ 46 ∷ 46 ∷ 46 ∷ []))
     × (others strict_rule ≡ 0 ∷ 0 ∷ 27 ∷ 27 ∷ 4 ∷ 10 ∷ 46 ∷ 46 ∷ [])
-unfolding header_bytes u32_bytes read_instance read_file read_header read_magic read_label read_parts read_publics read_queries read_equations word part below is_utf8 follow rows gate_no all_below ask ◌▸◌
+unfolding header_bytes u32_bytes read_instance read_file read_header read_magic read_label read_parts read_publics read_queries read_equations word part below is_utf8 follow rows gate_no all_below ask first_of_two
 strictly = (refl, refl)
 
 -- plainly
@@ -90,5 +90,5 @@ pub plainly : (broken plain_rule
     ∷ (0 ∷ 20 ∷ 28 ∷ 13 ∷ 14 ∷ 14 ∷ [])
     ∷ [])
     × (others plain_rule ≡ 0 ∷ 0 ∷ 27 ∷ 27 ∷ 4 ∷ 10 ∷ 16 ∷ 12 ∷ [])
-unfolding header_bytes u32_bytes read_instance read_file read_header read_magic read_label read_parts read_publics read_queries read_equations word part below is_utf8 follow rows gate_no all_below ask ◌▸◌
+unfolding header_bytes u32_bytes read_instance read_file read_header read_magic read_label read_parts read_publics read_queries read_equations word part below is_utf8 follow rows gate_no all_below ask first_of_two
 plainly = (refl, refl)

@@ -6,6 +6,8 @@ use mathlib.Core.List.{List}
 use native.Mathlib.Omega.{arith}
 use denote.Ref.{Bor}
 use lib.ListN.{length, take, drop}
+use Rattle.std.specs.Prelude.{Result, Ok, Err}
+use Rattle.limits.specs.declared.Refused.{Refused}
 use Rattle.limits.specs.Questions.{first_no}
 use Rattle.narg.specs.Reader.{Got, got, stop, ◌>>◌, give, number}
 use Rattle.reader.specs.At.{part_at, place_at}
@@ -17,7 +19,9 @@ use Rattle.header.proofs.Got.{took, asked}
 use Rattle.parts.proofs.Label.{label_at}
 use Rattle.decoding.specs.Read.{Rooms, Rule, File, file, read_label, read_parts, increasing, ended, read_file, read_instance}
 use Rattle.decoding.specs.Answers.{read_asks, instance_from_bytes, instance_answer, header_end, label_start, label_read, label_place, Stores, rooms_of, InstanceReads, FileReads}
-use Rattle.decoding.specs.declared.InstanceRead.{InstanceRead}
+use Rattle.decoding.specs.Records.{InstanceRead, told_instance, outcome_only}
+use Rattle.decoding.specs.declared.InstanceRead.{InstanceRead as Read}
+use Rattle.decoding.specs.declared.InstanceFile.{InstanceFile}
 use Rattle.decoding.proofs.After.{number-got, after-some, ended-got}
 use Rattle.decoding.proofs.Files.{header-end}
 
@@ -77,15 +81,21 @@ module _ (rule : Rule) (width : ℕ) (s : List ℕ) (m : Rooms) where
           }
 
 -- an answer by place and length, and the part that a reader takes by it
-pub file-reads : (rule : Rule) (width : ℕ) (x : Bor (List ℕ)) (before after : Stores) (r : InstanceRead) → InstanceReads rule (instance_answer width) width x.now before after r
-    → (m : Bor (List ℕ)) → m.now ≡ part_at x.now r.label.at r.label.len → m.ref_ptr ≡ place_at x.now r.label.at r.label.len x.ref_ptr
-    → FileReads rule width x before after (record { outcome = r.outcome; instance = r.instance; label = m })
-file-reads rule width x before after r h m e p =
-    let t = label-taken rule width x.now (rooms_of before) r h.answer in
-    record {
-      outcome = ap (λ (y : InstanceRead). y.outcome) h.answer;
-      instance = ap (λ (y : InstanceRead). y.instance) h.answer;
-      label = e ∙ t.label;
-      place = p ∙ t.place x.ref_ptr;
-      left = h.left;
-    }
+module _ (rule : Rule) (width : ℕ) (x : Bor (List ℕ)) (before after : Stores) (r : Result Read Refused)
+    (h : InstanceReads rule (instance_answer width) width x.now before after (told_instance r)) where
+  pub file-refused : (out : Result InstanceFile Refused) (why : Refused) → out ≡ Err why → r ≡ Err why → FileReads rule width x before after out
+  file-refused out why i e =
+      let a = ap told_instance (sym e) ∙ h.answer in
+      record { outcome = ap outcome_only i ∙ ap (λ (y : InstanceRead). y.outcome) a; file = rw i tt; left = h.left }
+
+  pub file-reads : (read : Read) → r ≡ Ok read
+      → (m : Bor (List ℕ)) → m.now ≡ part_at x.now read.label.at read.label.len → m.ref_ptr ≡ place_at x.now read.label.at read.label.len x.ref_ptr
+      → FileReads rule width x before after (Ok (record { instance = read.instance; label = m }))
+  file-reads read i m e p =
+      let a = ap told_instance (sym i) ∙ h.answer in
+      let t = label-taken rule width x.now (rooms_of before) (told_instance (Ok read)) a in
+      record {
+        outcome = ap (λ (y : InstanceRead). y.outcome) a;
+        file = record { instance = ap (λ (y : InstanceRead). y.instance) a; label = e ∙ t.label; place = p ∙ t.place x.ref_ptr };
+        left = h.left;
+      }

@@ -2,26 +2,35 @@
 use Prim.Native.Nat.{ℕ, ◌≤◌, ◌<◌}
 use mathlib.Core.Path.{◌≡◌, refl, sym, ap, ◌∙◌, subst}
 use mathlib.Core.List.{List}
-use native.Mathlib.Omega.{arith}
 use lib.ListN.{length, drop, replicate}
+use Rattle.std.specs.Prelude.{true, false, Result, Err, Ok, is_err}
+use Rattle.limits.specs.declared.Refused.{Refused}
 use Rattle.limits.specs.Numbers.{prime}
 use Rattle.limits.specs.Questions.{first_no}
-use Rattle.limits.specs.declared.Outcome.TheVariants.{Accepted}
 use Rattle.words.specs.Pieces.{flat}
 use Rattle.narg.specs.Reader.{Got, got, stop}
 use Rattle.narg.specs.declared.Cursor.{Cursor}
 use Rattle.header.specs.Form.{letter_w, version}
 use Rattle.header.specs.Read.{read_header}
 use Rattle.header.specs.declared.Field.{Field}
-use Rattle.header.specs.declared.Field.TheVariants.{Read, Refused as RefusedField}
-use Rattle.items.specs.Answers.{padded, list_field, list_end, pieces_asks, pieces_got, ListReads}
+use Rattle.items.specs.Answers.{padded, pieces_asks, pieces_got, ListReads}
 use Rattle.items.proofs.Ends.{pieces_end}
 use Rattle.items.proofs.Lists.{ListGot, after-no, after-yes}
 use Rattle.decoding.specs.Read.{read_steps, read_witness}
-use Rattle.decoding.specs.Answers.{witness_from_bytes, header_end, refused_witness, witness_answer, trace_after}
-use Rattle.decoding.specs.declared.WitnessRead.{WitnessRead}
-use Rattle.decoding.specs.Given.{StepsLeft, steps_here, StepsTold}
+use Rattle.decoding.specs.Answers.{witness_from_bytes, witness_answer, trace_after}
+use Rattle.decoding.specs.Records.{told_steps}
+use Rattle.decoding.specs.Given.{StepsLeft, steps_here, steps_answer, StepsTold}
 use Rattle.decoding.proofs.Files.{ended-left, ended-yes}
+
+-- ---- 1 and 2 first
+module _ (width : ℕ) (s t : List ℕ) where
+  pub asked-no : (no : ℕ) → no ≡ first_no (pieces_asks width (length t)) → (no ≡ 0 → ⊥) → witness_from_bytes width s (length t) ≡ stop no
+  unfolding witness_from_bytes
+  asked-no k a h = after-no (first_no (pieces_asks width (length t))) (steps_here width s t) k a h
+
+  pub whole_is : first_no (pieces_asks width (length t)) ≡ 0 → witness_from_bytes width s (length t) ≡ steps_here width s t
+  unfolding witness_from_bytes
+  whole_is z = after-yes _ _ 0 (sym z) refl
 
 -- ---- the ends of reading it
 module _ (width : ℕ) (s t : List ℕ) (yes : first_no (pieces_asks width (length t)) ≡ 0) where
@@ -44,7 +53,7 @@ module _ (width : ℕ) (s t : List ℕ) (yes : first_no (pieces_asks width (leng
     unfolding read_witness
     steps-no k e = rw (eh, sym steps-at ∙ e)
 
-    module _ (t' : List ℕ) (r : Field) (l : ListReads flat steps c.at t t' r) (n words : ℕ) (end : Cursor) (g : ListGot flat steps c.at t t' r l n words end) where
+    module _ (t' : List ℕ) (r : Result Field Refused) (l : ListReads flat steps c.at t t' r) (n words : ℕ) (end : Cursor) (g : ListGot flat steps c.at t t' r l n words end) where
       after-steps : read_steps width (length t) (drop c.at s) ≡ got g.items (drop end.at s)
       unfolding read_steps
       after-steps =
@@ -55,60 +64,50 @@ module _ (width : ℕ) (s t : List ℕ) (yes : first_no (pieces_asks width (leng
       unfolding read_witness
       steps-left h = rw (eh, after-steps) (ended-left s end.at g.items h)
 
-      pub steps-told : length s ≤ end.at → c.at ≡ header_end → StepsTold width s t t' (Read n words end)
+      pub steps-told : length s ≤ end.at → StepsTold width s t t' (Ok n)
       unfolding read_witness StepsLeft
-      steps-told h i =
+      steps-told h =
           let f : here ≡ got g.items (drop end.at s) = rw (eh, after-steps) (ended-yes s end.at g.items h) in
-          let p = g.past ∙ ap (λ (m : ℕ). list_end m (flat g.items)) i in
+          let w = whole_is width s t yes ∙ f in
           record {
-            answer = (λ j. Read (g.count j) (g.size j) (record { at = p j })) ∙ sym (ap (list_field flat header_end) f);
-            left = rw f g.stored;
+            answer = ap (λ (m : ℕ). Ok m) g.count ∙ sym (ap steps_answer w);
+            left = rw w g.stored;
           }
 
 -- a refusal
-pub told-no : (width : ℕ) (s t t' : List ℕ) (r : Field) (k : ℕ) → r ≡ RefusedField k → steps_here width s t ≡ stop k → StepsTold width s t t' r
+pub told-no : (width : ℕ) (s t t' : List ℕ) (r : Result ℕ Refused) (why : Refused) → r ≡ Err why → witness_from_bytes width s (length t) ≡ stop why.0 → StepsTold width s t t' r
 unfolding StepsLeft
-told-no width s t t' r k i x = record { answer = i ∙ sym (ap (list_field flat header_end) x); left = rw x tt }
+told-no width s t t' r why i x = record { answer = i ∙ sym (ap steps_answer x); left = rw x tt }
 
--- ---- the open read: 1 and 2 first
-module _ (width : ℕ) (s t : List ℕ) (no : ℕ) (a : no ≡ first_no (pieces_asks width (length t))) where
+-- ---- the open read: the trace becomes 0 where it refuses
+told-answer : (g : Got (List (List ℕ))) → told_steps (steps_answer g) ≡ witness_answer g
+told-answer (got xs rest) = refl
+told-answer (stop k) = refl
+
+module _ (width : ℕ) (s t t₁ : List ℕ) (r : Result ℕ Refused) (h : StepsTold width s t t₁ r) where
   abbrev whole : Got (List (List ℕ))
   whole = witness_from_bytes width s (length t)
 
-  answer-no : (k : ℕ) (r : WitnessRead) (t' : List ℕ) → whole ≡ stop k → r ≡ refused_witness k → t' ≡ replicate (length t) 0
-      → (r ≡ witness_answer whole) × (t' ≡ trace_after (length t) whole)
-  answer-no k r t' e i z = rw e (i, z)
+  answered : told_steps r ≡ witness_answer whole
+  answered = ap told_steps h.answer ∙ told-answer whole
 
-  pub asked-no : (no ≡ 0 → ⊥) → (r : WitnessRead) (t' : List ℕ) → r ≡ refused_witness no → t' ≡ replicate (length t) 0
-      → (r ≡ witness_answer whole) × (t' ≡ trace_after (length t) whole)
-  unfolding witness_from_bytes
-  asked-no h r t' i z = answer-no no r t' (after-no (first_no (pieces_asks width (length t))) (steps_here width s t) no a h) i z
+  -- is it refused?
+  told-err : (y : Got (List (List ℕ))) → whole ≡ y → is_err r ≡ is_err (steps_answer y)
+  told-err y f = ap is_err (h.answer ∙ ap steps_answer f)
 
-  whole_is : no ≡ 0 → whole ≡ steps_here width s t
-  unfolding witness_from_bytes
-  whole_is z = after-yes _ _ no a z
+  pub read_no : is_err r ≡ true → (t' : List ℕ) → t' ≡ replicate (length t) 0 → (told_steps r ≡ witness_answer whole) × (t' ≡ trace_after (length t) whole)
+  read_no i t' z = go whole refl
+    where
+      go : (y : Got (List (List ℕ))) → whole ≡ y → (told_steps r ≡ witness_answer whole) × (t' ≡ trace_after (length t) whole)
+      go (got xs rest) f = let w : true ≡ false = sym i ∙ told-err (got xs rest) f in cc
+      go (stop j) f = (answered, rw f z)
 
-  module _ (z : no ≡ 0) (t₁ : List ℕ) (r : Field) (h : StepsTold width s t t₁ r) where
-    answered : r ≡ list_field flat header_end whole
-    answered = h.answer ∙ sym (ap (list_field flat header_end) (whole_is z))
-
-    pub read_no : (k : ℕ) → r ≡ RefusedField k → (w : WitnessRead) (t' : List ℕ) → w ≡ refused_witness k → t' ≡ replicate (length t) 0
-        → (w ≡ witness_answer whole) × (t' ≡ trace_after (length t) whole)
-    read_no k er w t' i zt = go whole refl (sym answered ∙ er)
-      where
-        go : (y : Got (List (List ℕ))) → whole ≡ y → list_field flat header_end y ≡ RefusedField k → (w ≡ witness_answer whole) × (t' ≡ trace_after (length t) whole)
-        go (got xs rest) f x = absurd (let n : ◌≡◌ {A = ℕ} 0 1 = cc in omega arith)
-        go (stop m) f x = let n : m ≡ k = cc in answer-no k w t' (f ∙ ap (λ (y : ℕ). stop y) n) i zt
-
-    pub read-yes : (n words : ℕ) (next : Cursor) → r ≡ Read n words next
-        → (record { outcome = Accepted; steps = n } ≡ witness_answer whole) × (t₁ ≡ trace_after (length t) whole)
-    unfolding StepsLeft
-    read-yes n words next er = go whole refl (sym answered ∙ er)
-      where
-        go : (y : Got (List (List ℕ))) → whole ≡ y → list_field flat header_end y ≡ Read n words next
-            → (record { outcome = Accepted; steps = n } ≡ witness_answer whole) × (t₁ ≡ trace_after (length t) whole)
-        go (got xs rest) f w =
-            let c : length xs ≡ n = cc in
-            let l : t₁ ≡ padded (length t) (flat xs) = subst (λ (x : Got (List (List ℕ))). StepsLeft x t t₁) (sym (whole_is z) ∙ f) h.left in
-            rw f (ap (λ (m : ℕ). record { outcome = Accepted; steps = m }) (sym c), l)
-        go (stop m) f w = absurd (let k : ◌≡◌ {A = ℕ} 0 1 = cc in omega arith)
+  pub read-yes : is_err r ≡ false → (told_steps r ≡ witness_answer whole) × (t₁ ≡ trace_after (length t) whole)
+  unfolding StepsLeft
+  read-yes i = go whole refl
+    where
+      go : (y : Got (List (List ℕ))) → whole ≡ y → (told_steps r ≡ witness_answer whole) × (t₁ ≡ trace_after (length t) whole)
+      go (got xs rest) f =
+          let l : t₁ ≡ padded (length t) (flat xs) = subst (λ (x : Got (List (List ℕ))). StepsLeft x t t₁) f h.left in
+          (answered, rw f l)
+      go (stop j) f = let w : false ≡ true = sym i ∙ told-err (stop j) f in cc

@@ -1,9 +1,11 @@
 -- What the calls that read answer, and what they leave of the lent stores. Assumes nothing.
-use Rattle.std.specs.Prelude.{ℕ, ◌+◌, ◌≡◌, List, [], ◌++◌, length, replicate}
+use Rattle.limits.specs.Outcome.{refusal}
+use Rattle.std.specs.Prelude.{ℕ, ◌+◌, ◌≡◌, List, [], ◌++◌, length, replicate, Result, Err, Ok}
+use Rattle.std.specs.Result.{IfOk}
+use Rattle.limits.specs.declared.Refused.{Refused}
 use Rattle.std.specs.Borrow.{Bor}
 use Rattle.limits.specs.Questions.{Question, first_no}
 use Rattle.limits.specs.Asks.{store_asks}
-use Rattle.limits.specs.declared.Outcome.TheVariants.{Accepted, Refused}
 use Rattle.words.specs.Pieces.{flat}
 use Rattle.narg.specs.Reader.{Got, got, stop}
 use Rattle.instance.specs.Looks.{no_instance}
@@ -13,10 +15,9 @@ pub use Rattle.items.specs.Answers.{padded}
 use Rattle.items.specs.Answers.{got_after, store_after, pieces_asks}
 use Rattle.parts.specs.Answers.{read_parts_asks, instance_read, words_of_publics, words_of_queries, words_of_equations}
 use Rattle.decoding.specs.Read.{Rooms, rooms, Rule, File, read_instance, read_witness}
-use Rattle.decoding.specs.declared.Span.{Span}
-use Rattle.decoding.specs.declared.InstanceRead.{InstanceRead}
 use Rattle.decoding.specs.declared.InstanceFile.{InstanceFile}
-use Rattle.decoding.specs.declared.WitnessRead.{WitnessRead}
+pub use Rattle.decoding.specs.Records.{span}
+use Rattle.decoding.specs.Records.{InstanceRead, WitnessRead, outcome_only}
 
 -- ---- 1 and 2 first, then the bytes field by field
 -- 1, and 2 of each store
@@ -41,22 +42,18 @@ header_end = 13
 abbrev pub label_start : ℕ
 label_start = header_end + 4
 
--- where a part of the bytes lies
-abbrev pub span : (at len : ℕ) → Span
-span at len = record { at = at; len = len }
-
 -- the answer of an accepted read: the record, and where the label lies
 abbrev pub accepted_instance : ℕ → File → InstanceRead
 accepted_instance width file =
     record {
-      outcome = Accepted;
+      outcome = Ok tt;
       instance = instance_read width file.parts;
       label = span label_start (length file.label);
     }
 
 -- the answer of a refused read: zeros, so that its label is empty
 abbrev pub refused_instance : ℕ → InstanceRead
-refused_instance k = record { outcome = Refused k; instance = no_instance; label = span 0 0 }
+refused_instance k = record { outcome = Err (refusal k); instance = no_instance; label = span 0 0 }
 
 -- the answer
 abbrev pub instance_answer : ℕ → Got File → InstanceRead
@@ -87,11 +84,11 @@ equations_after = store_after (λ file. words_of_equations file.parts)
 
 -- the answer of a refused read of SFRW
 abbrev pub refused_witness : ℕ → WitnessRead
-refused_witness k = record { outcome = Refused k; steps = 0 }
+refused_witness k = record { outcome = Err (refusal k); steps = 0 }
 
 -- the number of steps that were read, 0 where the read refuses
 abbrev pub witness_answer : Got (List (List ℕ)) → WitnessRead
-witness_answer (got steps rest) = record { outcome = Accepted; steps = length steps }
+witness_answer (got steps rest) = record { outcome = Ok tt; steps = length steps }
 witness_answer (stop k) = refused_witness k
 
 -- the trace after a read: the steps that were read, then 0
@@ -131,10 +128,14 @@ pub record InstanceReads (rule : Rule) {A : Type 0} (answer_of : Got File → A)
   pub answer : r ≡ answer_of (instance_got rule width bytes before)
   pub left : StoresAfter (instance_got rule width bytes before) before after
 
--- the read that answers with the label itself: its bytes, and its place in the bytes lent
-pub record FileReads (rule : Rule) (width : ℕ) (bytes : Bor (List ℕ)) (before after : Stores) (r : InstanceFile) : Type 0 where
-  pub outcome : r.outcome ≡ (instance_answer width (instance_got rule width bytes.now before)).outcome
-  pub instance : r.instance ≡ (instance_answer width (instance_got rule width bytes.now before)).instance
-  pub label : r.label.now ≡ label_read (instance_got rule width bytes.now before)
-  pub place : r.label.ref_ptr ≡ label_place (instance_got rule width bytes.now before) bytes.ref_ptr
+-- a file that was read: its record, and the label itself, by its bytes and its place in the bytes lent
+pub record HoldsFile (width : ℕ) (g : Got File) (bytes : Bor (List ℕ)) (f : InstanceFile) : Type 0 where
+  pub instance : f.instance ≡ (instance_answer width g).instance
+  pub label : f.label.now ≡ label_read g
+  pub place : f.label.ref_ptr ≡ label_place g bytes.ref_ptr
+
+-- the read that answers so
+pub record FileReads (rule : Rule) (width : ℕ) (bytes : Bor (List ℕ)) (before after : Stores) (r : Result InstanceFile Refused) : Type 0 where
+  pub outcome : outcome_only r ≡ (instance_answer width (instance_got rule width bytes.now before)).outcome
+  pub file : IfOk r (HoldsFile width (instance_got rule width bytes.now before) bytes)
   pub left : StoresAfter (instance_got rule width bytes.now before) before after

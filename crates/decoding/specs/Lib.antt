@@ -1,4 +1,5 @@
 pub mod Read
 pub mod Sound
+pub mod Records
 pub mod Answers
 pub mod Given

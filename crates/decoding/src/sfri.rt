@@ -2,105 +2,83 @@
 
 ghost use Rattle.std.specs.Prelude.{◌≡◌, ◌-◌, ◌≤◌, length, replicate};
 ghost use Rattle.limits.specs.Questions.{first_no};
+ghost use Rattle.limits.specs.Outcome.{outcome_of};
 ghost use Rattle.instance.specs.Parts.{pairs_at};
 ghost use Rattle.parts.specs.Answers.{read_parts_asks};
 ghost use Rattle.decoding.specs.Read.{rooms, plain_rule, strict_rule};
-ghost use Rattle.decoding.specs.Answers.{read_asks, refused_instance, instance_answer, stores, InstanceReads, FileReads};
-ghost use Rattle.decoding.specs.Given.{parts_number_of, accepted_at, rule_of, rule_no, FileTold, InstanceTold};
+ghost use Rattle.decoding.specs.Records.{told_instance};
+ghost use Rattle.decoding.specs.Answers.{read_asks, instance_answer, stores, InstanceReads, FileReads};
+ghost use Rattle.decoding.specs.Given.{read_at, rule_of, rule_no, FileTold, InstanceTold};
 
-use crate::{FileRead, InstanceFile, InstanceRead, Span, file_number};
-use header::{Field, VERSION, field_number, read_header};
+use crate::{InstanceFile, InstanceRead, Span};
+use header::{VERSION, read_header};
 use instance::PermutationInstance;
-use limits::Outcome;
+use limits::Refused;
 use narg::Cursor;
-use parts::PartsRead;
 
-// The number of a refusal, or 0.
-fn parts_number(parts: PartsRead) -> u32
-    ensures { result ≡ parts_number_of parts }
-{
-    match parts {
-        PartsRead::Read(_, _) => 0,
-        PartsRead::Refused(k) => k,
-    }
-}
-
-// The answer of an accepted read whose label has `len` bytes and ends at a cursor.
+// What was read, where the label has `len` bytes and ends at a cursor.
 fn accepted(instance: PermutationInstance, end: Cursor, len: u32) -> InstanceRead
     requires { len ≤ end.at }
-    ensures { result ≡ accepted_at instance (end.at - len) len }
+    ensures { result ≡ read_at instance (end.at - len) len }
 {
     let last = end.at;
     let len = len as usize;
     let at = last - len;
     InstanceRead {
-        outcome: Outcome::Accepted,
         instance,
         label: Span { at, len },
     }
 }
 
-// The answer of a refused read.
-fn refused(no: u32) -> InstanceRead
-    ensures { result ≡ refused_instance no }
-{
-    InstanceRead {
-        outcome: Outcome::Refused(no),
-        instance: PermutationInstance {
-            width: 0,
-            vars: 0,
-            queries: 0,
-            equations: 0,
-            words: 0,
-            publics: 0,
-        },
-        label: Span { at: 0, len: 0 },
-    }
-}
-
 // What a read asks directly after 27, of publics that were read into a store: 46 where it is strict.
-fn asked_rule(strict: bool, ins: PermutationInstance, publics: &[u32]) -> u32
-    ensures { result ≡ rule_no strict ins.vars (pairs_at ins.publics publics.now) }
+fn ask_rule(strict: bool, ins: &PermutationInstance, publics: &[u32]) -> Result<(), Refused>
+    ensures { result ≡ outcome_of (rule_no strict ins.now.vars (pairs_at ins.now.publics publics.now)) }
 {
     if strict {
-        return zero_wire::asked_zero_wire(0, ins.vars, publics, ins.publics);
+        return zero_wire::ask_zero_wire(ins.vars, publics, ins.publics);
     }
-    0
+    Ok(())
 }
 
-// Header, label, parts, and 27, after 1 and 2.
+// Header, label, parts, and 27, after 1 and 2: what was read, and the cursor past it.
 fn read_file(
     width: u32,
     bytes: &[u8],
     publics: &mut [u32],
     queries: &mut [u32],
     equations: &mut [u32],
-) -> FileRead
+) -> Result<(InstanceRead, Cursor), Refused>
     requires { first_no (read_parts_asks width (rooms (length publics.old) (length queries.old) (length equations.old) 0)) ≡ 0 }
     ensures { FileTold width bytes.now
         publics.old queries.old equations.old
         publics.new queries.new equations.new result }
 {
-    let header = read_header(bytes, b'I', VERSION, width);
-    let Field::Read(_, _, c) = header else {
-        return FileRead::Refused(field_number(header));
-    };
-    let label = parts::read_label(bytes, c);
-    let Field::Read(len, _, after) = label else {
-        return FileRead::Refused(field_number(label));
-    };
-    let parts = parts::read_parts(bytes, after, width, publics, queries, equations);
-    let PartsRead::Read(instance, end) = parts else {
-        return FileRead::Refused(parts_number(parts));
-    };
-    let no = parts::asked_order(0, publics, instance.publics);
-    if no != 0 {
-        return FileRead::Refused(no);
-    }
-    FileRead::Read(accepted(instance, after, len), end)
+    let header = read_header(bytes, b'I', VERSION, width)?;
+    let label = parts::read_label(bytes, header.next)?;
+    let (instance, end) = parts::read_parts(bytes, label.next, width, publics, queries, equations)?;
+    parts::ask_order(publics, instance.publics)?;
+    Ok((accepted(instance, label.next, label.value), end))
 }
 
-// The file, then 46 where the read is strict, the gate (16, 12 to 15) and 28, after 1 and 2.
+// What a read asks before the bytes: 1, and 2 of each store.
+fn ask_read(
+    width: u32,
+    publics: usize,
+    queries: usize,
+    equations: usize,
+    scratch: usize,
+) -> Result<(), Refused>
+    ensures { result ≡ outcome_of (first_no (read_asks width (rooms publics queries equations scratch))) }
+{
+    limits::ask_width(width)?;
+    limits::ask_store(publics)?;
+    limits::ask_store(queries)?;
+    limits::ask_store(equations)?;
+    limits::ask_store(scratch)
+}
+
+// 1 and 2, the file, then 46 where the read is strict, the gate (16, 12 to 15) and 28. Where it refuses, stores and
+// scratch may hold anything.
 fn read_instance(
     width: u32,
     bytes: &[u8],
@@ -109,26 +87,25 @@ fn read_instance(
     equations: &mut [u32],
     scratch: &mut [u32],
     strict: bool,
-) -> InstanceRead
-    requires { first_no (read_parts_asks width (rooms (length publics.old) (length queries.old) (length equations.old) 0)) ≡ 0 }
+) -> Result<InstanceRead, Refused>
     ensures { InstanceTold (rule_of strict) width bytes.now
         (stores publics.old queries.old equations.old scratch.old)
         (stores publics.new queries.new equations.new scratch.new) result }
 {
-    let file = read_file(width, bytes, publics, queries, equations);
-    let FileRead::Read(read, end) = file else {
-        return refused(file_number(file));
-    };
-    let ins = read.instance;
-    let rule = asked_rule(strict, ins, publics);
-    let no = validated::asked_validated(rule, ins, publics, queries, equations, scratch);
-    if no != 0 {
-        return refused(no);
-    }
+    ask_read(
+        width,
+        publics.len(),
+        queries.len(),
+        equations.len(),
+        scratch.len(),
+    )?;
+    let (read, end) = read_file(width, bytes, publics, queries, equations)?;
+    ask_rule(strict, &read.instance, publics)?;
+    validated::ask_validated(&read.instance, publics, queries, equations, scratch)?;
     if end.at < bytes.len() {
-        return refused(28);
+        return Err(Refused(28));
     }
-    read
+    Ok(read)
 }
 
 // What a refused read leaves: three stores and the scratch, all 0.
@@ -144,17 +121,6 @@ fn clear(publics: &mut [u32], queries: &mut [u32], equations: &mut [u32], scratc
     words::fill(scratch, 0);
 }
 
-// What a read asks before the bytes: 1, and 2 of each store.
-fn asked_read(width: u32, publics: usize, queries: usize, equations: usize, scratch: usize) -> u32
-    ensures { result ≡ first_no (read_asks width (rooms publics queries equations scratch)) }
-{
-    let a = limits::asked_width(0, width);
-    let b = limits::asked_store(a, publics);
-    let c = limits::asked_store(b, queries);
-    let d = limits::asked_store(c, equations);
-    limits::asked_store(d, scratch)
-}
-
 // SFRI of that width into lent stores, strictly or not: the two open reads below.
 fn instance_from_bytes_with(
     width: u32,
@@ -164,28 +130,15 @@ fn instance_from_bytes_with(
     equations: &mut [u32],
     scratch: &mut [u32],
     strict: bool,
-) -> InstanceRead
+) -> Result<InstanceRead, Refused>
     ensures { InstanceReads (rule_of strict) (instance_answer width) width bytes.now
         (stores publics.old queries.old equations.old scratch.old)
-        (stores publics.new queries.new equations.new scratch.new) result }
+        (stores publics.new queries.new equations.new scratch.new) (told_instance result) }
 {
-    let no = asked_read(
-        width,
-        publics.len(),
-        queries.len(),
-        equations.len(),
-        scratch.len(),
-    );
-    if no != 0 {
-        clear(publics, queries, equations, scratch);
-        return refused(no);
-    }
     let read = read_instance(width, bytes, publics, queries, equations, scratch, strict);
-    let outcome = read.outcome;
-    let Outcome::Accepted = outcome else {
+    if read.is_err() {
         clear(publics, queries, equations, scratch);
-        return read;
-    };
+    }
     read
 }
 
@@ -199,10 +152,10 @@ pub fn instance_from_bytes_at(
     queries: &mut [u32],
     equations: &mut [u32],
     scratch: &mut [u32],
-) -> InstanceRead
+) -> Result<InstanceRead, Refused>
     ensures { InstanceReads plain_rule (instance_answer width) width bytes.now
         (stores publics.old queries.old equations.old scratch.old)
-        (stores publics.new queries.new equations.new scratch.new) result }
+        (stores publics.new queries.new equations.new scratch.new) (told_instance result) }
 {
     instance_from_bytes_with(width, bytes, publics, queries, equations, scratch, false)
 }
@@ -215,15 +168,15 @@ pub fn strict_instance_from_bytes_at(
     queries: &mut [u32],
     equations: &mut [u32],
     scratch: &mut [u32],
-) -> InstanceRead
+) -> Result<InstanceRead, Refused>
     ensures { InstanceReads strict_rule (instance_answer width) width bytes.now
         (stores publics.old queries.old equations.old scratch.old)
-        (stores publics.new queries.new equations.new scratch.new) result }
+        (stores publics.new queries.new equations.new scratch.new) (told_instance result) }
 {
     instance_from_bytes_with(width, bytes, publics, queries, equations, scratch, true)
 }
 
-// The plain read, with the label as that very part of the bytes, taken through a reader; after a refusal it is empty.
+// The plain read, with the label as that very part of the bytes, taken through a reader.
 pub fn instance_from_bytes<'a>(
     width: u32,
     bytes: &'a [u8],
@@ -231,17 +184,16 @@ pub fn instance_from_bytes<'a>(
     queries: &mut [u32],
     equations: &mut [u32],
     scratch: &mut [u32],
-) -> InstanceFile<'a>
+) -> Result<InstanceFile<'a>, Refused>
     ensures { FileReads plain_rule width bytes.entry
         (stores publics.old queries.old equations.old scratch.old)
         (stores publics.new queries.new equations.new scratch.new) result }
 {
-    let read = instance_from_bytes_at(width, bytes, publics, queries, equations, scratch);
+    let read = instance_from_bytes_at(width, bytes, publics, queries, equations, scratch)?;
     let start = reader::moved(reader::new(bytes), Cursor { at: read.label.at });
     let label = reader::take(start, read.label.len);
-    InstanceFile {
-        outcome: read.outcome,
+    Ok(InstanceFile {
         instance: read.instance,
         label,
-    }
+    })
 }

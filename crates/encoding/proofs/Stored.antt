@@ -3,8 +3,8 @@ use Prim.Native.Nat.{ℕ, zero, suc, ◌+◌, ◌*◌, ◌≤◌}
 use mathlib.Core.Path.{◌≡◌, refl, sym, ap, ◌∙◌}
 use mathlib.Core.List.{List, [], ◌∷◌, ◌++◌, append_assoc}
 use native.Mathlib.Omega.{arith}
-use lib.ListN.{length, set, drop, length-append, length-set}
-use lib.Seq.{sets-eq}
+use lib.ListN.{length, drop, length-append}
+use Rattle.std.specs.Prelude.{Ok}
 use Rattle.limits.specs.Questions.{Question, first_no}
 use Rattle.limits.proofs.Questions.{stays, goes_on, first_no-append}
 use Rattle.words.specs.Store.{put_words, fit_words}
@@ -15,7 +15,6 @@ use Rattle.narg.proofs.At.{put-fits}
 use Rattle.narg.proofs.Fields.{length-u32_bytes}
 use Rattle.narg.proofs.Words.{length-words}
 use Rattle.narg.proofs.Stores.{put_two, length-put_words}
-use Rattle.limits.specs.declared.Outcome.TheVariants.{Accepted, Refused}
 use Rattle.header.specs.Form.{magic, header_bytes, header_length}
 use Rattle.encoding.specs.Answers.{Writes}
 use Rattle.encoding.specs.Put.{PutsAt}
@@ -55,22 +54,22 @@ module _ (at : ℕ) (before : List ℕ) {after : List ℕ} where
       let l = length-words ws in
       record { past = omega arith; out = e ∙ fit_is at (each u32_bytes ws) before (omega arith) }
 
--- ---- the header, stored byte by byte and word by word
-pub header-stored : (out : List ℕ) (last version width : ℕ) → header_length ≤ length out
-    → fit_words 9 (u32_bytes 4) (fit_words 5 (u32_bytes width) (set (set (set (set (set out 0 83) 1 70) 2 82) 3 last) 4 version))
-    ≡ put_words 0 (header_bytes last version width) out
+-- ---- the header, stored as five bytes and word by word
+pub header-stored : (out : List ℕ) (last version width : ℕ) (front : List ℕ) → front ≡ magic last ++ (version ∷ []) → header_length ≤ length out
+    → fit_words 9 (u32_bytes 4) (fit_words 5 (u32_bytes width) (front ++ drop 5 out)) ≡ put_words 0 (header_bytes last version width) out
 unfolding header_bytes
-header-stored out last version width h =
-    let front = magic last ++ (version ∷ []) in
-    let o1 = set (set (set (set (set out 0 83) 1 70) 2 82) 3 last) 4 version in
+header-stored out last version width front e h =
+    let five = magic last ++ (version ∷ []) in
+    let o1 = five ++ drop 5 out in
     let o2 = fit_words 5 (u32_bytes width) o1 in
-    let p : PutsAt 0 front out 5 o1 = record { past = refl; out = sets-eq front out 0 (omega arith) ∙ simp append_assoc } in
-    let l : length o1 ≡ length out = simp length-set in
+    let p : PutsAt 0 five out 5 o1 = record { past = refl; out = refl } in
+    let l : length o1 ≡ length out = put-length p (omega arith) in
     let q : PutsAt 5 (u32_bytes width) o1 9 o2 = put_word 5 o1 width (omega arith) refl in
-    let m : length o2 ≡ length out = ap length q.out ∙ length-put_words 5 (u32_bytes width) o1 (let a = length-u32_bytes width in omega arith) ∙ l in
+    let m : length o2 ≡ length out = put-length q (omega arith) ∙ l in
     let r : PutsAt 9 (u32_bytes 4) o2 13 (fit_words 9 (u32_bytes 4) o2) = put_word 9 o2 4 (omega arith) refl in
-    (put_then 0 (front ++ u32_bytes width) (u32_bytes 4) out (put_then 0 front (u32_bytes width) out p q (omega arith)) r (omega arith)).out
-    ∙ ap (λ (l : List ℕ). put_words 0 l out) (append_assoc front (u32_bytes width) (u32_bytes 4))
+    ap (λ (f : List ℕ). fit_words 9 (u32_bytes 4) (fit_words 5 (u32_bytes width) (f ++ drop 5 out))) e
+    ∙ (put_then 0 (five ++ u32_bytes width) (u32_bytes 4) out (put_then 0 five (u32_bytes width) out p q (omega arith)) r (omega arith)).out
+    ∙ ap (λ (l : List ℕ). put_words 0 l out) (append_assoc five (u32_bytes width) (u32_bytes 4))
 
 -- ---- questions in two parts: the first part's no stays, else the second is asked
 module _ (ps qs : List Question) (no : ℕ) (e : no ≡ first_no ps) where
@@ -82,17 +81,10 @@ module _ (ps qs : List Question) (no : ℕ) (e : no ≡ first_no ps) where
 
 -- ---- what a write answers
 module _ (bytes out : List ℕ) (no answer : ℕ) (e : no ≡ answer) where
-  pub written-refused : (no ≡ 0 → ⊥) → Writes (λ w. w) answer bytes out (record { outcome = Refused no; len = 0 }) out
-  written-refused h = rw (← e) (go no h)
-    where
-      go : (k : ℕ) → (k ≡ 0 → ⊥) → Writes (λ w. w) k bytes out (record { outcome = Refused k; len = 0 }) out
-      go zero n = absurd (n refl)
-      go (suc k) n = record { answer = refl; out = refl }
-
   pub written-accepted : no ≡ 0 → (len : ℕ) (last : List ℕ) → PutsAt 0 bytes out len last
-      → Writes (λ w. w) answer bytes out (record { outcome = Accepted; len = len }) last
+      → Writes (λ w. w) answer bytes out (record { outcome = Ok tt; len = len }) last
   written-accepted z len last p =
-      rw (← e, z) (record { answer = ap (λ (n : ℕ). record { outcome = Accepted; len = n }) (p.past ∙ omega arith); out = p.out })
+      rw (← e, z) (record { answer = ap (λ (n : ℕ). record { outcome = Ok tt; len = n }) (p.past ∙ omega arith); out = p.out })
 
 -- ---- how many pieces
 pub length-pieces : (k n : ℕ) (s : List ℕ) → length (pieces k n s) ≡ n

@@ -1,19 +1,29 @@
 -- What the calls that write answer, and what they leave of the output. Assumes nothing.
-use Rattle.std.specs.Prelude.{ℕ, ◌≡◌, List, [], ◌∷◌, ◌++◌, leb, length, take}
+use Rattle.std.specs.Prelude.{ℕ, ◌≡◌, List, [], ◌∷◌, ◌++◌, leb, length, take, Result, Ok, Err}
 use Rattle.limits.specs.Numbers.{prime}
 use Rattle.limits.specs.Questions.{Question, question, first_no, on_yes}
 use Rattle.limits.specs.Asks.{width_asks}
 use Rattle.words.specs.Store.{all_below, put_words}
 use Rattle.words.specs.Pieces.{words_of, steps_of, held_asks}
-use Rattle.limits.specs.Outcome.{outcome_of}
+use Rattle.limits.specs.Outcome.{Outcome, outcome_of}
 use Rattle.instance.specs.Parts.{parts_of}
 use Rattle.held.specs.Held.{instance_asks}
 use Rattle.instance.specs.declared.PermutationInstance.{PermutationInstance}
 use Rattle.header.specs.Form.{version}
 use Rattle.encoding.specs.Form.{instance_bytes, witness_bytes}
-use Rattle.encoding.specs.declared.Written.{Written}
+use Rattle.limits.specs.declared.Refused.{Refused}
 
--- ---- what a write answers, by its number: how many bytes it wrote
+-- ---- what a write answers: the outcome, and how many bytes it wrote, 0 where it was refused
+pub record Written : Type 0 where
+  pub outcome : Outcome
+  pub len : ℕ
+
+-- from what the function answers
+abbrev pub written : Result ℕ Refused → Written
+written (Ok len) = record { outcome = Ok tt; len = len }
+written (Err e) = record { outcome = Err e; len = 0 }
+
+-- by its number
 abbrev pub written_of : ℕ → List ℕ → Written
 written_of k bytes = record { outcome = outcome_of k; len = on_yes k (length bytes) 0 }
 

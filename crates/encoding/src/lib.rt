@@ -8,11 +8,9 @@
 //   SFRW  "SFRW" u8:1 u32:width u32:4 u32:n_steps { u32*width (input) u32*width (output) }*
 //
 // Numbers are little-endian. A write leaves what lies past its bytes as it was, and a refused one changes
-// nothing. Every open function answers on every input.
+// nothing. Every open function answers on every input: how many bytes it wrote, or the refusal.
 
-#![tactic(auto)]
-
-use limits::Outcome;
+#![tactic(auto, unfolding(limits::specs::Questions::ask, limits::specs::Questions::first_of_two))]
 
 mod put;
 mod sfri;
@@ -20,10 +18,3 @@ mod sfrw;
 
 pub use sfri::instance_to_bytes;
 pub use sfrw::witness_to_bytes;
-
-// What a write answers: how many bytes it wrote, 0 where it was refused.
-#[derive(Clone, Copy)]
-pub struct Written {
-    pub outcome: Outcome,
-    pub len: usize,
-}

@@ -5,7 +5,7 @@ ghost use Rattle.words.specs.Store.{put_words};
 ghost use Rattle.header.specs.Form.{header_bytes, header_length};
 ghost use Rattle.encoding.specs.Put.{list_bytes, PutsAt};
 
-use header::{UNIT_LENGTH, UNIT_LENGTH_AT, VERSION_AT, WIDTH_AT};
+use header::{UNIT_LENGTH, UNIT_LENGTH_AT, WIDTH_AT};
 use narg::Cursor;
 
 // The bytes of a header at the front of an output.
@@ -13,11 +13,7 @@ pub(crate) fn put_header(out: &mut [u8], last: u8, version: u8, width: u32)
     requires { header_length ≤ length out.old }
     ensures { out.new ≡ put_words 0 (header_bytes last version width) out.old }
 {
-    out[0] = b'S';
-    out[1] = b'F';
-    out[2] = b'R';
-    out[3] = last;
-    out[VERSION_AT] = version;
+    out[..WIDTH_AT].copy_from_slice(&[b'S', b'F', b'R', last, version]);
     narg::put_u32(out, Cursor { at: WIDTH_AT }, width);
     narg::put_u32(out, Cursor { at: UNIT_LENGTH_AT }, UNIT_LENGTH);
 }
@@ -27,11 +23,7 @@ pub(crate) fn put_bytes(out: &mut [u8], at: usize, bytes: &[u8])
     requires { at + length bytes.now ≤ length out.old }
     ensures { out.new ≡ put_words at bytes.now out.old }
 {
-    let mut i = 0;
-    while i < bytes.len() {
-        out[at + i] = bytes[i];
-        i += 1;
-    }
+    out[at..at + bytes.len()].copy_from_slice(bytes);
 }
 
 // A count and the words of a list at a place of an output; and the place past them.

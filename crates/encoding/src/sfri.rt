@@ -1,17 +1,17 @@
 // An instance written: SFRI (the source's `PermutationInstance::to_bytes`).
 
 ghost use Rattle.std.specs.Prelude.{◌≡◌};
+ghost use Rattle.limits.specs.Outcome.{as_is, outcome_of};
 ghost use Rattle.header.specs.Form.{version};
 ghost use Rattle.encoding.specs.Form.{label_bytes};
-ghost use Rattle.encoding.specs.Answers.{instance_to_bytes_no, InstanceWrites};
+ghost use Rattle.encoding.specs.Answers.{written, instance_to_bytes_no, InstanceWrites};
 ghost use Rattle.encoding.specs.Put.{held_bytes, HeldFits, LabelFits, PutsAt};
 
-use crate::Written;
 use crate::put::{put_bytes, put_header, put_list};
 use header::{HEADER_LENGTH, VERSION};
 use held::{held_pieces, held_words};
 use instance::PermutationInstance;
-use limits::Outcome;
+use limits::Refused;
 use narg::Cursor;
 
 // How many bytes there are beside label and lists: the header and five words, which are the label's length, the wire
@@ -50,26 +50,23 @@ fn put_held(
     put_list(out, after_queries, ins.equations, equations)
 }
 
-// The number of a write: 1, 2, 11, 10. Not 12 to 15 and not 27: any held parts are written.
-fn instance_to_bytes_no(
+// The questions of a write: 1, 2, 11, 10. Not 12 to 15 and not 27: any held parts are written.
+fn ask_instance_to_bytes(
     ins: PermutationInstance,
     label: &[u8],
     publics: &[u32],
     queries: &[u32],
     equations: &[u32],
     room: usize,
-) -> u32
-    ensures { result ≡ instance_to_bytes_no ins label.now publics.now queries.now equations.now room }
+) -> Result<(), Refused>
+    ensures { result ≡ outcome_of (instance_to_bytes_no ins label.now publics.now queries.now equations.now room) }
 {
-    let no = held::asked_instance(ins, label, publics, queries, equations);
-    if no != 0 {
-        return no;
-    }
+    held::ask_instance(&ins, label, publics, queries, equations)?;
     let pairs = held_words(publics, 2 * ins.publics as usize);
     let pieces = held_pieces(queries, ins.width, ins.queries);
     let words = held_words(equations, ins.words as usize);
     let size = 4 * (pairs.len() + pieces.len() + words.len());
-    limits::asked(0, FIXED + label.len() + size <= room, 10)
+    limits::ask(10, FIXED + label.len() + size <= room)
 }
 
 // Held parts as SFRI, gated or not, at the front of the output. Questions 1, 2, 11, 10.
@@ -80,23 +77,13 @@ pub fn instance_to_bytes(
     queries: &[u32],
     equations: &[u32],
     out: &mut [u8],
-) -> Written
-    ensures { InstanceWrites (λ w. w) ins label.now publics.now queries.now equations.now
-        out.old result out.new }
+) -> Result<usize, Refused>
+    ensures { InstanceWrites as_is ins label.now publics.now queries.now equations.now
+        out.old (written result) out.new }
 {
-    let no = instance_to_bytes_no(ins, label, publics, queries, equations, out.len());
-    if no != 0 {
-        return Written {
-            outcome: Outcome::Refused(no),
-            len: 0,
-        };
-    }
+    ask_instance_to_bytes(ins, label, publics, queries, equations, out.len())?;
     let pairs = held_words(publics, 2 * ins.publics as usize);
     let pieces = held_pieces(queries, ins.width, ins.queries);
     let words = held_words(equations, ins.words as usize);
-    let len = put_held(out, ins, label, pairs, pieces, words);
-    Written {
-        outcome: Outcome::Accepted,
-        len,
-    }
+    Ok(put_held(out, ins, label, pairs, pieces, words))
 }

@@ -1,8 +1,8 @@
 -- Terms lent as records, taken one by one: how many they are, what the questions answer when one more is
 -- asked, and what is left to store when one more is stored. Assumes nothing.
-use Prim.Native.Nat.{ℕ, zero, suc, ◌+◌, ◌*◌, ◌≤◌, ◌<◌, ◌^◌}
+use Prim.Native.Nat.{ℕ, suc, ◌+◌, ◌*◌, ◌≤◌, ◌<◌, ◌^◌}
 use mathlib.Core.Path.{◌≡◌, refl, sym, ap, ◌∙◌}
-use mathlib.Core.Bool.{Bool, true, false, ◌&&◌}
+use mathlib.Core.Bool.{Bool, ◌&&◌, and-true, and_assoc}
 use mathlib.Core.List.{List, [], ◌∷◌}
 use native.Mathlib.Numerals.{add-one}
 use native.Mathlib.Omega.{arith}
@@ -10,11 +10,9 @@ use lib.Dec.{ltb}
 use lib.ListN.{length, get_or, set, drop, drop_of_length-le, length-set}
 use lib.Seq.{sets, drop-cons}
 use Rattle.limits.specs.Numbers.{prime, max_count}
-use Rattle.limits.specs.Questions.{pick, ask, ◌▸◌, first_no, on_yes}
-use Rattle.limits.proofs.Questions.{stays, ▸-zero, ▸-assoc, zero-▸}
 use Rattle.words.specs.Store.{all_below}
-use Rattle.expr.specs.Equation.{term_vars, term_weights, term_words, terms_asks}
-use Rattle.expr.specs.Weighted.{terms_of, asked_term}
+use Rattle.expr.specs.Equation.{term_vars, term_weights, term_words}
+use Rattle.expr.specs.Weighted.{terms_of}
 use Rattle.expr.specs.declared.Weighted.{Weighted}
 
 -- a record for what lies past the end
@@ -30,46 +28,23 @@ length-terms_of [] = refl
 length-terms_of (t ∷ ts) = ap suc (length-terms_of ts)
 
 -- ---- the questions
--- from a no before, through the terms
-abbrev pub asked : List Weighted → ℕ → ℕ
-asked [] k = k
-asked (t ∷ ts) k = asked ts (asked_term k t)
+-- what is said of the first terms, and of those from place i on
+abbrev pub wires_from : List Weighted → ℕ → Bool → Bool
+wires_from ts i b = b && all_below max_count (term_vars (terms_of (drop i ts)))
 
-pub asked-one : (ts : List Weighted) (i k : ℕ) → i < length ts
-    → asked (drop (i + 1) ts) (asked_term k (get_or ts i no_term)) ≡ asked (drop i ts) k
-asked-one ts i k l =
-    ap (λ (j : ℕ). asked (drop j ts) (asked_term k (get_or ts i no_term))) (add-one i)
-    ∙ ap (λ (us : List Weighted). asked us k) (sym (drop-cons ts i no_term l))
+abbrev pub weights_from : List Weighted → ℕ → Bool → Bool
+weights_from ts i b = b && all_below prime (term_weights (terms_of (drop i ts)))
 
-pub asked-all : (ts : List Weighted) (i k : ℕ) → length ts ≤ i → asked (drop i ts) k ≡ k
-asked-all ts i k l = ap (λ (us : List Weighted). asked us k) (drop_of_length-le ts l)
+-- one term more
+pub asked-one : (ts : List Weighted) (i : ℕ) (a b : Bool) → i < length ts → let t = get_or ts i no_term in
+    (wires_from ts i a ≡ wires_from ts (i + 1) (a && ltb t.var.0 max_count)) × (weights_from ts i b ≡ weights_from ts (i + 1) (b && ltb t.weight.0 prime))
+unfolding all_below
+asked-one ts i a b l = let t = get_or ts i no_term in let e = drop-cons ts i no_term l in rw (e, add-one i) (sym (and_assoc a _ _), sym (and_assoc b _ _))
 
--- one term more before the others
-first-asked : (k : ℕ) (a b c d : Bool)
-    → ask 3 c ▸ (pick a (k ▸ ask 4 b) 3 ▸ ask 4 d) ≡ ask 3 (a && c) ▸ (k ▸ ask 4 (b && d))
-unfolding ask ◌▸◌
-first-asked k true true c d = simp ▸-assoc
-first-asked k true false c d = simp ▸-assoc
-first-asked k false b true d = refl
-first-asked k false b false d = refl
-
-asked-from : (ts : List Weighted) (k : ℕ)
-    → asked ts k ≡ ask 3 (all_below max_count (term_vars (terms_of ts))) ▸ (k ▸ ask 4 (all_below prime (term_weights (terms_of ts))))
-unfolding all_below ask ◌▸◌
-asked-from [] k = sym (▸-zero k)
-asked-from (t ∷ ts) k =
-    asked-from ts (asked_term k t)
-    ∙ first-asked k (ltb t.var.0 max_count) (ltb t.weight.0 prime) (all_below max_count (term_vars (terms_of ts))) (all_below prime (term_weights (terms_of ts)))
-
--- the walk begins within the list
-pub from-within : (k n : ℕ) → on_yes k 0 n ≤ n
-from-within zero n = omega arith
-from-within (suc k) n = omega arith
-
--- after a no nothing is walked, and it stays; else it is the number of the first question that says no
-pub asked-after : (ts : List Weighted) (k : ℕ) → asked (drop (on_yes k 0 (length ts)) ts) k ≡ k ▸ first_no (terms_asks (terms_of ts))
-asked-after ts zero = asked-from ts 0 ∙ simp (zero-▸, ▸-zero)
-asked-after ts (suc k) = asked-all ts (length ts) (suc k) (omega arith) ∙ sym (stays (suc k) _ (λ z. absurd (omega arith)))
+-- all of them
+pub asked-all : (ts : List Weighted) (i : ℕ) (b : Bool) → length ts ≤ i → (wires_from ts i b ≡ b) × (weights_from ts i b ≡ b)
+unfolding all_below
+asked-all ts i b l = rw (drop_of_length-le ts l) (and-true b, and-true b)
 
 -- ---- the words
 -- term i of those whose words start at place `at`

@@ -1,22 +1,16 @@
 -- Terms lent as a list of records (the source's `Weighted`), and scaling them. Assumes nothing.
 use Rattle.std.specs.Prelude.{ℕ, List, [], ◌∷◌, ◌++◌, map, ltb}
-use Rattle.limits.specs.Numbers.{prime, max_count}
-use Rattle.limits.specs.Questions.{pick, ask, ◌▸◌, Question, question, first_no, on_yes}
+use Rattle.limits.specs.Numbers.{prime}
+use Rattle.limits.specs.Outcome.{Outcome, outcome_of}
+use Rattle.limits.specs.Questions.{Question, question, first_no, on_yes}
 use Rattle.baby_bear.specs.Field.{mul_unit}
 use Rattle.expr.specs.Equation.{Term, terms_asks}
 use Rattle.expr.specs.declared.Weighted.{Weighted}
-use Rattle.limits.specs.declared.Outcome.{Outcome}
-use Rattle.limits.specs.declared.Outcome.TheVariants.{Accepted, Refused}
 
 -- the terms that the records are, in order
 abbrev pub terms_of : List Weighted → List Term
 terms_of [] = []
 terms_of (t ∷ ts) = record { var = t.var.0; weight = t.weight.0 } ∷ terms_of ts
-
--- the no k of the terms before, and one term more: 3 for a wire of 2^30 or more, else what was said before,
--- else 4 for a weight that is no unit
-abbrev pub asked_term : ℕ → Weighted → ℕ
-asked_term k t = pick (ltb t.var.0 max_count) (k ▸ ask 4 (ltb t.weight.0 prime)) 3
 
 -- a record with its weight times a factor, modulo p
 abbrev pub scaled_by : ℕ → Weighted → Weighted
@@ -32,7 +26,7 @@ scale_no ts factor = first_no (scale_asks ts factor)
 
 -- what scaling answers, and the list afterwards: every weight scaled, or as it was
 abbrev pub scale : List Weighted → ℕ → Outcome
-scale ts factor = on_yes (scale_no ts factor) Accepted (Refused (scale_no ts factor))
+scale ts factor = outcome_of (scale_no ts factor)
 
 -- the list afterwards: every weight times the factor, or as it was
 abbrev pub scale_terms : List Weighted → ℕ → List Weighted

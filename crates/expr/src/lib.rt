@@ -4,18 +4,19 @@
 // Terms are lent as a list of records, `Weighted`, in order; repeats and zero weights are kept. Each function
 // is total and says what it answers and what every word and record lent is afterwards.
 
-#![tactic(auto)]
+#![tactic(auto, unfolding(limits::specs::Questions::ask, limits::specs::Questions::first_of_two, crate::specs::Weighted::scale_no))]
 
-ghost use Rattle.std.specs.Prelude.{◌≡◌, map, ◌+◌, ◌≤◌, ◌<◌, leb, ltb, length, set};
+ghost use Rattle.std.specs.Prelude.{◌≡◌, map, ◌+◌, ◌≤◌, ◌<◌, leb, length, set};
 ghost use Rattle.std.proofs.lemmas.List.Edits.{sets};
-ghost use Rattle.limits.specs.Numbers.{prime, word_end};
-ghost use Rattle.limits.specs.Questions.{pick, ask, ◌▸◌, first_no, on_yes};
+ghost use Rattle.limits.specs.Numbers.{word_end};
+ghost use Rattle.limits.specs.Outcome.{outcome_of};
+ghost use Rattle.limits.specs.Questions.{pick, first_no};
 ghost use Rattle.expr.specs.Equation.{equation, equation_size, term_words, terms_asks, fit_equation, equation_fits, put_ends};
-ghost use Rattle.expr.specs.Weighted.{terms_of, asked_term, scaled_by, scale, scale_terms};
+ghost use Rattle.expr.specs.Weighted.{terms_of, scaled_by, scale, scale_terms};
 
 use allocator::FieldVar;
 use baby_bear::BabyBearUnit;
-use limits::{MAX_COUNT, Outcome, P, WORD_END};
+use limits::{MAX_COUNT, P, Refused, WORD_END};
 
 // A wire scaled by a constant: weight · var.
 #[repr(C)]
@@ -25,39 +26,19 @@ pub struct Weighted {
     pub weight: BabyBearUnit,
 }
 
-// The no of the terms before, and one term more: 3 for a wire of 2^30 or more, else what was said before,
-// else 4 for a weight that is no unit.
-fn asked_term(no: u32, t: Weighted) -> u32
-    ensures { result ≡ asked_term no t }
+// Questions 3 and 4 of the terms: every wire, then every weight. The terms are looked at once, each of them, so that the
+// loop has no exit of its own.
+pub fn ask_terms(terms: &[Weighted]) -> Result<(), Refused>
+    ensures { result ≡ outcome_of (first_no (terms_asks (terms_of terms.now))) }
 {
-    if MAX_COUNT <= t.var.0 {
-        return 3;
+    let mut wires = true;
+    let mut weights = true;
+    for t in terms {
+        wires &= t.var.0 < MAX_COUNT;
+        weights &= t.weight.0 < P;
     }
-    limits::asked(no, t.weight.0 < P, 4)
-}
-
-// Where a walk over n terms begins: at the first, or behind the last where an earlier question said no.
-fn walk_from(no: u32, n: usize) -> usize
-    ensures { result ≡ on_yes no 0 n }
-{
-    if no != 0 {
-        return n;
-    }
-    0
-}
-
-// Questions 3 and 4 of the terms, after the answer so far: every wire, then every weight. The terms are looked
-// at once, and not at all where an earlier question said no.
-pub fn asked_terms(no: u32, terms: &[Weighted]) -> u32
-    ensures { result ≡ no ▸ first_no (terms_asks (terms_of terms.now)) }
-{
-    let mut so: u32 = no;
-    let mut i: usize = walk_from(no, terms.len());
-    while i < terms.len() {
-        so = asked_term(so, terms[i]);
-        i = i + 1;
-    }
-    so
+    limits::ask(3, wires)?;
+    limits::ask(4, weights)
 }
 
 // Does a store of len words hold an equation of n terms at place `at`?
@@ -98,10 +79,8 @@ fn put_term(out: &mut [u32], at: usize, i: usize, t: Weighted)
 fn put_terms(terms: &[Weighted], out: &mut [u32], at: usize)
     ensures { out.new ≡ sets out.old at (term_words (terms_of terms.now)) }
 {
-    let mut i: usize = 0;
-    while i < terms.len() {
-        put_term(out, at, i, terms[i]);
-        i = i + 1;
+    for (i, t) in terms.iter().enumerate() {
+        put_term(out, at, i, *t);
     }
 }
 
@@ -136,9 +115,6 @@ pub fn put_equation(out: &mut [u32], at: usize, terms: &[Weighted], image: u32)
 {
     if put_ends(out, at, terms.len(), image) {
         put_terms(terms, out, at + 1);
-        return;
-    } else {
-        return;
     }
 }
 
@@ -146,11 +122,9 @@ pub fn put_equation(out: &mut [u32], at: usize, terms: &[Weighted], image: u32)
 fn scaled_term(t: Weighted, factor: BabyBearUnit) -> Weighted
     ensures { result ≡ scaled_by factor.0 t }
 {
-    let var = t.var;
-    let weight = baby_bear::mul_unit(t.weight, factor);
     Weighted {
-        var: var,
-        weight: weight,
+        var: t.var,
+        weight: baby_bear::mul_unit(t.weight, factor),
     }
 }
 
@@ -158,31 +132,18 @@ fn scaled_term(t: Weighted, factor: BabyBearUnit) -> Weighted
 fn scale_all(terms: &mut [Weighted], factor: BabyBearUnit)
     ensures { terms.new ≡ map (scaled_by factor.0) terms.old }
 {
-    let mut i: usize = 0;
-    while i < terms.len() {
-        terms[i] = scaled_term(terms[i], factor);
-        i = i + 1;
+    for t in terms.iter_mut() {
+        *t = scaled_term(*t, factor);
     }
-}
-
-// Question 4 of the factor, after the answer so far.
-fn asked_factor(no: u32, factor: BabyBearUnit) -> u32
-    ensures { result ≡ no ▸ ask 4 (ltb factor.0 prime) }
-{
-    limits::asked(no, factor.0 < P, 4)
 }
 
 // Every weight times the factor (the source's product of a sum and a unit). Questions 3 over all wires, 4 over
 // all weights and the factor; a refusal leaves the list as it was.
-pub fn scale(terms: &mut [Weighted], factor: BabyBearUnit) -> Outcome
+pub fn scale(terms: &mut [Weighted], factor: BabyBearUnit) -> Result<(), Refused>
     ensures { (result ≡ scale terms.old factor.0) × (terms.new ≡ scale_terms terms.old factor.0) }
 {
-    let asked = asked_terms(0, terms);
-    let no = asked_factor(asked, factor);
-    if no != 0 {
-        return Outcome::Refused(no);
-    } else {
-        scale_all(terms, factor);
-        return Outcome::Accepted;
-    }
+    ask_terms(terms)?;
+    limits::ask(4, factor.0 < P)?;
+    scale_all(terms, factor);
+    Ok(())
 }

@@ -8,15 +8,16 @@ use borrow.Author.Tests.{eqb-true}
 use lib.Dec.{eqb}
 use lib.ListN.{drop}
 use lib.Seq.{drop-drop}
+use Rattle.std.specs.Prelude.{Result, Ok, Err}
+use Rattle.limits.specs.Outcome.{refusal}
+use Rattle.limits.specs.declared.Refused.{Refused}
 use Rattle.narg.specs.Reader.{Got, got, stop, on_got, Reader, ◌>>◌, need, word}
 use Rattle.narg.specs.Cursor.{cursor}
-use Rattle.narg.specs.declared.Cursor.{Cursor}
 use Rattle.narg.proofs.Fields.{never, word-rest}
 use Rattle.header.specs.Form.{is_magic, unit_length, width_at, header_length}
 use Rattle.header.specs.Read.{read_magic, read_header}
 use Rattle.header.specs.Answers.{header_field}
 use Rattle.header.specs.declared.Field.{Field}
-use Rattle.header.specs.declared.Field.TheVariants.{Read, Refused}
 
 -- ---- a reader and then another, a question and then a reader: what follows from what both got
 pub took : {A B C : Type 0} (g : Got A) (next : A → Reader B) (b : B) (r : List ℕ) → on_got g next ≡ got b r
@@ -85,19 +86,21 @@ module _ (last version width : ℕ) (s : List ℕ) where
       n ∙ ap (drop 4) (w ∙ ap (drop 4) m) ∙ simp drop-drop
 
   -- what the answer tells
-  module _ (f : Field) (ef : f ≡ header_field (read_header last version width s)) where
-    pub field-stop : (k : ℕ) → f ≡ Refused k → read_header last version width s ≡ stop k
+  module _ (f : Result Field Refused) (ef : f ≡ header_field (read_header last version width s)) where
+    pub field-stop : (k : ℕ) → f ≡ Err (refusal k) → read_header last version width s ≡ stop k
     field-stop k e = go (read_header last version width s) (sym ef ∙ e)
       where
-        go : (g : Got (Unit {0})) → header_field g ≡ Refused k → g ≡ stop k
+        go : (g : Got (Unit {0})) → header_field g ≡ Err (refusal k) → g ≡ stop k
         go (got u r) h = absurd (let z : ◌≡◌ {A = ℕ} 0 1 = cc in omega arith)
-        go (stop j) h = let z : j ≡ k = cc in ap stop z
+        go (stop j) h =
+            let z : refusal j ≡ refusal k = cc in
+            ap (λ (r : Refused). stop r.0) z
 
-    pub field-got : (n words : ℕ) (next : Cursor) → f ≡ Read n words next → read_header last version width s ≡ got tt (drop next.at s)
-    field-got n words next e = go (read_header last version width s) refl (sym ef ∙ e)
+    pub field-got : (field : Field) → f ≡ Ok field → read_header last version width s ≡ got tt (drop field.next.at s)
+    field-got field e = go (read_header last version width s) refl (sym ef ∙ e)
       where
-        go : (g : Got (Unit {0})) → read_header last version width s ≡ g → header_field g ≡ Read n words next → g ≡ got tt (drop next.at s)
+        go : (g : Got (Unit {0})) → read_header last version width s ≡ g → header_field g ≡ Ok field → g ≡ got tt (drop field.next.at s)
         go (got u r) w h =
-            let z : cursor header_length ≡ next = cc in
-            ap (λ (l : List ℕ). got tt l) (header-rest u r w ∙ ap (λ (c : Cursor). drop c.at s) z)
+            let z : record { value = 0; extra = 0; next = cursor header_length } ≡ field = cc in
+            ap (λ (l : List ℕ). got tt l) (header-rest u r w ∙ ap (λ (c : Field). drop c.next.at s) z)
         go (stop j) w h = absurd (let z : ◌≡◌ {A = ℕ} 0 1 = cc in omega arith)

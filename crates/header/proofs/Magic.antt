@@ -1,23 +1,24 @@
 -- The header: magic, version, width and unit length by what stands at their places, for the code's returns.
 -- Assumes nothing.
-use Prim.Native.Nat.{ℕ, zero, suc, ◌≤◌, ◌<◌}
+use Prim.Native.Nat.{ℕ, ◌≤◌, ◌<◌}
 use mathlib.Core.Path.{◌≡◌, refl, sym, ap, ◌∙◌}
 use mathlib.Core.Bool.{Bool, true, false}
 use mathlib.Core.List.{List, [], ◌∷◌}
 use native.Mathlib.Omega.{arith}
 use borrow.Author.Tests.{eq-eqb, ne_eqb}
 use lib.ListN.{length, drop, get_or}
-use Rattle.narg.specs.Reader.{got, stop, number}
+use Rattle.std.specs.Prelude.{Ok, Err, Some, None}
+use Rattle.limits.specs.Outcome.{Outcome, asked, refusal}
+use Rattle.limits.specs.declared.Refused.{Refused}
+use Rattle.narg.specs.Reader.{got, stop}
 use Rattle.narg.specs.Cursor.{cursor, read_u32}
 use Rattle.narg.specs.declared.Cursor.{Cursor}
-use Rattle.narg.specs.declared.Word.TheVariants.{Read, Short}
 use Rattle.narg.proofs.At.{read_u32-read, read_u32-stop}
 use Rattle.reader.specs.At.{part_at}
 use Rattle.reader.proofs.Found.{part-short, part-long, part-get_or}
 use Rattle.header.specs.Form.{is_magic, unit_length, version_at, width_at, unit_length_at}
 use Rattle.header.specs.Read.{read_magic, read_header}
 use Rattle.header.specs.Answers.{header_field}
-use Rattle.header.specs.declared.Field.TheVariants.{Read as ReadField}
 
 -- do the first four bytes make the magic?
 abbrev magic_in : List ℕ → ℕ → Bool
@@ -101,42 +102,44 @@ module _ (s front mark : List ℕ) (ef : front ≡ part_at s 0 version_at) (em :
         pub part-magic-yes : get_or mark 0 0 ≡ version → read_magic last version s ≡ got tt (drop width_at s)
         part-magic-yes y = magic-yes last version s longer (same ∙ t) (sym mark-is ∙ y)
 
-number-stop : (k : ℕ) (r : List ℕ) → (k ≡ 0 → ⊥) → number k r ≡ stop k
-number-stop zero r h = absurd (h refl)
-number-stop (suc k) r h = refl
-
 -- the header by its fields
-module _ (last version width : ℕ) (s : List ℕ) (k : ℕ) (em : read_magic last version s ≡ number k (drop width_at s)) where
-  pub header-stop : (k ≡ 0 → ⊥) → read_header last version width s ≡ stop k
+module _ (last version width : ℕ) (s : List ℕ) where
+  pub header-stop : (k : ℕ) → read_magic last version s ≡ stop k → read_header last version width s ≡ stop k
   unfolding read_header
-  header-stop h = rw (em, number-stop k (drop width_at s) h)
+  header-stop k e = rw e
 
-  module _ (z : k ≡ 0) where
-    front : read_magic last version s ≡ got tt (drop width_at s)
-    front = em ∙ ap (λ (n : ℕ). number n (drop width_at s)) z
-
-    pub width-short : read_u32 s width_at ≡ Short → read_header last version width s ≡ stop 20
+  module _ (front : read_magic last version s ≡ got tt (drop width_at s)) where
+    pub width-short : read_u32 s width_at ≡ None → read_header last version width s ≡ stop 20
     unfolding read_header
     width-short e = rw (front, read_u32-stop s width_at e)
 
-    module _ (w : ℕ) (c : Cursor) (ew : read_u32 s width_at ≡ Read w c) where
+    module _ (w : ℕ) (c : Cursor) (ew : read_u32 s width_at ≡ Some (w, c)) where
       pub width-no : (w ≡ width → ⊥) → read_header last version width s ≡ stop 23
       unfolding read_header
       width-no h = rw (front, (read_u32-read s width_at w c ew).reads, ne_eqb w width h)
 
       module _ (h : w ≡ width) where
-        pub unit-short : read_u32 s unit_length_at ≡ Short → read_header last version width s ≡ stop 20
+        pub unit-short : read_u32 s unit_length_at ≡ None → read_header last version width s ≡ stop 20
         unfolding read_header
         unit-short e = rw (front, (read_u32-read s width_at w c ew).reads, eq-eqb w width h, read_u32-stop s unit_length_at e)
 
-        module _ (n : ℕ) (d : Cursor) (en : read_u32 s unit_length_at ≡ Read n d) where
+        module _ (n : ℕ) (d : Cursor) (en : read_u32 s unit_length_at ≡ Some (n, d)) where
           pub unit-no : (n ≡ unit_length → ⊥) → read_header last version width s ≡ stop 24
           unfolding read_header
           unit-no l = rw (front, (read_u32-read s width_at w c ew).reads, eq-eqb w width h, (read_u32-read s unit_length_at n d en).reads, ne_eqb n unit_length l)
 
-          pub header-yes : n ≡ unit_length → ReadField 0 0 d ≡ header_field (read_header last version width s)
+          pub header-yes : n ≡ unit_length → Ok (record { value = 0; extra = 0; next = d }) ≡ header_field (read_header last version width s)
           unfolding read_header
           header-yes l =
               let u = read_u32-read s unit_length_at n d en in
-              ap (λ (at : ℕ). ReadField 0 0 (cursor at)) u.past
+              ap (λ (at : ℕ). Ok (record { value = 0; extra = 0; next = cursor at })) u.past
               ∙ rw (front, (read_u32-read s width_at w c ew).reads, eq-eqb w width h, u.reads, eq-eqb n unit_length l)
+
+-- ---- one question, by its answer
+pub asked-yes : (k : ℕ) (says : Bool) {r : Outcome} {u : Unit {0}} → r ≡ asked k says → r ≡ Ok u → says ≡ true
+asked-yes k true is was = refl
+asked-yes k false is was = cc
+
+pub asked-no : (k : ℕ) (says : Bool) {r : Outcome} {e : Refused} → r ≡ asked k says → r ≡ Err e → (says ≡ false) × (e ≡ refusal k)
+asked-no k true is was = cc
+asked-no k false is was = (refl, cc)

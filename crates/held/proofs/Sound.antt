@@ -1,15 +1,15 @@
 -- What 11 asks of pairs, equations and slots, word by word: what is left of the words says the same as all
 -- of them. Assumes nothing.
-use Prim.Native.Nat.{ℕ, zero, suc, ◌+◌, ◌*◌, ◌-◌, ◌≤◌, ◌<◌}
+use Prim.Native.Nat.{ℕ, zero, suc, ◌+◌, ◌*◌, ◌-◌, ◌/◌, ◌≤◌, ◌<◌, min}
 use mathlib.Core.Path.{◌≡◌, refl, sym, ap, ◌∙◌}
 use mathlib.Core.Bool.{Bool, true, false, ◌&&◌, ◌||◌, and-false, and-true, and_assoc}
-use mathlib.Core.List.{List, [], ◌∷◌}
+use mathlib.Core.List.{List, [], ◌∷◌, ◌++◌}
 use native.Mathlib.Omega.{arith}
 use native.Mathlib.Numerals.{add-one}
 use native.Mathlib.Nat.{mul-add}
 use borrow.Author.Tests.{lt-ltb, le-ltb, ne_eqb}
 use lib.Dec.{eqb, ltb}
-use lib.ListN.{length, drop, get_or, drop_of_length-le}
+use lib.ListN.{length, take, drop, get_or, drop_of_length-le, length-append, length-take, length-drop}
 use lib.Seq.{drop-cons, drop-drop, get_or-drop}
 use Rattle.limits.specs.Numbers.{prime, max_count, unassigned}
 use Rattle.words.specs.Store.{all_below}
@@ -17,7 +17,8 @@ use Rattle.words.specs.Pieces.{words_of}
 use Rattle.expr.specs.Equation.{term_vars, term_weights, equation_at, equations_at, equations_end, equations_held, size_at}
 use Rattle.instance.specs.Parts.{pair_vars, pair_values, pairs_at}
 use Rattle.held.specs.Held.{equations_sound, publics_sound, slots_sound}
-use Rattle.instance.proofs.Pairs.{at_first, pairs-at, vars-same, values_same}
+use Rattle.instance.proofs.Pairs.{at_first, vars-same, values_same}
+use Rattle.instance.proofs.Parts.{pairs_at-take}
 
 -- ---- pairs
 interchange : (a b x y : Bool) → ((a && x) && (b && y)) ≡ ((a && b) && (x && y))
@@ -25,15 +26,18 @@ interchange true true x y = refl
 interchange true false x y = and-false x
 interchange false b x y = refl
 
-sound-at : (s : List ℕ) (i n : ℕ) → 0 < n
-    → publics_sound n (drop i s)
-    ≡ ((ltb (get_or s i 0) max_count && ltb (get_or s (i + 1) 0) prime) && publics_sound (n - 1) (drop (i + 2) s))
+-- the pair in the first piece of two words: the last piece may be one word alone
+sound-piece : (x r : List ℕ) (n : ℕ) → length x ≡ min 2 (length (x ++ r)) → 0 < length (x ++ r)
+    → publics_sound (suc n) (x ++ r) ≡ ((ltb (get_or x 0 0) max_count && ltb (get_or x 1 0) prime) && publics_sound n r)
 unfolding publics_sound all_below
-sound-at s i n h =
-    rw (pairs-at s i n h)
-    (interchange (ltb (get_or s i 0) max_count) (ltb (get_or s (i + 1) 0) prime)
-    (all_below max_count (pair_vars (pairs_at (n - 1) (drop (i + 2) s))))
-    (all_below prime (pair_values (pairs_at (n - 1) (drop (i + 2) s)))))
+sound-piece [] [] n e h = absurd (omega arith)
+sound-piece [] (y ∷ r) n e h = absurd (omega arith)
+sound-piece (a ∷ []) [] n e h =
+    interchange (ltb a max_count) true (all_below max_count (pair_vars (pairs_at n []))) (all_below prime (pair_values (pairs_at n [])))
+sound-piece (a ∷ []) (y ∷ r) n e h = absurd (omega arith)
+sound-piece (a ∷ b ∷ []) r n e h =
+    interchange (ltb a max_count) (ltb b prime) (all_below max_count (pair_vars (pairs_at n r))) (all_below prime (pair_values (pairs_at n r)))
+sound-piece (a ∷ b ∷ y ∷ x) r n e h = absurd (omega arith)
 
 -- words that are lacking count as 0, which is sound
 lacking : (n : ℕ) → publics_sound n [] ≡ true
@@ -41,36 +45,59 @@ unfolding publics_sound all_below
 lacking zero = refl
 lacking (suc n) = lacking n
 
-module _ (s : List ℕ) (i n : ℕ) (whole : Bool) (e : publics_sound n (drop i s) ≡ whole) where
-  pub sound-lacking : length s ≤ i → true ≡ whole
-  sound-lacking h = sym (ap (publics_sound n) (drop_of_length-le s h) ∙ lacking n) ∙ e
-
-  pub sound-all : n ≤ 0 → true ≡ whole
+module _ (n : ℕ) (s : List ℕ) (whole : Bool) (e : publics_sound n s ≡ whole) where
+  -- no pair is left, or no word
+  pub sound-all : (0 < n → length s ≡ 0) → true ≡ whole
   unfolding publics_sound all_below
-  sound-all h = let z : n ≡ 0 = omega arith in rw z at e
+  sound-all h = go n s h e
+    where
+      go : (m : ℕ) (r : List ℕ) → (0 < m → length r ≡ 0) → publics_sound m r ≡ whole → true ≡ whole
+      go zero r k f = f
+      go (suc m) [] k f = sym (lacking (suc m)) ∙ f
+      go (suc m) (y ∷ r) k f = absurd (let z = k (omega arith) in omega arith)
 
-  module _ (h : 0 < n) where
-    pub sound-wire : max_count ≤ get_or s i 0 → false ≡ whole
-    sound-wire k = sym (sound-at s i n h ∙ simp (le-ltb (get_or s i 0) max_count k)) ∙ e
+  -- the first of n pairs is in the piece x, and m pairs in r are left
+  module _ (x r : List ℕ) (m k : ℕ) (two : k ≡ 2) (t : (s ≡ x ++ r) × (length x ≡ min k (length s)) × (0 < length s)) (c : m + 1 ≡ n) where
+    step : ((ltb (get_or x 0 0) max_count && ltb (get_or x 1 0) prime) && publics_sound m r) ≡ whole
+    step =
+        let z : n ≡ suc m = omega arith in
+        let l = length-append x r in
+        let g = ap length t.0 in
+        sym (sound-piece x r m (omega arith) (omega arith)) ∙ (rw (z, t.0) at e)
 
-    module _ (k : get_or s i 0 < max_count) where
-      pub sound-unit : prime ≤ get_or s (i + 1) 0 → false ≡ whole
-      sound-unit l = sym (sound-at s i n h ∙ simp (lt-ltb (get_or s i 0) max_count k, le-ltb (get_or s (i + 1) 0) prime l)) ∙ e
+    pub sound-wire : max_count ≤ get_or x 0 0 → false ≡ whole
+    sound-wire w = simp (le-ltb (get_or x 0 0) max_count w) at step
 
-      pub sound_more : get_or s (i + 1) 0 < prime → publics_sound (n - 1) (drop (i + 2) s) ≡ whole
-      sound_more l = sym (sound-at s i n h ∙ simp (lt-ltb (get_or s i 0) max_count k, lt-ltb (get_or s (i + 1) 0) prime l)) ∙ e
+    module _ (w : get_or x 0 0 < max_count) where
+      pub sound-unit : prime ≤ get_or x 1 0 → false ≡ whole
+      sound-unit u = simp (lt-ltb (get_or x 0 0) max_count w, le-ltb (get_or x 1 0) prime u) at step
 
--- what the pairs before i say, with the n pairs from i on still to be looked at
-module _ (s : List ℕ) (sound : Bool) (i n : ℕ) (whole : Bool) (e : (sound && publics_sound n (drop i s)) ≡ whole) where
-  pub pairs-more : 0 < n
-      → ((sound && (ltb (get_or s i 0) max_count && ltb (get_or s (i + 1) 0) prime)) && publics_sound (n - 1) (drop (i + 2) s)) ≡ whole
-  pairs-more h =
-      and_assoc sound (ltb (get_or s i 0) max_count && ltb (get_or s (i + 1) 0) prime) (publics_sound (n - 1) (drop (i + 2) s))
-      ∙ sym (ap (λ (b : Bool). sound && b) (sound-at s i n h)) ∙ e
+      pub sound_more : get_or x 1 0 < prime → publics_sound m r ≡ whole
+      sound_more u = simp (lt-ltb (get_or x 0 0) max_count w, lt-ltb (get_or x 1 0) prime u) at step
 
-  pub pairs-all : n ≤ 0 → sound ≡ whole
+-- what the pairs before say, with those in s still to be looked at
+module _ (sound : Bool) (s : List ℕ) (whole : Bool) (e : (sound && publics_sound (length s / 2) s) ≡ whole) where
+  pub pairs-more : (x r : List ℕ) → s ≡ x ++ r → length x ≡ 2
+      → ((sound && (ltb (get_or x 0 0) max_count && ltb (get_or x 1 0) prime)) && publics_sound (length r / 2) r) ≡ whole
+  pairs-more x r z l =
+      let k = length-append x r in
+      let n : length s / 2 ≡ suc (length r / 2) = omega (arith, k, ap length z) in
+      and_assoc sound (ltb (get_or x 0 0) max_count && ltb (get_or x 1 0) prime) (publics_sound (length r / 2) r)
+      ∙ sym (ap (λ (b : Bool). sound && b) (sound-piece x r (length r / 2) (omega arith) (omega arith)))
+      ∙ (rw (n, z) at e)
+
+  pub pairs-all : length s < 2 → sound ≡ whole
   unfolding publics_sound all_below
-  pairs-all h = let z : n ≡ 0 = omega arith in sym (and-true sound) ∙ rw z at e
+  pairs-all h = let z : length s / 2 ≡ 0 = omega arith in sym (and-true sound) ∙ (rw z at e)
+
+-- all n pairs from place `at` on
+pub pairs-held : (s r : List ℕ) (at n : ℕ) → r ≡ take (at + 2 * n - at) (drop at s) → at + 2 * n ≤ length s
+    → publics_sound (length r / 2) r ≡ publics_sound n (drop at s)
+unfolding publics_sound
+pairs-held s r at n z h =
+    let k : at + 2 * n - at ≡ 2 * n = omega arith in
+    let m : length (take (2 * n) (drop at s)) / 2 ≡ n = simp (length-take, length-drop) (omega arith) in
+    rw (z, k, m, pairs_at-take n (drop at s))
 
 -- ---- one equation: its terms are as pairs, and its image is a unit
 pub one-sound : (s : List ℕ) (at : ℕ)

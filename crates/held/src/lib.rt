@@ -5,17 +5,18 @@
 // as in the definitions, so that each function here answers on every input; where the counts fit, as 2 asks,
 // none are lacking.
 
-#![tactic(auto)]
+#![tactic(auto, unfolding(limits::specs::Questions::ask, limits::specs::Questions::first_of_two))]
 
 ghost use Rattle.std.specs.Prelude.{◌≡◌, [], ◌∷◌, ◌+◌, ◌*◌, ◌≤◌, length, take, drop, get_or};
-ghost use Rattle.limits.specs.Questions.{◌▸◌, ask, first_no};
+ghost use Rattle.limits.specs.Outcome.{asked, outcome_of};
+ghost use Rattle.limits.specs.Questions.{first_no};
 ghost use Rattle.words.specs.Pieces.{words_of};
 ghost use Rattle.utf8.specs.Utf8.{is_utf8};
 ghost use Rattle.expr.specs.Equation.{equation_at, equations_held, size_at};
 ghost use Rattle.held.specs.Held.{parts_asks, parts_sound_asks, instance_asks, equations_sound, publics_sound, slots_sound};
 
 use instance::PermutationInstance;
-use limits::{LABEL_END, MAX_COUNT, P, UNASSIGNED};
+use limits::{LABEL_END, MAX_COUNT, P, Refused, UNASSIGNED};
 
 // ---- parts of stores
 
@@ -64,20 +65,13 @@ pub fn size_at(s: &[u32], at: usize) -> usize
 fn publics_sound(held: &[u32], n: u32) -> bool
     ensures { result ≡ publics_sound n held.now }
 {
-    let mut i: usize = 0;
-    let mut left = n;
-    while 0 < left {
-        if held.len() <= i {
-            return true;
-        }
-        if MAX_COUNT <= held[i] {
+    for pair in held.chunks(2).take(n as usize) {
+        if MAX_COUNT <= pair[0] {
             return false;
         }
-        if P <= word_at(held, i + 1) {
+        if P <= word_at(pair, 1) {
             return false;
         }
-        i += 2;
-        left -= 1;
     }
     true
 }
@@ -89,12 +83,8 @@ fn terms_sound(s: &[u32], at: usize, n: u32) -> bool
     ensures { result ≡ publics_sound n (drop at s.now) }
 {
     let mut sound = true;
-    let mut i = at;
-    let mut left = n;
-    while 0 < left {
-        sound = sound & ((s[i] < MAX_COUNT) & (s[i + 1] < P));
-        i += 2;
-        left -= 1;
+    for term in s[at..at + 2 * n as usize].chunks_exact(2) {
+        sound = sound & ((term[0] < MAX_COUNT) & (term[1] < P));
     }
     sound
 }
@@ -114,8 +104,7 @@ fn equations_sound(held: &[u32], n: u32) -> bool
     ensures { result ≡ equations_sound n held.now }
 {
     let mut at: usize = 0;
-    let mut left = n;
-    while 0 < left {
+    for _ in 0..n {
         let size = size_at(held, at);
         if held.len() - at < size {
             return false;
@@ -124,7 +113,6 @@ fn equations_sound(held: &[u32], n: u32) -> bool
             return false;
         }
         at += size;
-        left -= 1;
     }
     at == held.len()
 }
@@ -134,117 +122,84 @@ fn slots_sound(held: &[u32]) -> bool
     ensures { result ≡ slots_sound held.now }
 {
     let mut sound = true;
-    let mut i = 0;
-    while i < held.len() {
-        let x = held[i];
-        sound = sound & ((x < P) | (x == UNASSIGNED));
-        i += 1;
+    for x in held {
+        sound = sound & ((*x < P) | (*x == UNASSIGNED));
     }
     sound
 }
 
-// ---- the same as question 11; not looked at where an earlier question said no
+// ---- the same as question 11
 
 // Of the equations: do they end where the words end, and is what they hold sound?
-pub fn asked_equations_sound(no: u32, held: &[u32], n: u32) -> u32
-    ensures { result ≡ no ▸ ask 11 (equations_sound n held.now) }
+pub fn ask_equations_sound(held: &[u32], n: u32) -> Result<(), Refused>
+    ensures { result ≡ asked 11 (equations_sound n held.now) }
 {
-    if no != 0 {
-        return no;
-    }
-    limits::asked(0, equations_sound(held, n), 11)
-}
-
-// Of the publics: is every wire below 2^30 and every unit below p?
-fn asked_publics_sound(no: u32, held: &[u32], n: u32) -> u32
-    ensures { result ≡ no ▸ ask 11 (publics_sound n held.now) }
-{
-    if no != 0 {
-        return no;
-    }
-    limits::asked(0, publics_sound(held, n), 11)
+    limits::ask(11, equations_sound(held, n))
 }
 
 // Of the slots: is each a unit, or unassigned?
-pub fn asked_slots_sound(no: u32, held: &[u32]) -> u32
-    ensures { result ≡ no ▸ ask 11 (slots_sound held.now) }
+pub fn ask_slots_sound(held: &[u32]) -> Result<(), Refused>
+    ensures { result ≡ asked 11 (slots_sound held.now) }
 {
-    if no != 0 {
-        return no;
-    }
-    limits::asked(0, slots_sound(held), 11)
+    limits::ask(11, slots_sound(held))
 }
 
 // Of the label: is it UTF-8?
-pub fn asked_utf8(no: u32, label: &[u8]) -> u32
-    ensures { result ≡ no ▸ ask 11 (is_utf8 label.now) }
+pub fn ask_utf8(label: &[u8]) -> Result<(), Refused>
+    ensures { result ≡ asked 11 (is_utf8 label.now) }
 {
-    if no != 0 {
-        return no;
-    }
-    limits::asked(0, utf8::is_utf8(label), 11)
+    limits::ask(11, utf8::is_utf8(label))
 }
 
 // ---- an instance's parts
 
 // Question 2 of an instance's parts, by the stores' lengths.
-pub fn asked_parts(
-    no: u32,
-    ins: PermutationInstance,
+pub fn ask_parts(
+    ins: &PermutationInstance,
     publics: usize,
     queries: usize,
     equations: usize,
-) -> u32
-    ensures { result ≡ no ▸ first_no (parts_asks ins publics queries equations) }
+) -> Result<(), Refused>
+    ensures { result ≡ outcome_of (first_no (parts_asks ins.now publics queries equations)) }
 {
-    let pairs = ins.publics;
-    let words = ins.words;
-    let count = ins.equations;
-    let a = limits::asked_store(no, publics);
-    let b = limits::asked_store(a, queries);
-    let c = limits::asked_store(b, equations);
-    let d = limits::asked(c, 2 * pairs as usize <= publics, 2);
-    let e = words::asked_pieces(d, ins.width, ins.queries, queries, 2);
-    let f = limits::asked(e, words as usize <= equations, 2);
-    limits::asked(f, 2 * count as usize <= equations, 2)
+    limits::ask_store(publics)?;
+    limits::ask_store(queries)?;
+    limits::ask_store(equations)?;
+    limits::ask(2, 2 * ins.publics as usize <= publics)?;
+    words::ask_pieces(ins.width, ins.queries, queries, 2)?;
+    limits::ask(2, ins.words as usize <= equations)?;
+    limits::ask(2, 2 * ins.equations as usize <= equations)
 }
 
 // Question 11 of an instance's parts and its label.
-pub fn asked_parts_sound(
-    no: u32,
-    ins: PermutationInstance,
+pub fn ask_parts_sound(
+    ins: &PermutationInstance,
     label: &[u8],
     publics: &[u32],
     queries: &[u32],
     equations: &[u32],
-) -> u32
-    ensures { result ≡ no ▸ first_no (parts_sound_asks ins label.now publics.now queries.now equations.now) }
+) -> Result<(), Refused>
+    ensures { result ≡ outcome_of (first_no (parts_sound_asks ins.now label.now publics.now queries.now equations.now)) }
 {
-    let pairs = ins.publics;
-    let words = ins.words;
-    let a = asked_equations_sound(no, held_words(equations, words as usize), ins.equations);
-    let b = asked_publics_sound(a, held_words(publics, 2 * pairs as usize), pairs);
-    let c = words::asked_below(
-        b,
-        held_pieces(queries, ins.width, ins.queries),
-        MAX_COUNT,
-        11,
-    );
-    asked_utf8(c, label)
+    let pairs = held_words(publics, 2 * ins.publics as usize);
+    ask_equations_sound(held_words(equations, ins.words as usize), ins.equations)?;
+    limits::ask(11, publics_sound(pairs, ins.publics))?;
+    words::ask_below(held_pieces(queries, ins.width, ins.queries), MAX_COUNT, 11)?;
+    ask_utf8(label)
 }
 
 // Questions 1, 2 and 11 of an instance's parts and its label.
-pub fn asked_instance(
-    ins: PermutationInstance,
+pub fn ask_instance(
+    ins: &PermutationInstance,
     label: &[u8],
     publics: &[u32],
     queries: &[u32],
     equations: &[u32],
-) -> u32
-    ensures { result ≡ first_no (instance_asks ins label.now publics.now queries.now equations.now) }
+) -> Result<(), Refused>
+    ensures { result ≡ outcome_of (first_no (instance_asks ins.now label.now publics.now queries.now equations.now)) }
 {
-    let a = limits::asked_width(0, ins.width);
-    let b = asked_parts(a, ins, publics.len(), queries.len(), equations.len());
-    let c = limits::asked(b, label.len() < LABEL_END, 2);
-    asked_parts_sound(c, ins, label, publics, queries, equations)
+    limits::ask_width(ins.width)?;
+    ask_parts(ins, publics.len(), queries.len(), equations.len())?;
+    limits::ask(2, label.len() < LABEL_END)?;
+    ask_parts_sound(ins, label, publics, queries, equations)
 }

@@ -7,10 +7,10 @@ use mathlib.Core.Path.{◌≡◌, refl, ap}
 use mathlib.Core.List.{List, [], ◌∷◌, ◌++◌, map}
 use native.Mathlib.Omega.{arith}
 use lib.ListN.{length, replicate}
+use Rattle.std.specs.Prelude.{Err, Ok}
+use Rattle.limits.specs.Outcome.{Outcome, refusal}
 use Rattle.limits.specs.Numbers.{unassigned}
-use Rattle.limits.specs.Questions.{ask, ◌▸◌}
-use Rattle.limits.specs.declared.Outcome.{Outcome}
-use Rattle.limits.specs.declared.Outcome.TheVariants.{Accepted, Refused}
+use Rattle.limits.specs.Questions.{ask, first_of_two}
 use Rattle.words.specs.Store.{all_below}
 use Rattle.uses.specs.Uses.{times, strays, uses_after, all_fit}
 use Rattle.utf8.specs.Utf8.{follow, is_utf8}
@@ -32,7 +32,7 @@ use Rattle.held.specs.Held.{equations_sound, publics_sound, slots_sound}
 use Rattle.validated.specs.Validated.{validated_no, gate_no}
 use Rattle.instance.specs.declared.PermutationInstance.{PermutationInstance}
 use Rattle.compile.specs.Gate.{GateLent, gate_lent, publics_of, compiled_parts, instance_of, compile_no, compile, compile_publics}
-use Rattle.compile.specs.declared.Compiled.{Compiled}
+use Rattle.compile.specs.Records.{Compiled}
 use Rattle.validity.specs.Check.{check_no}
 use Rattle.validity.specs.Valid.{is_witness_valid_no, is_witness_valid}
 use Rattle.narg.specs.Bytes.{u32_bytes}
@@ -104,32 +104,32 @@ calls =
     ∷ Allocate 1073741821
     ∷ []
 
-fresh-accepted : (new_relation 1 slots uses).outcome ≡ Accepted
-unfolding ask ◌▸◌ new_relation_no
+fresh-accepted : (new_relation 1 slots uses).outcome ≡ Ok tt
+unfolding ask first_of_two new_relation_no
 fresh-accepted = refl
 
 -- 0 to 5 is refused with 8, the first tickets and the list stop at wire 7 with 7, unequal lengths give 9, the mint lacks room (10)
 outcomes : map (λ (e : Entry). e.answered.outcome) (log (begin 1 slots queries equations uses calls) calls)
-    ≡ Accepted ∷ Refused 8 ∷ Refused 7 ∷ Accepted ∷ Refused 7 ∷ Refused 9 ∷ Accepted ∷ Accepted ∷ Refused 10 ∷ Refused 5 ∷ Refused 6 ∷ []
-unfolding ask ◌▸◌ new_relation_no allocate_vars_no set_var_no set_vars_no add_permutation_no allocate_permutation_no add_equation_no times strays all_fit uses_after pair_no set_items set_vars_run ticket_line grams_to_steps read_line lines_of line_no set_tickets_run all_below answer after
+    ≡ Ok tt ∷ Err (refusal 8) ∷ Err (refusal 7) ∷ Ok tt ∷ Err (refusal 7) ∷ Err (refusal 9) ∷ Ok tt ∷ Ok tt ∷ Err (refusal 10) ∷ Err (refusal 5) ∷ Err (refusal 6) ∷ []
+unfolding ask first_of_two new_relation_no allocate_vars_no set_var_no set_vars_no add_permutation_no allocate_permutation_no add_equation_no times strays all_fit uses_after pair_no set_items set_vars_run ticket_line grams_to_steps read_line lines_of line_no set_tickets_run all_below answer after
 outcomes = refl
 
 -- the ledger: three wires, wire 2 set to 5 by the first line of the refused tickets, wire 0 to 0 again by the accepted ones and by the
 -- list, the query 1 to 2, the equation 3 · wire 1 = 6
 ledger-is : last_ledger 1 slots queries equations uses calls
     ≡ ledger 3 (pair 0 0 ∷ pair 0 0 ∷ pair 2 5 ∷ pair 0 0 ∷ []) ((1 ∷ 2 ∷ []) ∷ []) (equation (term 1 3 ∷ []) 6 ∷ [])
-unfolding ask ◌▸◌ new_relation_no allocate_vars_no set_var_no set_vars_no add_permutation_no allocate_permutation_no add_equation_no times strays all_fit uses_after pair_no set_items set_vars_run ticket_line grams_to_steps read_line lines_of line_no set_tickets_run all_below answer after noted
+unfolding ask first_of_two new_relation_no allocate_vars_no set_var_no set_vars_no add_permutation_no allocate_permutation_no add_equation_no times strays all_fit uses_after pair_no set_items set_vars_run ticket_line grams_to_steps read_line lines_of line_no set_tickets_run all_below answer after noted
 ledger-is = refl
 
 -- two publics, one query, one equation of four words
 abbrev instance_a : PermutationInstance
 instance_a = instance_of (relation 1 3 1 1 4 0) 2
 
-gate-A : compiled (last 1 slots queries equations uses calls) [] publics scratch ≡ record { outcome = Accepted; instance = instance_a }
-unfolding ask ◌▸◌ new_relation_no allocate_vars_no set_var_no set_vars_no add_permutation_no allocate_permutation_no add_equation_no times strays all_fit uses_after pair_no set_items set_vars_run ticket_line grams_to_steps read_line lines_of line_no set_tickets_run all_below answer after compiled_parts publics_of equation_at size_at equations_sound slots_sound follow is_utf8 compile_no compile validated_no gate_no
+gate-A : compiled (last 1 slots queries equations uses calls) [] publics scratch ≡ record { outcome = Ok tt; instance = instance_a }
+unfolding ask first_of_two new_relation_no allocate_vars_no set_var_no set_vars_no add_permutation_no allocate_permutation_no add_equation_no times strays all_fit uses_after pair_no set_items set_vars_run ticket_line grams_to_steps read_line lines_of line_no set_tickets_run all_below answer after compiled_parts publics_of equation_at size_at equations_sound slots_sound follow is_utf8 compile_no compile validated_no gate_no
 gate-A = refl
 
-gate-accepted : (compiled (last 1 slots queries equations uses calls) [] publics scratch).outcome ≡ Accepted
+gate-accepted : (compiled (last 1 slots queries equations uses calls) [] publics scratch).outcome ≡ Ok tt
 gate-accepted = ap (λ (c : Compiled). c.outcome) gate-A
 
 -- ---- the theorem at A, through both byte forms into outputs of exactly 73 and 25 bytes
@@ -144,7 +144,7 @@ SatA trace = Sat (Evaluates 1 (parameters_of 1 1 params)) (last_ledger 1 slots q
 
 -- the ledger of those calls is satisfied by the trace (2, 5)
 pub satisfied : SatA ((2 ∷ 5 ∷ []) ∷ [])
-unfolding ask ◌▸◌ new_relation_no allocate_vars_no set_var_no set_vars_no add_permutation_no allocate_permutation_no add_equation_no times strays all_fit uses_after pair_no set_items set_vars_run ticket_line grams_to_steps read_line lines_of line_no set_tickets_run all_below answer after compiled_parts publics_of equation_at size_at equations_sound slots_sound follow is_utf8 compile_no compile validated_no gate_no compile_publics publics_sound parts_of check_no is_witness_valid_no is_evaluation permute_no sound_parameters rounds_of rows_of sound_kinds unit_constants unit_rows same_words run_rounds run_round pairwise on_kind times_matrix add_unit mul_unit power_unit seventh dot_units instance_to_bytes_no instance_bytes header_bytes u32_bytes instance_from_bytes read_instance read_file read_header read_magic read_label read_parts read_publics read_queries read_equations word part below witness_to_bytes_no witness_bytes witness_from_bytes read_witness read_steps
+unfolding ask first_of_two new_relation_no allocate_vars_no set_var_no set_vars_no add_permutation_no allocate_permutation_no add_equation_no times strays all_fit uses_after pair_no set_items set_vars_run ticket_line grams_to_steps read_line lines_of line_no set_tickets_run all_below answer after compiled_parts publics_of equation_at size_at equations_sound slots_sound follow is_utf8 compile_no compile validated_no gate_no compile_publics publics_sound parts_of check_no is_witness_valid_no is_evaluation permute_no sound_parameters rounds_of rows_of sound_kinds unit_constants unit_rows same_words run_rounds run_round pairwise on_kind times_matrix add_unit mul_unit power_unit seventh dot_units instance_to_bytes_no instance_bytes header_bytes u32_bytes instance_from_bytes read_instance read_file read_header read_magic read_label read_parts read_publics read_queries read_equations word part below witness_to_bytes_no witness_bytes witness_from_bytes read_witness read_steps
 satisfied =
     ((((whole 1 slots queries equations uses fresh-accepted calls).judged.gated [] publics scratch gate-accepted).files lent_file
     ).checks refl refl (lent_trace (2 ∷ 5 ∷ 9 ∷ [])) refl refl 1 params refl 3 (omega arith) (omega arith)
@@ -162,8 +162,8 @@ short_file = record { label = []; out = replicate 73 7; rooms = record { publics
 abbrev strict_outcome : FileLent → Outcome
 strict_outcome f = (instance_answer 1 (instance_from_bytes strict_rule 1 (bytes_a f) f.rooms)).outcome
 
-pub strict-A : (strict_outcome lent_file ≡ Accepted) × (strict_outcome short_file ≡ Refused 10)
-unfolding ask ◌▸◌ new_relation_no allocate_vars_no set_var_no set_vars_no add_permutation_no allocate_permutation_no add_equation_no times strays all_fit uses_after pair_no set_items set_vars_run ticket_line grams_to_steps read_line lines_of line_no set_tickets_run all_below answer after compiled_parts publics_of equation_at size_at equations_sound slots_sound follow is_utf8 compile_no compile validated_no gate_no compile_publics publics_sound parts_of check_no is_witness_valid_no is_evaluation permute_no sound_parameters rounds_of rows_of sound_kinds unit_constants unit_rows same_words run_rounds run_round pairwise on_kind times_matrix add_unit mul_unit power_unit seventh dot_units instance_to_bytes_no instance_bytes header_bytes u32_bytes instance_from_bytes read_instance read_file read_header read_magic read_label read_parts read_publics read_queries read_equations word part below
+pub strict-A : (strict_outcome lent_file ≡ Ok tt) × (strict_outcome short_file ≡ Err (refusal 10))
+unfolding ask first_of_two new_relation_no allocate_vars_no set_var_no set_vars_no add_permutation_no allocate_permutation_no add_equation_no times strays all_fit uses_after pair_no set_items set_vars_run ticket_line grams_to_steps read_line lines_of line_no set_tickets_run all_below answer after compiled_parts publics_of equation_at size_at equations_sound slots_sound follow is_utf8 compile_no compile validated_no gate_no compile_publics publics_sound parts_of check_no is_witness_valid_no is_evaluation permute_no sound_parameters rounds_of rows_of sound_kinds unit_constants unit_rows same_words run_rounds run_round pairwise on_kind times_matrix add_unit mul_unit power_unit seventh dot_units instance_to_bytes_no instance_bytes header_bytes u32_bytes instance_from_bytes read_instance read_file read_header read_magic read_label read_parts read_publics read_queries read_equations word part below
 strict-A =
     let filed = ((whole 1 slots queries equations uses fresh-accepted calls).judged.gated [] publics scratch gate-accepted).files in
     let outcome : Got File → Outcome = λ g. (instance_answer 1 g).outcome in
@@ -171,7 +171,7 @@ strict-A =
 
 -- with no bytes between too
 pub satisfied-held : SatA ((2 ∷ 5 ∷ []) ∷ [])
-unfolding ask ◌▸◌ new_relation_no allocate_vars_no set_var_no set_vars_no add_permutation_no allocate_permutation_no add_equation_no times strays all_fit uses_after pair_no set_items set_vars_run ticket_line grams_to_steps read_line lines_of line_no set_tickets_run all_below answer after compiled_parts publics_of equation_at size_at equations_sound slots_sound follow is_utf8 compile_no compile validated_no gate_no compile_publics publics_sound parts_of check_no is_witness_valid_no is_evaluation permute_no sound_parameters rounds_of rows_of sound_kinds unit_constants unit_rows same_words run_rounds run_round pairwise on_kind times_matrix add_unit mul_unit power_unit seventh dot_units
+unfolding ask first_of_two new_relation_no allocate_vars_no set_var_no set_vars_no add_permutation_no allocate_permutation_no add_equation_no times strays all_fit uses_after pair_no set_items set_vars_run ticket_line grams_to_steps read_line lines_of line_no set_tickets_run all_below answer after compiled_parts publics_of equation_at size_at equations_sound slots_sound follow is_utf8 compile_no compile validated_no gate_no compile_publics publics_sound parts_of check_no is_witness_valid_no is_evaluation permute_no sound_parameters rounds_of rows_of sound_kinds unit_constants unit_rows same_words run_rounds run_round pairwise on_kind times_matrix add_unit mul_unit power_unit seventh dot_units
 satisfied-held =
     (((whole 1 slots queries equations uses fresh-accepted calls).judged.gated [] publics scratch gate-accepted
     ).checks 1 (2 ∷ 5 ∷ 9 ∷ []) (record { size = omega arith; room = omega arith; units = refl }) 1 params refl 3 (omega arith) (omega arith)
@@ -179,7 +179,7 @@ satisfied-held =
 
 -- and not by (3, 640), whose check is 33: no assignment gives wire 2 both 5 and 640
 pub unsatisfied : SatA ((3 ∷ 640 ∷ []) ∷ []) → ⊥
-unfolding ask ◌▸◌ new_relation_no allocate_vars_no set_var_no set_vars_no add_permutation_no allocate_permutation_no add_equation_no times strays all_fit uses_after pair_no set_items set_vars_run ticket_line grams_to_steps read_line lines_of line_no set_tickets_run all_below answer after compiled_parts publics_of equation_at size_at equations_sound slots_sound follow is_utf8 compile_no compile validated_no gate_no compile_publics publics_sound parts_of check_no is_witness_valid_no is_evaluation permute_no sound_parameters rounds_of rows_of sound_kinds unit_constants unit_rows same_words run_rounds run_round pairwise on_kind times_matrix add_unit mul_unit power_unit seventh dot_units instance_to_bytes_no instance_bytes header_bytes u32_bytes instance_from_bytes read_instance read_file read_header read_magic read_label read_parts read_publics read_queries read_equations word part below witness_to_bytes_no witness_bytes witness_from_bytes read_witness read_steps
+unfolding ask first_of_two new_relation_no allocate_vars_no set_var_no set_vars_no add_permutation_no allocate_permutation_no add_equation_no times strays all_fit uses_after pair_no set_items set_vars_run ticket_line grams_to_steps read_line lines_of line_no set_tickets_run all_below answer after compiled_parts publics_of equation_at size_at equations_sound slots_sound follow is_utf8 compile_no compile validated_no gate_no compile_publics publics_sound parts_of check_no is_witness_valid_no is_evaluation permute_no sound_parameters rounds_of rows_of sound_kinds unit_constants unit_rows same_words run_rounds run_round pairwise on_kind times_matrix add_unit mul_unit power_unit seventh dot_units instance_to_bytes_no instance_bytes header_bytes u32_bytes instance_from_bytes read_instance read_file read_header read_magic read_label read_parts read_publics read_queries read_equations word part below witness_to_bytes_no witness_bytes witness_from_bytes read_witness read_steps
 unsatisfied s =
     let z : ◌≡◌ {A = ℕ} 33 0 = accepted-no 33
     (((((whole 1 slots queries equations uses fresh-accepted calls).judged.gated [] publics scratch gate-accepted).files lent_file
@@ -192,11 +192,11 @@ abbrev taking : List Call
 taking = Allocate 2 ∷ Mint (0 ∷ []) ∷ []
 
 pub allocated : (answer (begin 1 slots queries equations uses taking) (Allocate 2)).first ≡ 1
-unfolding ask ◌▸◌ new_relation_no allocate_vars_no set_var_no set_vars_no add_permutation_no allocate_permutation_no add_equation_no times strays all_fit uses_after pair_no set_items set_vars_run ticket_line grams_to_steps read_line lines_of line_no set_tickets_run all_below answer after
+unfolding ask first_of_two new_relation_no allocate_vars_no set_var_no set_vars_no add_permutation_no allocate_permutation_no add_equation_no times strays all_fit uses_after pair_no set_items set_vars_run ticket_line grams_to_steps read_line lines_of line_no set_tickets_run all_below answer after
 allocated = (whole 1 slots queries equations uses fresh-accepted taking).told.0.first refl refl
 
 pub minted : (answer (after (begin 1 slots queries equations uses taking) (Allocate 2)) (Mint (0 ∷ []))).first ≡ 3
-unfolding ask ◌▸◌ new_relation_no allocate_vars_no set_var_no set_vars_no add_permutation_no allocate_permutation_no add_equation_no times strays all_fit uses_after pair_no set_items set_vars_run ticket_line grams_to_steps read_line lines_of line_no set_tickets_run all_below answer after noted
+unfolding ask first_of_two new_relation_no allocate_vars_no set_var_no set_vars_no add_permutation_no allocate_permutation_no add_equation_no times strays all_fit uses_after pair_no set_items set_vars_run ticket_line grams_to_steps read_line lines_of line_no set_tickets_run all_below answer after noted
 minted = (whole 1 slots queries equations uses fresh-accepted taking).told.1.0.first refl refl
 
 -- ---- how many sets are accepted, and how many of those fresh, by every kind of call: a wire named twice is fresh once, wire 0
@@ -218,7 +218,7 @@ setting =
 
 pub tallied : map (λ (e : Entry). tally e.answered) (log (begin 1 slots queries equations uses setting) setting)
     ≡ (0, 0) ∷ (4, 2) ∷ (2, 1) ∷ (1, 0) ∷ (0, 0) ∷ (1, 1) ∷ (3, 1) ∷ (1, 0) ∷ (0, 0) ∷ (0, 0) ∷ (0, 0) ∷ []
-unfolding ask ◌▸◌ new_relation_no allocate_vars_no set_var_no set_vars_no add_permutation_no allocate_permutation_no add_equation_no times strays all_fit uses_after pair_no set_items set_vars_run ticket_line grams_to_steps read_line lines_of line_no set_tickets_run all_below answer after noted set_by
+unfolding ask first_of_two new_relation_no allocate_vars_no set_var_no set_vars_no add_permutation_no allocate_permutation_no add_equation_no times strays all_fit uses_after pair_no set_items set_vars_run ticket_line grams_to_steps read_line lines_of line_no set_tickets_run all_below answer after noted set_by
 tallied = all-tallied 1 _ _ setting (whole 1 slots queries equations uses fresh-accepted setting).told
 
 -- ---- document 01's starred examples, all of them, as one fact of the definitions
@@ -254,21 +254,21 @@ pub record Starred : Type 0 where
   -- 2013265920 + 1 and × itself; wire 0 set to 0 and to 5; one wire, 8 slots: allocate 2^30 and 2^30 − 1
   pub calls_are : Examples
   -- weight 0 on an allocated unbound wire: gate yes, check 34; weight 1: 15
-  pub weightless : ((loose 0).outcome ≡ Accepted)
-      × (check (loose 0).instance (loose_publics 0) [] (loose_equations 0) 0 [] ≡ Refused 34)
-      × ((loose 1).outcome ≡ Refused 15)
+  pub weightless : ((loose 0).outcome ≡ Ok tt)
+      × (check (loose 0).instance (loose_publics 0) [] (loose_equations 0) 0 [] ≡ Err (refusal 34))
+      × ((loose 1).outcome ≡ Err (refusal 15))
   -- no terms, image 0: holds; image 1: 35
-  pub without-terms : (termless 0 ≡ Accepted) × (termless 1 ≡ Refused 35)
+  pub without-terms : (termless 0 ≡ Ok tt) × (termless 1 ≡ Err (refusal 35))
   -- A's 72 bytes, one more byte, equal publics and one more byte; labels C0 80, ED A0 80 and F4 8F BF BF, when read
   pub labels : reads ≡ 20 ∷ 28 ∷ 27 ∷ 25 ∷ 25 ∷ 0 ∷ []
   -- w = 1, one round, kind 0, constant 2013265920, matrix 5: 2 gives 5, 3 gives 640
   pub turned : (permute (parameters_of 1 1 params) (2 ∷ []) ≡ 5 ∷ []) × (permute (parameters_of 1 1 params) (3 ∷ []) ≡ 640 ∷ [])
   -- instance A under it: trace (2,5) yes; none 31; (2,6) 32; (3,640) 33
-  pub A-is : (check_a 1 (2 ∷ 5 ∷ []) ≡ Accepted) × (check_a 0 [] ≡ Refused 31)
-      × (check_a 1 (2 ∷ 6 ∷ []) ≡ Refused 32) × (check_a 1 (3 ∷ 640 ∷ []) ≡ Refused 33)
+  pub A-is : (check_a 1 (2 ∷ 5 ∷ []) ≡ Ok tt) × (check_a 0 [] ≡ Err (refusal 31))
+      × (check_a 1 (2 ∷ 6 ∷ []) ≡ Err (refusal 32)) × (check_a 1 (3 ∷ 640 ∷ []) ≡ Err (refusal 33))
 
 pub starred : Starred
-unfolding ask ◌▸◌ all_below compiled_parts publics_of equation_at size_at equations_sound slots_sound follow is_utf8 compile_no compile validated_no gate_no compile_publics publics_sound parts_of check_no is_witness_valid_no is_evaluation permute_no sound_parameters rounds_of rows_of sound_kinds unit_constants unit_rows same_words run_rounds run_round pairwise on_kind times_matrix add_unit mul_unit power_unit seventh dot_units
+unfolding ask first_of_two all_below compiled_parts publics_of equation_at size_at equations_sound slots_sound follow is_utf8 compile_no compile validated_no gate_no compile_publics publics_sound parts_of check_no is_witness_valid_no is_evaluation permute_no sound_parameters rounds_of rows_of sound_kinds unit_constants unit_rows same_words run_rounds run_round pairwise on_kind times_matrix add_unit mul_unit power_unit seventh dot_units
 starred =
     record {
       calls_are = examples;
@@ -280,6 +280,6 @@ starred =
     }
 
 -- 36 comes of parts that no gate has seen
-no-36 : check (instance_of (relation 1 1 0 0 0 0) 1) (1 ∷ 0 ∷ []) [] [] 0 [] ≡ Refused 36
-unfolding ask ◌▸◌ all_below compiled_parts publics_of equation_at size_at equations_sound slots_sound follow is_utf8 compile_no compile validated_no gate_no compile_publics publics_sound parts_of check_no is_witness_valid_no is_evaluation permute_no sound_parameters rounds_of rows_of sound_kinds unit_constants unit_rows same_words run_rounds run_round pairwise on_kind times_matrix add_unit mul_unit power_unit seventh dot_units
+no-36 : check (instance_of (relation 1 1 0 0 0 0) 1) (1 ∷ 0 ∷ []) [] [] 0 [] ≡ Err (refusal 36)
+unfolding ask first_of_two all_below compiled_parts publics_of equation_at size_at equations_sound slots_sound follow is_utf8 compile_no compile validated_no gate_no compile_publics publics_sound parts_of check_no is_witness_valid_no is_evaluation permute_no sound_parameters rounds_of rows_of sound_kinds unit_constants unit_rows same_words run_rounds run_round pairwise on_kind times_matrix add_unit mul_unit power_unit seventh dot_units
 no-36 = refl

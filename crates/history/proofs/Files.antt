@@ -33,8 +33,8 @@ use Rattle.decoding.specs.Read.{plain_rule, strict_rule, File, read_instance, fi
 use Rattle.decoding.specs.Sound.{SoundFile, room_asks, order_asks, got_after}
 use Rattle.encoding.specs.Answers.{instance_to_bytes, instance_to_bytes_no}
 use Rattle.decoding.specs.Answers.{instance_from_bytes, instance_answer, publics_after, queries_after, equations_after, label_read}
-use Rattle.encoding.specs.declared.Written.{Written}
-use Rattle.decoding.specs.declared.InstanceRead.{InstanceRead}
+use Rattle.encoding.specs.Answers.{Written}
+use Rattle.decoding.specs.Records.{InstanceRead}
 use Rattle.encoding.proofs.Length.{length-instance_bytes}
 use Rattle.decoding.proofs.After.{after-after}
 use Rattle.roundtrip.proofs.Reading.{read-written}

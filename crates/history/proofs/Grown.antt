@@ -11,8 +11,7 @@ use lib.ListN.{length, take, get_or-eq_default}
 use lib.Seq.{length-take-le}
 use Rattle.limits.specs.Numbers.{unassigned}
 use Rattle.limits.specs.Questions.{Question, pick, on_yes}
-use Rattle.limits.specs.Outcome.{outcome_of, outcome_number, is_accepted}
-use Rattle.limits.specs.declared.Outcome.{Outcome}
+use Rattle.limits.specs.Outcome.{outcome_of, outcome_number, is_accepted, Outcome}
 use Rattle.allocator.specs.Slots.{Pair, pairs}
 use Rattle.allocator.specs.Values.{joins, is_some, slot_unit}
 use Rattle.permutation.specs.Sharing.{nothing}

@@ -4,10 +4,10 @@ use mathlib.Core.Path.{◌≡◌, refl, sym, ap, ◌∙◌}
 use mathlib.Core.Bool.{Bool, true, false}
 use borrow.Author.Tests.{le-leb}
 use lib.Dec.{leb}
+use Rattle.std.specs.Prelude.{Err, Ok}
 use Rattle.limits.specs.Numbers.{max_width}
-use Rattle.limits.specs.Questions.{ask, ◌▸◌}
-use Rattle.limits.specs.Outcome.{outcome_of, outcome_number}
-use Rattle.limits.specs.declared.Outcome.TheVariants as outcome
+use Rattle.limits.specs.Questions.{ask, first_of_two, ◌▸◌}
+use Rattle.limits.specs.Outcome.{outcome_of, outcome_number, refusal}
 use Rattle.limits.proofs.Questions.{ask-yes, goes_on, ▸-zero}
 use Rattle.limits.proofs.Answered.{outcome-number}
 
@@ -26,7 +26,7 @@ pub then : (a b c : ℕ) → b ≡ c → a ▸ b ≡ a ▸ c
 then a b c e = ap (λ (n : ℕ). a ▸ n) e
 
 pub after-says : (k : ℕ) (b : Bool) (x y : ℕ) → (b ≡ true → x ≡ y) → ask (suc k) b ▸ x ≡ ask (suc k) b ▸ y
-unfolding ask ◌▸◌
+unfolding ask first_of_two
 after-says k true x y f = f refl
 after-says k false x y f = refl
 
@@ -36,10 +36,10 @@ then-last a b = ap (λ (k : ℕ). k ▸ b) (▸-zero a) ∙ ap (λ (k : ℕ). a 
 
 -- ---- the outcome of a number
 -- accepted only at 0
-pub accepted-no : (k : ℕ) → outcome_of k ≡ outcome.Accepted → k ≡ 0
+pub accepted-no : (k : ℕ) → outcome_of k ≡ Ok tt → k ≡ 0
 accepted-no zero e = refl
 accepted-no (suc k) e = cc
 
 -- refused with that number only
-pub refused-no : (k n : ℕ) → outcome_of k ≡ outcome.Refused n → k ≡ n
+pub refused-no : (k n : ℕ) → outcome_of k ≡ Err (refusal n) → k ≡ n
 refused-no k n e = sym (outcome-number k) ∙ ap outcome_number e

@@ -11,7 +11,7 @@ use mathlib.Core.Option.{Option, none, some}
 use native.Mathlib.Omega.{arith}
 use borrow.Author.Tests.{lt-ltb}
 use lib.Dec.{eqb}
-use Rattle.limits.specs.Questions.{ask, ◌▸◌}
+use Rattle.limits.specs.Questions.{ask, first_of_two, ◌▸◌}
 use Rattle.limits.specs.Outcome.{outcome_of}
 use Rattle.limits.proofs.Questions.{join, ask-yes}
 use Rattle.words.specs.Store.{All}
@@ -36,7 +36,7 @@ among-by lo hi (suc k) (inl e) = absurd (let z : ⊥ = omega arith in z)
 among-by lo hi (suc k) (inr r) = r
 
 pub within-then : (lo hi a b : ℕ) → Within lo hi a → Within lo hi b → Within lo hi (a ▸ b)
-unfolding ◌▸◌
+unfolding first_of_two
 within-then lo hi zero b r s = s
 within-then lo hi (suc k) b r s = r
 
@@ -60,7 +60,7 @@ outside lo hi a k (inr z) e (inl h) = omega arith
 outside lo hi a k (inr z) e (inr h) = omega arith
 
 pub either : (a b k : ℕ) → a ▸ b ≡ suc k → (a ≡ suc k) ⊎ ((a ≡ 0) × (b ≡ suc k))
-unfolding ◌▸◌
+unfolding first_of_two
 either zero b k e = inr (refl, e)
 either (suc j) b k e = inl e
 

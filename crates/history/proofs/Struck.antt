@@ -6,9 +6,9 @@ use mathlib.Core.Path.{◌≡◌, refl}
 use mathlib.Core.Bool.{true, false}
 use mathlib.Core.List.{List, [], ◌∷◌, ◌++◌, map}
 use native.Mathlib.Omega.{arith}
-use Rattle.limits.specs.Questions.{ask, ◌▸◌}
-use Rattle.limits.specs.declared.Outcome.{Outcome}
-use Rattle.limits.specs.declared.Outcome.TheVariants.{Accepted, Refused}
+use Rattle.std.specs.Prelude.{Err, Ok}
+use Rattle.limits.specs.Outcome.{Outcome, refusal}
+use Rattle.limits.specs.Questions.{ask, first_of_two}
 use Rattle.words.specs.Store.{all_below}
 use Rattle.uses.specs.Uses.{times, strays, uses_of, sum, uses_after, all_fit}
 use Rattle.utf8.specs.Utf8.{follow, is_utf8}
@@ -87,46 +87,46 @@ both-kept = Allocate 2 ∷ Record (1 ∷ []) (2 ∷ []) ∷ Equate (weighted 1 3
 abbrev first-struck : List Call
 first-struck = both-kept ++ (WithdrawEquation 0 ∷ [])
 
-fresh-accepted : (new_relation 1 slots uses).outcome ≡ Accepted
-unfolding ask ◌▸◌ new_relation_no
+fresh-accepted : (new_relation 1 slots uses).outcome ≡ Ok tt
+unfolding ask first_of_two new_relation_no
 fresh-accepted = refl
 
 -- 10 for the mint, 45 for a number that isn't there
 outcomes : map (λ (e : Entry). e.answered.outcome) (log (begin 1 slots queries equations uses none_left) none_left)
-    ≡ Accepted ∷ Accepted ∷ Accepted ∷ Refused 10 ∷ Refused 45 ∷ Accepted ∷ Accepted ∷ Refused 45 ∷ Accepted ∷ Accepted ∷ Accepted ∷ []
-unfolding ask ◌▸◌ new_relation_no allocate_vars_no add_permutation_no allocate_permutation_no add_equation_no times strays all_fit uses_after all_below size_at withdraw_query_no withdraw_equation_no answer after
+    ≡ Ok tt ∷ Ok tt ∷ Ok tt ∷ Err (refusal 10) ∷ Err (refusal 45) ∷ Ok tt ∷ Ok tt ∷ Err (refusal 45) ∷ Ok tt ∷ Ok tt ∷ Ok tt ∷ []
+unfolding ask first_of_two new_relation_no allocate_vars_no add_permutation_no allocate_permutation_no add_equation_no times strays all_fit uses_after all_below size_at withdraw_query_no withdraw_equation_no answer after
 outcomes = refl
 
 -- ---- the ledger
 -- one query and one equation are struck from it
 ledger-is : last_ledger 1 slots queries equations uses one_left
     ≡ ledger 3 (pair 0 0 ∷ []) ((1 ∷ 2 ∷ []) ∷ []) (equation (record { var = 2; weight = 1 } ∷ []) 5 ∷ [])
-unfolding ask ◌▸◌ new_relation_no allocate_vars_no add_permutation_no allocate_permutation_no add_equation_no times strays all_fit uses_after all_below size_at withdraw_query_no withdraw_equation_no answer after noted
+unfolding ask first_of_two new_relation_no allocate_vars_no add_permutation_no allocate_permutation_no add_equation_no times strays all_fit uses_after all_below size_at withdraw_query_no withdraw_equation_no answer after noted
 ledger-is = refl
 
 -- wire 2 is known by the first query alone: with that struck it is unknown again
 pub unknown-again : (known (last_ledger 1 slots queries equations uses one_left) 2 ≡ true) × (known (last_ledger 1 slots queries equations uses none_left) 2 ≡ false)
-unfolding ask ◌▸◌ new_relation_no allocate_vars_no add_permutation_no allocate_permutation_no add_equation_no times strays all_fit uses_after all_below size_at withdraw_query_no withdraw_equation_no answer after noted
+unfolding ask first_of_two new_relation_no allocate_vars_no add_permutation_no allocate_permutation_no add_equation_no times strays all_fit uses_after all_below size_at withdraw_query_no withdraw_equation_no answer after noted
 unknown-again = (refl, refl)
 
 -- ---- the use counts
 -- those of (1, 2) and (1, 9): nothing of the mint that was refused
 pub counted : (last 1 slots queries equations uses first-calls).uses ≡ 0 ∷ 2 ∷ 1 ∷ 0 ∷ []
-unfolding ask ◌▸◌ new_relation_no allocate_vars_no add_permutation_no allocate_permutation_no add_equation_no times strays uses_of all_fit uses_after all_below size_at withdraw_query_no withdraw_equation_no answer after noted
+unfolding ask first_of_two new_relation_no allocate_vars_no add_permutation_no allocate_permutation_no add_equation_no times strays uses_of all_fit uses_after all_below size_at withdraw_query_no withdraw_equation_no answer after noted
 counted = (whole 1 slots queries equations uses fresh-accepted first-calls).used.counts.uses-are
 
 pub stray : (last 1 slots queries equations uses first-calls).relation.stray ≡ 1
-unfolding ask ◌▸◌ new_relation_no allocate_vars_no add_permutation_no allocate_permutation_no add_equation_no times strays uses_of all_fit uses_after all_below size_at withdraw_query_no withdraw_equation_no answer after noted
+unfolding ask first_of_two new_relation_no allocate_vars_no add_permutation_no allocate_permutation_no add_equation_no times strays uses_of all_fit uses_after all_below size_at withdraw_query_no withdraw_equation_no answer after noted
 stray = (whole 1 slots queries equations uses fresh-accepted first-calls).used.counts.stray-is
 
 -- two queries of two cells
 pub total : sum (last 1 slots queries equations uses first-calls).uses + (last 1 slots queries equations uses first-calls).relation.stray ≡ 4
-unfolding ask ◌▸◌ new_relation_no allocate_vars_no add_permutation_no allocate_permutation_no add_equation_no times strays uses_of all_fit uses_after all_below size_at withdraw_query_no withdraw_equation_no answer after noted
+unfolding ask first_of_two new_relation_no allocate_vars_no add_permutation_no allocate_permutation_no add_equation_no times strays uses_of all_fit uses_after all_below size_at withdraw_query_no withdraw_equation_no answer after noted
 total = (whole 1 slots queries equations uses fresh-accepted first-calls).used.total
 
 -- none after none
 pub uncounted : (last 1 slots queries equations uses none_left).uses ≡ 0 ∷ 0 ∷ 0 ∷ 0 ∷ []
-unfolding ask ◌▸◌ new_relation_no allocate_vars_no add_permutation_no allocate_permutation_no add_equation_no times strays uses_of all_fit uses_after all_below size_at withdraw_query_no withdraw_equation_no answer after noted
+unfolding ask first_of_two new_relation_no allocate_vars_no add_permutation_no allocate_permutation_no add_equation_no times strays uses_of all_fit uses_after all_below size_at withdraw_query_no withdraw_equation_no answer after noted
 uncounted = (whole 1 slots queries equations uses fresh-accepted none_left).used.counts.uses-are
 
 -- ---- 11 of a count
@@ -134,28 +134,28 @@ uncounted = (whole 1 slots queries equations uses fresh-accepted none_left).used
 abbrev two-wires : List Call
 two-wires = Allocate 2 ∷ []
 
-pub roomy : (answer (last 1 slots queries equations uses two-wires) (Record (1 ∷ []) (2 ∷ []))).outcome ≡ Refused 11 → 5 < 2
-unfolding ask ◌▸◌ new_relation_no allocate_vars_no add_permutation_no allocate_permutation_no add_equation_no times strays uses_of all_fit uses_after all_below size_at withdraw_query_no withdraw_equation_no answer after noted
+pub roomy : (answer (last 1 slots queries equations uses two-wires) (Record (1 ∷ []) (2 ∷ []))).outcome ≡ Err (refusal 11) → 5 < 2
+unfolding ask first_of_two new_relation_no allocate_vars_no add_permutation_no allocate_permutation_no add_equation_no times strays uses_of all_fit uses_after all_below size_at withdraw_query_no withdraw_equation_no answer after noted
 roomy = (whole 1 slots queries equations uses fresh-accepted (two-wires ++ (Record (1 ∷ []) (2 ∷ []) ∷ []))).told.1.0.full refl
 
-pub mint-roomy : (answer (last 1 slots queries equations uses two-wires) (Mint (1 ∷ []))).outcome ≡ Refused 11 → 5 < 2
-unfolding ask ◌▸◌ new_relation_no allocate_vars_no add_permutation_no allocate_permutation_no add_equation_no times strays uses_of all_fit uses_after all_below size_at withdraw_query_no withdraw_equation_no answer after noted
+pub mint-roomy : (answer (last 1 slots queries equations uses two-wires) (Mint (1 ∷ []))).outcome ≡ Err (refusal 11) → 5 < 2
+unfolding ask first_of_two new_relation_no allocate_vars_no add_permutation_no allocate_permutation_no add_equation_no times strays uses_of all_fit uses_after all_below size_at withdraw_query_no withdraw_equation_no answer after noted
 mint-roomy = (whole 1 slots queries equations uses fresh-accepted (two-wires ++ (Mint (1 ∷ []) ∷ []))).told.1.0.full refl
 
 -- ---- the gate: 13 by the stray cell, then yes, and with no query 15, since the equation's wire is unknown again
 abbrev gate : List Call → Outcome
 gate calls = (compiled (last 1 slots queries equations uses calls) [] publics scratch).outcome
 
-pub beyond : gate first-calls ≡ Refused 13
-unfolding ask ◌▸◌ new_relation_no allocate_vars_no add_permutation_no allocate_permutation_no add_equation_no times strays all_fit uses_after all_below size_at withdraw_query_no withdraw_equation_no answer after noted compile_left follow is_utf8
+pub beyond : gate first-calls ≡ Err (refusal 13)
+unfolding ask first_of_two new_relation_no allocate_vars_no add_permutation_no allocate_permutation_no add_equation_no times strays all_fit uses_after all_below size_at withdraw_query_no withdraw_equation_no answer after noted compile_left follow is_utf8
 beyond = ((whole 1 slots queries equations uses fresh-accepted first-calls).judged.gates [] publics scratch).by-ledger
 
-pub bound : gate one_left ≡ Accepted
-unfolding ask ◌▸◌ new_relation_no allocate_vars_no add_permutation_no allocate_permutation_no add_equation_no times strays all_fit uses_after all_below size_at withdraw_query_no withdraw_equation_no answer after noted compile_left follow is_utf8
+pub bound : gate one_left ≡ Ok tt
+unfolding ask first_of_two new_relation_no allocate_vars_no add_permutation_no allocate_permutation_no add_equation_no times strays all_fit uses_after all_below size_at withdraw_query_no withdraw_equation_no answer after noted compile_left follow is_utf8
 bound = ((whole 1 slots queries equations uses fresh-accepted one_left).judged.gates [] publics scratch).by-ledger
 
-pub unbound : gate none_left ≡ Refused 15
-unfolding ask ◌▸◌ new_relation_no allocate_vars_no add_permutation_no allocate_permutation_no add_equation_no times strays all_fit uses_after all_below size_at withdraw_query_no withdraw_equation_no answer after noted compile_left follow is_utf8
+pub unbound : gate none_left ≡ Err (refusal 15)
+unfolding ask first_of_two new_relation_no allocate_vars_no add_permutation_no allocate_permutation_no add_equation_no times strays all_fit uses_after all_below size_at withdraw_query_no withdraw_equation_no answer after noted compile_left follow is_utf8
 unbound = ((whole 1 slots queries equations uses fresh-accepted none_left).judged.gates [] publics scratch).by-ledger
 
 -- ---- the check: with both equations wire 1 would be 2 and wire 2 would be 5, so the trace (5, 5) of no rounds is a no, 35;
@@ -164,7 +164,7 @@ abbrev Satisfied : List Call → Type 0
 Satisfied calls = Sat (Evaluates 1 (parameters_of 1 0 (1 ∷ []))) (last_ledger 1 slots queries equations uses calls) ((5 ∷ 5 ∷ []) ∷ [])
 
 pub unsatisfied : Satisfied both-kept → ⊥
-unfolding ask ◌▸◌ new_relation_no allocate_vars_no add_permutation_no add_equation_no times strays all_fit uses_after withdraw_equation_no all_below answer after compiled_parts publics_of equation_at size_at equations_sound slots_sound follow is_utf8 compile_no compile validated_no gate_no compile_publics publics_sound parts_of check_no is_witness_valid_no is_evaluation permute_no sound_parameters rounds_of rows_of sound_kinds unit_constants unit_rows same_words run_rounds run_round pairwise on_kind times_matrix add_unit mul_unit power_unit seventh dot_units
+unfolding ask first_of_two new_relation_no allocate_vars_no add_permutation_no add_equation_no times strays all_fit uses_after withdraw_equation_no all_below answer after compiled_parts publics_of equation_at size_at equations_sound slots_sound follow is_utf8 compile_no compile validated_no gate_no compile_publics publics_sound parts_of check_no is_witness_valid_no is_evaluation permute_no sound_parameters rounds_of rows_of sound_kinds unit_constants unit_rows same_words run_rounds run_round pairwise on_kind times_matrix add_unit mul_unit power_unit seventh dot_units
 unsatisfied s =
     let z : ◌≡◌ {A = ℕ} 35 0 = accepted-no 35
     ((((whole 1 slots queries equations uses fresh-accepted both-kept).judged.gated [] publics scratch refl
@@ -173,7 +173,7 @@ unsatisfied s =
     omega arith
 
 pub satisfied : Satisfied first-struck
-unfolding ask ◌▸◌ new_relation_no allocate_vars_no add_permutation_no add_equation_no times strays all_fit uses_after withdraw_equation_no all_below answer after compiled_parts publics_of equation_at size_at equations_sound slots_sound follow is_utf8 compile_no compile validated_no gate_no compile_publics publics_sound parts_of check_no is_witness_valid_no is_evaluation permute_no sound_parameters rounds_of rows_of sound_kinds unit_constants unit_rows same_words run_rounds run_round pairwise on_kind times_matrix add_unit mul_unit power_unit seventh dot_units
+unfolding ask first_of_two new_relation_no allocate_vars_no add_permutation_no add_equation_no times strays all_fit uses_after withdraw_equation_no all_below answer after compiled_parts publics_of equation_at size_at equations_sound slots_sound follow is_utf8 compile_no compile validated_no gate_no compile_publics publics_sound parts_of check_no is_witness_valid_no is_evaluation permute_no sound_parameters rounds_of rows_of sound_kinds unit_constants unit_rows same_words run_rounds run_round pairwise on_kind times_matrix add_unit mul_unit power_unit seventh dot_units
 satisfied =
     (((whole 1 slots queries equations uses fresh-accepted first-struck).judged.gated [] publics scratch refl
     ).checks 1 (5 ∷ 5 ∷ []) (record { size = omega arith; room = omega arith; units = refl }) 0 (1 ∷ []) refl 3 (omega arith) (omega arith)

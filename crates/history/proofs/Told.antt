@@ -7,17 +7,17 @@ use mathlib.Core.Bool.{Bool, true, false}
 use mathlib.Core.List.{List, [], ◌∷◌}
 use native.Mathlib.Omega.{arith}
 use lib.ListN.{length}
+use Rattle.std.specs.Prelude.{Err, Ok}
+use Rattle.permutation.specs.Records.{First}
 use Rattle.limits.specs.Questions.{Question, pick, first_no, on_yes}
 use Rattle.allocator.specs.Slots.{Pair, is_fresh, pair_asks, pair_no, ran, one_accepted, set_items}
 use Rattle.allocator.specs.Assign.{set_of}
 use Rattle.expr.specs.Weighted.{terms_of}
 use Rattle.permutation.specs.declared.PermutationRelation.{PermutationRelation}
-use Rattle.permutation.specs.declared.First.{First}
-use Rattle.permutation.specs.declared.First.TheVariants as first
 use Rattle.permutation.specs.Sharing.{after_five, nothing}
 use Rattle.permutation.specs.Numbers.{allocate_vars_no, set_var_no}
 use Rattle.recording.specs.Numbers.{add_permutation_no, allocate_permutation_no, add_equation_no}
-use Rattle.limits.specs.Outcome.{outcome_of}
+use Rattle.limits.specs.Outcome.{outcome_of, refusal}
 use Rattle.words.specs.Pieces.{words_of}
 use Rattle.permutation.specs.Relation.{relation_asks}
 use Rattle.permutation.specs.Left.{pairs_set}
@@ -49,8 +49,8 @@ first-outcome zero v = refl
 first-outcome (suc k) v = refl
 
 first-no : (f : First) → Accepted (first_outcome f) → first_number f ≡ 0
-first-no (first.Var x) a = refl
-first-no (first.Refused k) a = cc
+first-no (Ok x) a = refl
+first-no (Err e) a = cc
 
 -- ---- a set's outcome and tallies, by its number and whether it is fresh
 set-outcome : (k : ℕ) (fresh : Bool) → (of_set (set_of k fresh)).outcome ≡ outcome_of k

@@ -10,7 +10,7 @@ use native.Mathlib.Omega.{arith}
 use borrow.Author.Tests.{lt-ltb, eqb-true, eq-eqb}
 use lib.ListN.{length}
 use Rattle.limits.specs.Numbers.{prime}
-use Rattle.limits.specs.Questions.{◌▸◌}
+use Rattle.limits.specs.Questions.{first_of_two, ◌▸◌}
 use Rattle.limits.proofs.Questions.{both, join, ▸-assoc, says-yes, ask-yes}
 use Rattle.words.specs.Store.{All}
 use Rattle.allocator.specs.Slots.{Pair, pairs}
@@ -42,7 +42,7 @@ yes-cells n g f (p ∷ ps) b u a =
     (yes-cells n (put p g) f ps b.1 (stays g f p u a.0) a.1))
 
 cells_no-append : (n : ℕ) (g : Values) (ps qs : List Pair) → cells_no n g (ps ++ qs) ≡ cells_no n g ps ▸ cells_no n (put_all g ps) qs
-unfolding ◌▸◌
+unfolding first_of_two
 cells_no-append n g [] qs = refl
 cells_no-append n g (p ∷ ps) qs = simp (cells_no-append n (put p g) ps qs, ▸-assoc)
 

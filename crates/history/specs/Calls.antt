@@ -1,10 +1,10 @@
 -- Calls on a relation in any order: what each answers and leaves, by the definitions that the open functions'
 -- contracts cite; and the ledger, which is fed each call and its answer. Assumes nothing.
-use Rattle.std.specs.Prelude.{ℕ, ◌+◌, List, [], ◌∷◌, ◌++◌, map, length, take}
+use Rattle.permutation.specs.Records.{First}
+use Rattle.std.specs.Prelude.{ℕ, ◌+◌, List, [], ◌∷◌, ◌++◌, map, length, take, Result, Ok, Err}
 use Rattle.limits.specs.Questions.{Question, pick}
-use Rattle.limits.specs.Outcome.{is_accepted}
-use Rattle.limits.specs.declared.Outcome.{Outcome}
-use Rattle.limits.specs.declared.Outcome.TheVariants as outcome
+use Rattle.limits.specs.Outcome.{is_accepted, Outcome}
+use Rattle.limits.specs.declared.Refused.{Refused}
 use Rattle.allocator.specs.Slots.{Pair, pair, pairs}
 use Rattle.allocator.specs.Values.{joins}
 use Rattle.allocator.specs.declared.Set as declared
@@ -21,8 +21,6 @@ use Rattle.strike.specs.Strike.{without}
 use Rattle.withdraw.specs.Relation.{withdraw_equation_asks_with, withdraw_query_front, withdraw_query_asks_with}
 use Rattle.withdraw.specs.Answers.{withdraw_equation, withdraw_equation_equations, withdraw_query, withdraw_query_queries, withdraw_query_uses}
 use Rattle.permutation.specs.declared.PermutationRelation.{PermutationRelation}
-use Rattle.permutation.specs.declared.First.{First}
-use Rattle.permutation.specs.declared.First.TheVariants as first
 use Rattle.permutation.specs.declared.SetVars.{SetVars}
 use Rattle.tickets.specs.Lines.{lines_of, line_pair}
 use Rattle.tickets.specs.Tickets.{set_tickets_asks_with, set_tickets, set_tickets_slots}
@@ -124,18 +122,18 @@ of_outcome o = record { outcome = o; first = 0; accepted = 0; fresh = 0 }
 
 -- an allocation is accepted where it answers a wire
 abbrev pub first_outcome : First → Outcome
-first_outcome (first.Var x) = outcome.Accepted
-first_outcome (first.Refused k) = outcome.Refused k
+first_outcome (Ok x) = Ok tt
+first_outcome (Err e) = Err e
 
 -- an allocation's answer: the outcome and the first new wire
 abbrev pub of_first : First → Answer
 of_first f = record { outcome = first_outcome f; first = first_var f; accepted = 0; fresh = 0 }
 
 -- a set's answer: one is accepted, fresh or repeated, or none
-abbrev pub of_set : declared.Set → Answer
-of_set set.Fresh = record { outcome = outcome.Accepted; first = 0; accepted = 1; fresh = 1 }
-of_set set.Repeated = record { outcome = outcome.Accepted; first = 0; accepted = 1; fresh = 0 }
-of_set (set.Refused k) = record { outcome = outcome.Refused k; first = 0; accepted = 0; fresh = 0 }
+abbrev pub of_set : Result declared.Set Refused → Answer
+of_set (Ok set.Fresh) = record { outcome = Ok tt; first = 0; accepted = 1; fresh = 1 }
+of_set (Ok set.Repeated) = record { outcome = Ok tt; first = 0; accepted = 1; fresh = 0 }
+of_set (Err e) = record { outcome = Err e; first = 0; accepted = 0; fresh = 0 }
 
 -- a set list's answer: the outcome, how many pairs were accepted, and how many of those were fresh
 abbrev pub of_set_vars : SetVars → Answer

@@ -1,11 +1,9 @@
 -- What demand 3 asks of an outcome, along a list of calls, and of the check's outcome on parts, beside the ledger.
 -- Assumes nothing.
-use Rattle.std.specs.Prelude.{ℕ, ◌+◌, ◌≤◌, ◌<◌, ◌≡◌, Bool, true, false, ◌↔◌, List, ◌∷◌, ◌++◌, length}
+use Rattle.std.specs.Prelude.{ℕ, ◌+◌, ◌≤◌, ◌<◌, ◌≡◌, Bool, true, false, ◌↔◌, List, ◌∷◌, ◌++◌, length, Err, Ok}
 use Rattle.std.proofs.Math.Option.{none}
 use Rattle.limits.specs.Questions.{first_no}
-use Rattle.limits.specs.Outcome.{outcome_of}
-use Rattle.limits.specs.declared.Outcome.{Outcome}
-use Rattle.limits.specs.declared.Outcome.TheVariants as outcome
+use Rattle.limits.specs.Outcome.{outcome_of, Outcome, refusal}
 use Rattle.words.specs.Store.{All}
 use Rattle.words.specs.Pieces.{flat, words_of}
 use Rattle.uses.specs.Uses.{UseCounts, sum}
@@ -22,7 +20,7 @@ use Rattle.history.specs.Left.{left, set_by, fresh_count}
 -- ---- outcomes
 -- accepted: the outcome says so, and no number alone
 abbrev pub Accepted : Outcome → Type 0
-Accepted o = o ≡ outcome.Accepted
+Accepted o = o ≡ Ok tt
 
 -- an outcome by the first no of the documents' questions, and by that of those that ledger and sizes leave open: accepted
 -- where none says no, else refused with the number
@@ -64,7 +62,7 @@ pub record Told (w : ℕ) (s : State) (l : Ledger) (c : Call) : Type 0 where
   -- an accepted allocate or mint answers n as it was before
   pub first : takes_vars c ≡ true → Accepted (answer s c).outcome → (answer s c).first ≡ l.count
   -- 11, a count above 2^30, is answered only where the query store has no room either: 11 comes before 10
-  pub full : adds_query c ≡ true → (answer s c).outcome ≡ outcome.Refused 11
+  pub full : adds_query c ≡ true → (answer s c).outcome ≡ Err (refusal 11)
       → (lengths_of s).queries < words_of w (length l.queries + 1)
   -- as many sets, pairs or lines are accepted as the ledger lets through, after a refusal too
   pub accepted : (answer s c).accepted ≡ length (set_by l c)
@@ -85,8 +83,8 @@ pub record Used (w slots : ℕ) (l : Ledger) (uses : List ℕ) (stray : ℕ) : T
 -- ---- the check
 -- accepted, or refused with a number from lo to hi
 abbrev pub Among : (lo hi : ℕ) → Outcome → Type 0
-Among lo hi outcome.Accepted = Unit {0}
-Among lo hi (outcome.Refused k) = (lo ≤ k) × (k ≤ hi)
+Among lo hi (Ok u) = Unit {0}
+Among lo hi (Err e) = (lo ≤ e.0) × (e.0 ≤ hi)
 
 -- every public, query and term wire is below the wire count
 pub record Below (parts : Parts) : Type 0 where
@@ -106,7 +104,7 @@ pub record Checked (Evaluation : List ℕ → Type 0) (ledger : Ledger) (parts :
   pub among : Among 31 35 o
   pub below : Below parts
   -- 34 is answered only at a term whose wire is not known, and every such term has weight 0
-  pub only34 : o ≡ outcome.Refused 34
+  pub only34 : o ≡ Err (refusal 34)
       → (t : Term) × At34 (carried parts trace) parts.equations t × (known ledger t.var ≡ false)
   pub weightless : All (λ e. All (λ t. known ledger t.var ≡ false → t.weight ≡ 0) e.terms) parts.equations
   -- yes exactly where there is an assignment as demanded

@@ -29,14 +29,14 @@ use Rattle.permute.specs.Parameters.{parameters_of, sound_parameters}
 use Rattle.instance.specs.Parts.{held_publics, held_queries, held_equations, parts_of}
 use Rattle.instance.specs.declared.PermutationInstance.{PermutationInstance}
 use Rattle.compile.specs.Gate.{GateLent, gate_lent, compile_asks, compile, compile_publics}
-use Rattle.compile.specs.declared.Compiled.{Compiled}
+use Rattle.compile.specs.Records.{Compiled}
 use Rattle.validity.specs.Valid.{steps_of, is_witness_valid}
 use Rattle.decoding.specs.Read.{Rooms, plain_rule, strict_rule, File}
 use Rattle.encoding.specs.Answers.{written_of, written_out, instance_to_bytes, instance_to_bytes_asks, instance_to_bytes_no, witness_to_bytes, witness_to_bytes_asks, witness_to_bytes_no}
 use Rattle.decoding.specs.Answers.{instance_from_bytes, witness_from_bytes, instance_answer, publics_after, queries_after, equations_after, witness_answer, trace_after, label_read}
-use Rattle.encoding.specs.declared.Written.{Written}
-use Rattle.decoding.specs.declared.InstanceRead.{InstanceRead}
-use Rattle.decoding.specs.declared.WitnessRead.{WitnessRead}
+use Rattle.encoding.specs.Answers.{Written}
+use Rattle.decoding.specs.Records.{InstanceRead}
+use Rattle.decoding.specs.Records.{WitnessRead}
 use Rattle.history.specs.Ledger.{Ledger}
 use Rattle.history.specs.Sat.{Evaluates}
 use Rattle.history.specs.Calls.{Call, State, Lengths, lengths_of, fresh, first_ledger, log, final, ledger_of}

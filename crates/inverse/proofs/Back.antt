@@ -1,14 +1,16 @@
 -- The rounds undone: one round, and all of them from the last to the first.
 --
--- `Undoing` says that the state is what the rounds from the one that lies at `end` on leave of the state at first when
--- they are undone, and that it is still w units. Assumes nothing.
-use Prim.Native.Nat.{ℕ, suc, ◌+◌, ◌-◌, ◌*◌, ◌≤◌, ◌<◌}
+-- `Undoing` says that the state is what the last n rounds leave of the state at first when they are undone, that it is
+-- still w units, and which words the other rounds have. Assumes nothing.
+use Prim.Native.Nat.{ℕ, zero, suc, ◌+◌, ◌-◌, ◌*◌, ◌%◌, ◌≤◌, ◌<◌}
 use mathlib.Core.Path.{◌≡◌, refl, sym, ap, ◌∙◌}
 use mathlib.Core.Bool.{true}
-use mathlib.Core.List.{List}
+use mathlib.Core.List.{List, ◌∷◌, ◌++◌, append_assoc}
 use native.Mathlib.Omega.{arith}
-use native.Mathlib.Nat.{mul-le-mul}
-use lib.ListN.{length, get_or, take, drop, length-take, length-drop}
+use native.Mathlib.Numerals.{add-one}
+use native.Mathlib.Nat.{mul-mod_left}
+use lib.ListN.{length, get_or, take, drop, get_or-append, length-append, length-take, length-drop, take-append-drop}
+use lib.Seq.{drop_at, take-append-le, drop-append-le, length-take-le}
 use Rattle.limits.specs.Numbers.{prime, max_width}
 use Rattle.limits.proofs.Below.{below-take, below-drop}
 use Rattle.baby_bear.specs.Field.{are_units}
@@ -16,7 +18,6 @@ use Rattle.permute.specs.Permute.{Round, round_of, times_matrix}
 use Rattle.permute.specs.Parameters.{rounds_of, rows_of}
 use Rattle.permute.specs.Walks.{MixAsked, Ready}
 use Rattle.permute.proofs.Keeps.{on_kind-length, on_kind-units, times_matrix-length, times_matrix-units, rows_of-length}
-use Rattle.permute.proofs.Parameters.{round-at}
 use Rattle.permute.proofs.Run.{sound}
 use Rattle.powers.specs.Powers.{seventh_root}
 use Rattle.powers.proofs.Roots.{seventh_root-below}
@@ -55,14 +56,22 @@ module _ (inverse cs state mixed : List ℕ) (kind : ℕ)
   undone-is out f = f ∙ ap (sub_constants cs) e
 
 -- ---- all rounds
--- `left` rounds are not undone yet, and their words end at `end`
-pub record Undoing (words inverse : List ℕ) (rounds : ℕ) (first state mixed : List ℕ) (left end : ℕ) : Type 0 where
-  pub done : state ≡ undo_rounds (rows_of (length first) (length first) inverse) (rounds_of (length first) (rounds - left) (drop end words)) first
-  pub place : end ≡ left * (length first + 1)
-  pub kept : length state ≡ length first
+-- the last n rounds are undone; `rest` has the words of the others, and `behind` all words that follow them
+pub record Undoing (words inverse : List ℕ) (rounds : ℕ) (first state mixed rest : List ℕ) (size n : ℕ) : Type 0 where
+  pub behind : List ℕ
+  pub done : state ≡ undo_rounds (rows_of (length first) (length first) inverse) (rounds_of (length first) n behind) first
+  pub whole : rest ++ behind ≡ words
+  pub count : length rest + n * (length first + 1) ≡ rounds * (length first + 1)
+  pub piece : size ≡ length first + 1
   pub units : are_units state ≡ true
   pub mixed-long : length mixed ≡ max_width
-  pub within : left ≤ rounds
+
+-- fewer words than a piece has are left: there are no more pieces
+all-pieces : (n m k l : ℕ) → l < k → l + n * k ≡ m * k → n ≡ m
+all-pieces zero zero k l h e = refl
+all-pieces zero (suc m) k l h e = absurd (omega arith)
+all-pieces (suc n) zero k l h e = absurd (omega arith)
+all-pieces (suc n) (suc m) k l h e = ap suc (all-pieces n m k l h (omega arith))
 
 module _ {rounds : ℕ} {words first : List ℕ} (inverse : List ℕ) (r : Ready rounds words first) where
   -- the width
@@ -73,53 +82,64 @@ module _ {rounds : ℕ} {words first : List ℕ} (inverse : List ℕ) (r : Ready
   abbrev rows : List (List ℕ)
   rows = rows_of w w inverse
 
-  -- before the last round nothing is undone
-  pub undoing-start : are_units first ≡ true → (mixed : List ℕ) → length mixed ≡ max_width
-      → Undoing words inverse rounds first first mixed rounds (rounds * (w + 1))
+  -- the rounds lie in the parameters
+  pub rounds-room : rounds * (w + 1) ≤ length words
+  rounds-room = omega (arith, (sound r).size)
+
+  -- before the last round nothing is undone, and nothing stands before the first
+  pub undoing-start : are_units first ≡ true → (mixed : List ℕ) → length mixed ≡ max_width → (front rest : List ℕ) {size : ℕ}
+      → take (rounds * (w + 1)) words ≡ front ++ rest → length front ≡ length (take (rounds * (w + 1)) words) % (w + 1) → size ≡ w + 1
+      → Undoing words inverse rounds first first mixed rest size 0
   unfolding rounds_of undo_rounds
-  undoing-start us mixed l =
-      let z : rounds - rounds ≡ 0 = omega arith in
-      record { done = rw z; place = refl; kept = refl; units = us; mixed-long = l; within = omega arith }
+  undoing-start us mixed l front rest e f z =
+      let n : length (take (rounds * (w + 1)) words) ≡ rounds * (w + 1) = length-take-le (rounds * (w + 1)) words rounds-room in
+      let o : length front ≡ 0 = f ∙ rw n (mul-mod_left rounds (w + 1)) in
+      let p : rest ≡ take (rounds * (w + 1)) words = sym (drop_at front rest 0 o) ∙ sym e in
+      record {
+        behind = drop (rounds * (w + 1)) words;
+        done = refl;
+        whole = rw p (take-append-drop (rounds * (w + 1)) words);
+        count = omega (arith, ap length p, n);
+        piece = z;
+        units = us;
+        mixed-long = l;
+      }
 
-  module _ {state mixed : List ℕ} {left end : ℕ} (s : Undoing words inverse rounds first state mixed left end) where
-    -- after the first round all are
-    pub undoing-done : left ≤ 0 → state ≡ undo_rounds rows (rounds_of w rounds words) first
+  module _ {state mixed rest : List ℕ} {size n : ℕ} (s : Undoing words inverse rounds first state mixed rest size n) where
+    -- where no round is left all are undone
+    pub undoing-done : length rest < size → state ≡ undo_rounds rows (rounds_of w rounds words) first
     undoing-done h =
-        let l : left ≡ 0 = omega arith in
-        let z : rounds - left ≡ rounds = omega arith in
-        let e : end ≡ 0 = s.place ∙ rw l (omega arith) in
-        rw (z, e) at s.done
+        let m : n ≡ rounds = all-pieces n rounds (w + 1) (length rest) (omega (arith, s.piece)) s.count in
+        let z : length rest ≡ 0 = omega (arith, rw m at s.count) in
+        let b : s.behind ≡ words = sym (drop_at rest s.behind 0 z) ∙ s.whole in
+        rw (b, m) at s.done
 
-    module _ (h : 0 < left) where
-      -- the next round's words lie in the parameters, and those before it are as many as the rounds left ask
-      pub undoing-room : (w + 1 ≤ end) × (end ≤ length words) × (end - w - 1 ≡ (left - 1) * (w + 1))
-      undoing-room =
-          let l : left ≡ suc (left - 1) = omega arith in
-          let p : end ≡ suc (left - 1) * (w + 1) = rw l at s.place in
-          let b = mul-le-mul {n₁ = left} {m₁ = w + 1} {n₂ = rounds} {m₂ = w + 1} s.within (omega arith) in
-          (omega (arith, p), omega (arith, s.place, b, (sound r).size), omega (arith, p))
+    -- the last of the rounds left
+    module _ (rest' item : List ℕ) (e : rest ≡ rest' ++ item) (l : length item ≡ size) where
+      -- its words, and those that follow them
+      next : rest' ++ (item ++ s.behind) ≡ words
+      next = sym (append_assoc rest' item s.behind) ∙ rw (← e) s.whole
 
-      -- the constants as they are lent
+      -- its constants as they are lent
       abbrev constants : List ℕ
-      constants = take (end - (end - w)) (drop (end - w) words)
+      constants = take (length item - 1) (drop 1 item)
 
-      -- they are the w words before `end`
-      constants-are : constants ≡ take w (drop (end - w) words)
+      constants-are : take w (drop 1 (item ++ s.behind)) ≡ constants
       constants-are =
-          let b = undoing-room in
-          let z : end - (end - w) ≡ w = omega arith in
-          rw z
+          let k : length item - 1 ≡ w = omega (arith, l, s.piece) in
+          let c : 1 ≤ length item = omega (arith, l, s.piece) in
+          let d : w ≤ length (drop 1 item) = simp length-drop (omega (arith, l, s.piece)) in
+          rw (k, drop-append-le 1 item s.behind c, take-append-le w (drop 1 item) s.behind d) refl
 
-      -- the next round may be undone
-      pub undo-asked : are_units inverse ≡ true → length inverse ≡ w * w
+      -- it may be undone
+      pub undo-asked : length state ≡ w → are_units inverse ≡ true → length inverse ≡ w * w
           → MixAsked constants state (take (w - 0) mixed) × RowsAsked inverse state (take (w - 0) mixed) × (0 < length state)
-      undo-asked u square =
-          let b = undoing-room in
-          let k = s.kept in (
+      undo-asked k u square =
+          let b : drop (length rest') words ≡ item ++ s.behind = rw (← next) (drop_at rest' (item ++ s.behind) (length rest') refl) in (
             record {
-              constant-units = below-take prime (end - (end - w)) (drop (end - w) words) (below-drop prime (end - w) words (sound r).units);
+              constant-units = rw (← constants-are, ← b) (below-take prime w _ (below-drop prime 1 _ (below-drop prime (length rest') words (sound r).units)));
               units = s.units;
-              constants-long = simp (length-take, length-drop) (omega arith);
+              constants-long = simp (length-take, length-drop) (omega (arith, l, s.piece));
               room = simp length-take (omega (arith, s.mixed-long, r.most));
             },
             record {
@@ -132,25 +152,25 @@ module _ {rounds : ℕ} {words first : List ℕ} (inverse : List ℕ) (r : Ready
             omega (arith, r.some),
           )
 
-      -- and with it one round less is left
-      pub undoing-turn : {state' mixed' : List ℕ}
-          → state' ≡ undo_round (rows_of (length state) (length state) inverse) (round_of (get_or words (end - w - 1) 0) constants) state
-          → length mixed' ≡ length mixed
-          → Undoing words inverse rounds first state' mixed' (left - 1) (end - w - 1)
-      unfolding undo_rounds
-      undoing-turn e l =
-          let b = undoing-room in
-          let n : rounds - (left - 1) ≡ suc (rounds - left) = omega (arith, s.within) in
-          let x : end - w - 1 + 1 ≡ end - w = omega arith in
-          let y : end - w - 1 + (w + 1) ≡ end = omega arith in
-          let q : Round = round_of (get_or words (end - w - 1) 0) (take w (drop (end - w) words)) in
-          let f = e ∙ ap (λ (k : ℕ). undo_round (rows_of k k inverse) (round_of (get_or words (end - w - 1) 0) constants) state) s.kept
-          ∙ ap (λ (c : List ℕ). undo_round rows (round_of (get_or words (end - w - 1) 0) c) state) constants-are in
+      -- and with it one round more is undone
+      pub undoing-turn : length state ≡ w → {state' mixed' : List ℕ} {size' : ℕ}
+          → state' ≡ undo_round (rows_of (length state) (length state) inverse) (round_of (get_or item 0 0) constants) state
+          → length mixed' ≡ length mixed → size' ≡ size
+          → Undoing words inverse rounds first state' mixed' rest' size' (n + 1)
+      unfolding undo_rounds rounds_of
+      undoing-turn k {state'} {mixed'} {size'} f m z =
+          let q : Round = round_of (get_or item 0 0) constants in
+          let c : 0 < length item = omega (arith, l, s.piece) in
+          let v : length item ≡ suc w = omega (arith, l, s.piece) in
+          let g : state' ≡ undo_round rows q state = f ∙ rw k refl in
+          let d : rounds_of w (n + 1) (item ++ s.behind) ≡ q ∷ rounds_of w n s.behind
+          = rw (add-one n, get_or-append item s.behind 0 0 c, constants-are, drop_at item s.behind (suc w) v) refl in
           record {
-            done = rw (n, round-at w (rounds - left) (end - w - 1) words, x, y) (f ∙ ap (undo_round rows q) s.done);
-            place = b.2;
-            kept = ap length f ∙ (undo_round-keeps (length rows) rows refl q state).size ∙ rows_of-length w w inverse;
-            units = ap are_units f ∙ (undo_round-keeps (length rows) rows refl q state).below;
-            mixed-long = l ∙ s.mixed-long;
-            within = omega (arith, s.within);
+            behind = item ++ s.behind;
+            done = rw d (g ∙ ap (undo_round rows q) s.done);
+            whole = next;
+            count = omega (arith, s.count, l, s.piece, ap length e, length-append rest' item);
+            piece = z ∙ s.piece;
+            units = ap are_units g ∙ (undo_round-keeps (length rows) rows refl q state).below;
+            mixed-long = m ∙ s.mixed-long;
           }

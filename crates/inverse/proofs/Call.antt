@@ -2,7 +2,7 @@
 -- no inverse, and one that has. Assumes nothing.
 use Prim.Native.Nat.{ℕ, ◌+◌, ◌-◌, ◌*◌, ◌≤◌}
 use mathlib.Core.Path.{◌≡◌, refl, sym, ap, ◌∙◌}
-use mathlib.Core.Bool.{Bool, true, false}
+use mathlib.Core.Bool.{Bool, true}
 use mathlib.Core.List.{List, ◌++◌}
 use native.Mathlib.Omega.{arith}
 use borrow.Author.Tests.{eq-eqb, ne_eqb}
@@ -10,8 +10,10 @@ use lib.ListN.{length, take, drop, length-drop, length-append}
 use lib.Seq.{take_all, take_at}
 use Rattle.limits.specs.Numbers.{prime, max_width}
 use Rattle.limits.specs.Questions.{ask, first_no}
+use Rattle.std.specs.Prelude.{Ok}
+use Rattle.limits.specs.Outcome.{Outcome, outcome_of}
 use Rattle.limits.proofs.Below.{below-drop}
-use Rattle.limits.proofs.Questions.{ask-yes, ask-no, goes_on, stays}
+use Rattle.limits.proofs.Questions.{ask-yes, goes_on, stays}
 use Rattle.words.specs.Store.{fit_words}
 use Rattle.baby_bear.specs.Field.{are_units}
 use Rattle.permute.specs.Parameters.{rounds_of, rows_of, parameters_of}
@@ -29,26 +31,26 @@ use Rattle.inverse.specs.Answers.{is_invertible, permute_inverse_front, permute_
 use Rattle.inverse.proofs.Behind.{none-returned}
 use Rattle.inverse.proofs.Laws.{Asked, asked_is, by_front, permute_inverted-yes, permute_inverted-no, behind}
 
--- the number that is answered, what the list holds, and what both say
-abbrev Answered : (w rounds : ℕ) (words y x : List ℕ) → ℕ → List ℕ → Type 0
-Answered w rounds words y x k x' =
-    (k ≡ permute_inverse_no w rounds words y x)
+-- what is answered, what the list holds, and what both say
+abbrev Answered : (w rounds : ℕ) (words y x : List ℕ) → Outcome → List ℕ → Type 0
+Answered w rounds words y x r x' =
+    (r ≡ outcome_of (permute_inverse_no w rounds words y x))
     × (x' ≡ permute_inverted w rounds words y x)
-    × StateBehind w rounds words y k x'
+    × StateBehind w rounds words y r x'
 
 module _ (w rounds : ℕ) (words y x : List ℕ) where
   -- the first two say the third
-  answered : (k : ℕ) (x' : List ℕ) → k ≡ permute_inverse_no w rounds words y x → x' ≡ permute_inverted w rounds words y x
-      → Answered w rounds words y x k x'
-  answered k x' e f = (e, f, rw (e, f) (behind w rounds words y x))
+  answered : (r : Outcome) (x' : List ℕ) → r ≡ outcome_of (permute_inverse_no w rounds words y x) → x' ≡ permute_inverted w rounds words y x
+      → Answered w rounds words y x r x'
+  answered r x' e f = (e, f, rw (e, f) (behind w rounds words y x))
 
   -- the first no of the questions before 44
-  pub answered-front : (k : ℕ) → k ≡ first_no (permute_inverse_front w rounds words y x) → (k ≡ 0 → ⊥)
-      → Answered w rounds words y x k x
-  answered-front k e h =
-      let n : k ≡ permute_inverse_no w rounds words y x =
-      e ∙ sym (by_front w rounds words y x ∙ stays _ _ (λ z. h (e ∙ z))) in
-      answered k x n (sym (permute_inverted-no w rounds words y x (λ z. h (n ∙ z))))
+  pub answered-front : (r : Outcome) → r ≡ outcome_of (first_no (permute_inverse_front w rounds words y x))
+      → (first_no (permute_inverse_front w rounds words y x) ≡ 0 → ⊥) → Answered w rounds words y x r x
+  answered-front r e h =
+      let n : permute_inverse_no w rounds words y x ≡ first_no (permute_inverse_front w rounds words y x) =
+      by_front w rounds words y x ∙ stays _ _ h in
+      answered r x (e ∙ ap outcome_of (sym n)) (sym (permute_inverted-no w rounds words y x (λ z. h (sym n ∙ z))))
 
   -- ---- where they all say yes
   module _ (k : ℕ) (e : k ≡ first_no (permute_inverse_front w rounds words y x)) (z : k ≡ 0) where
@@ -74,13 +76,13 @@ module _ (w rounds : ℕ) (words y x : List ℕ) where
 
     -- a yes, and what is then in the list
     accepted : is_invertible w rounds words ≡ true → (x' : List ℕ) → x' ≡ permute_inverse (parameters_of w rounds words) y
-        → Answered w rounds words y x 0 x'
+        → Answered w rounds words y x (Ok tt) x'
     accepted i x' c =
         let n = number true i ∙ ask-yes 44 true refl in
-        answered 0 x' (sym n) (c ∙ sym (permute_inverted-yes w rounds words y x n))
+        answered (Ok tt) x' (ap outcome_of (sym n)) (c ∙ sym (permute_inverted-yes w rounds words y x n))
 
     -- ---- no rounds
-    pub answered-none : rounds ≡ 0 → (x' : List ℕ) → x' ≡ fit_words 0 y x → Answered w rounds words y x 0 x'
+    pub answered-none : rounds ≡ 0 → (x' : List ℕ) → x' ≡ fit_words 0 y x → Answered w rounds words y x (Ok tt) x'
     unfolding is_invertible
     answered-none r x' c =
         accepted (rw (eq-eqb rounds 0 r)) x' (copied x' c ∙ sym (none-returned w rounds words y r))
@@ -113,11 +115,11 @@ module _ (w rounds : ℕ) (words y x : List ℕ) where
       asked = ap (is_regular w) lent_is ∙ regular-is w matrix most matrix-long ∙ sym found
 
       -- no inverse
-      pub answered-singular : (says : Bool) → says ≡ is_regular w (take (w * w - 0) work) → says ≡ false
-          → Answered w rounds words y x 44 x
-      answered-singular says s f =
-          let n = number false (sym asked ∙ sym s ∙ f) ∙ ask-no 44 false refl in
-          answered 44 x (sym n) (sym (permute_inverted-no w rounds words y x (λ o. absurd (omega (arith, sym n ∙ o)))))
+      pub answered-singular : (says : Bool) → says ≡ is_regular w (take (w * w - 0) work) → (r : Outcome) → r ≡ outcome_of (ask 44 says)
+          → (ask 44 says ≡ 0 → ⊥) → Answered w rounds words y x r x
+      answered-singular says s r e h =
+          let n = number says (sym (s ∙ asked)) in
+          answered r x (e ∙ ap outcome_of (sym n)) (sym (permute_inverted-no w rounds words y x (λ z. h (sym n ∙ z))))
 
       -- ---- an inverse
       module _ (says : Bool) (s : says ≡ is_regular w (take (w * w - 0) work)) (t : says ≡ true) (last : List ℕ)
@@ -184,7 +186,7 @@ module _ (w rounds : ℕ) (words y x : List ℕ) where
           pub answered-undone : (x'' : List ℕ)
               → x'' ≡ undo_rounds (rows_of (length x') (length x') (take (w * w - 0) (last ++ drop (w * w - 0) work)))
               (rounds_of (length x') rounds words) x'
-              → Answered w rounds words y x 0 x''
+              → Answered w rounds words y x (Ok tt) x''
           answered-undone x'' u =
               let d = copied x' c in
               let n : length x' ≡ w = ap length d ∙ asks.size in

@@ -13,7 +13,8 @@ use lib.Dec.{lit<, lit≤}
 use lib.ListN.{length, get_or}
 use Rattle.limits.specs.Numbers.{prime, max_count}
 use Rattle.limits.specs.Below.{all_below}
-use Rattle.limits.specs.Questions.{ask, ◌▸◌}
+use Rattle.limits.specs.Questions.{ask, first_of_two}
+use Rattle.limits.specs.Outcome.{outcome_of}
 use Rattle.limits.proofs.Below.{below-cons, cons-below}
 use Rattle.baby_bear.specs.Field.{add_unit, mul_unit, dot_units, dot}
 use Rattle.baby_bear.proofs.Mod.{Same, same, keep, back, ◌⟫◌, ◌⊗◌, ◌⊕◌, below}
@@ -41,7 +42,7 @@ words m = 0 ∷ 2013265920 ∷ m ∷ []
 -- with matrix 5, outputs 5 and 640 are accepted; the word that the lent list held needn't be a unit
 pub worked-number : (permute_inverse_no 1 1 (words 5) (5 ∷ []) (4294967295 ∷ []) ≡ 0)
     × (permute_inverse_no 1 1 (words 5) (640 ∷ []) (0 ∷ []) ≡ 0)
-unfolding ask ◌▸◌ all_below rounds_of rows_of sound_kinds unit_constants unit_rows sound_parameters zeros_at pivot eliminate is_invertible permute_inverse_no
+unfolding ask first_of_two all_below rounds_of rows_of sound_kinds unit_constants unit_rows sound_parameters zeros_at pivot eliminate is_invertible permute_inverse_no
 worked-number = (refl, refl)
 
 -- 2 gives 5 and 3 gives 640: the input behind 5 is 2, and behind 640 it is 3
@@ -66,12 +67,12 @@ worked-left = (
 pub singular-number : (permute_inverse_no 1 1 (words 0) (5 ∷ []) (7 ∷ []) ≡ 44)
     × (permute_inverse_no 1 1 (words 0) (0 ∷ []) (7 ∷ []) ≡ 44)
     × (permute_inverted 1 1 (words 0) (5 ∷ []) (7 ∷ []) ≡ 7 ∷ [])
-unfolding ask ◌▸◌ all_below rounds_of rows_of sound_kinds unit_constants unit_rows sound_parameters zeros_at pivot eliminate is_invertible permute_inverse_no permute_inverted
+unfolding ask first_of_two all_below rounds_of rows_of sound_kinds unit_constants unit_rows sound_parameters zeros_at pivot eliminate is_invertible permute_inverse_no permute_inverted
 singular-number = (refl, refl, refl)
 
 -- so two inputs share an output
 pub singular-shares : SharedOutput 1 (parameters_of 1 1 (words 0))
-singular-shares = (behind 1 1 (words 0) (5 ∷ []) (7 ∷ [])).shared singular-number.0
+singular-shares = (behind 1 1 (words 0) (5 ∷ []) (7 ∷ [])).shared (ap outcome_of singular-number.0)
 
 -- ---- w = 2, one round, constants 1 and 2, and a second row
 abbrev wide : ℕ → ℕ → ℕ → List ℕ
@@ -135,14 +136,14 @@ twice = record {
 
 -- so that is 44
 pub wide-singular : permute_inverse_no 2 1 (wide 1 2 4) (134 ∷ 396 ∷ []) (0 ∷ 0 ∷ []) ≡ 44
-unfolding ask ◌▸◌ all_below rounds_of rows_of sound_kinds unit_constants unit_rows sound_parameters
+unfolding ask first_of_two all_below rounds_of rows_of sound_kinds unit_constants unit_rows sound_parameters
 wide-singular =
     is-fortyfour 2 1 (wide 1 2 4) (134 ∷ 396 ∷ []) (0 ∷ 0 ∷ []) refl (singular-shared 2 1 (wide 1 2 4) (lit≤ tt) twice)
 
 -- ---- no rounds
 -- R = 0 and the matrix 0: accepted,
 pub unturned-number : permute_inverse_no 1 0 (0 ∷ []) (5 ∷ []) (7 ∷ []) ≡ 0
-unfolding ask ◌▸◌ all_below rounds_of rows_of sound_kinds unit_constants unit_rows sound_parameters is_invertible permute_inverse_no
+unfolding ask first_of_two all_below rounds_of rows_of sound_kinds unit_constants unit_rows sound_parameters is_invertible permute_inverse_no
 unturned-number = refl
 
 -- and the output comes back
@@ -158,29 +159,29 @@ pub size-numbers : (permute_inverse_no 1 1 (words 5) (5 ∷ []) [] ≡ 9)
     × (permute_inverse_no 1 1 (words 5) (2013265921 ∷ []) [] ≡ 9)
     × (permute_inverse_no 1 1 (2 ∷ []) (5 ∷ []) [] ≡ 9)
     × (permute_inverse_no 1 1 (words 0) (5 ∷ []) [] ≡ 9)
-unfolding ask ◌▸◌ all_below rounds_of rows_of sound_kinds unit_constants unit_rows sound_parameters zeros_at pivot eliminate is_invertible permute_inverse_no
+unfolding ask first_of_two all_below rounds_of rows_of sound_kinds unit_constants unit_rows sound_parameters zeros_at pivot eliminate is_invertible permute_inverse_no
 size-numbers = (refl, refl, refl, refl, refl, refl)
 
 -- 4: an output that is no unit; 17: a kind of 2, and a word too many; before 44
 pub other-numbers : (permute_inverse_no 1 1 (words 0) (2013265921 ∷ []) (0 ∷ []) ≡ 4)
     × (permute_inverse_no 1 1 (2 ∷ 2013265920 ∷ 0 ∷ []) (5 ∷ []) (0 ∷ []) ≡ 17)
     × (permute_inverse_no 1 1 (0 ∷ 2013265920 ∷ 0 ∷ 0 ∷ []) (5 ∷ []) (0 ∷ []) ≡ 17)
-unfolding ask ◌▸◌ all_below rounds_of rows_of sound_kinds unit_constants unit_rows sound_parameters zeros_at pivot eliminate is_invertible permute_inverse_no
+unfolding ask first_of_two all_below rounds_of rows_of sound_kinds unit_constants unit_rows sound_parameters zeros_at pivot eliminate is_invertible permute_inverse_no
 other-numbers = (refl, refl, refl)
 
 -- 1: no width, or one too large; before 9
 pub width-numbers : (permute_inverse_no 0 0 [] [] (0 ∷ []) ≡ 1) × (permute_inverse_no 25 0 [] [] [] ≡ 1)
-unfolding ask ◌▸◌ all_below rounds_of rows_of sound_kinds unit_constants unit_rows sound_parameters zeros_at pivot eliminate is_invertible permute_inverse_no
+unfolding ask first_of_two all_below rounds_of rows_of sound_kinds unit_constants unit_rows sound_parameters zeros_at pivot eliminate is_invertible permute_inverse_no
 width-numbers = (refl, refl)
 
 -- 2: a lent list of more than 2^30 words; before 9
 pub long-number : (x : List ℕ) → max_count < length x → permute_inverse_no 1 1 (words 5) (5 ∷ []) x ≡ 2
-unfolding ask ◌▸◌ permute_inverse_no
+unfolding ask first_of_two permute_inverse_no
 long-number x h = rw (lt-leb (length x) max_count h)
 
 -- 4 before 17
 pub unit-number : permute_inverse_no 1 1 (2 ∷ []) (2013265921 ∷ []) (0 ∷ []) ≡ 4
-unfolding ask ◌▸◌ all_below rounds_of rows_of sound_kinds unit_constants unit_rows sound_parameters zeros_at pivot eliminate is_invertible permute_inverse_no
+unfolding ask first_of_two all_below rounds_of rows_of sound_kinds unit_constants unit_rows sound_parameters zeros_at pivot eliminate is_invertible permute_inverse_no
 unit-number = refl
 
 -- 3 gives 640, and no other unit does
@@ -188,7 +189,7 @@ pub worked-only : (permute (parameters_of 1 1 (words 5)) (3 ∷ []) ≡ 640 ∷ 
     × ((z : ℕ) → z < prime → permute (parameters_of 1 1 (words 5)) (z ∷ []) ≡ 640 ∷ [] → z ∷ [] ≡ 3 ∷ [])
 unfolding all_below
 worked-only =
-    let b = (behind 1 1 (words 5) (640 ∷ []) (0 ∷ [])).input worked-number.1 in (
+    let b = (behind 1 1 (words 5) (640 ∷ []) (0 ∷ [])).input (ap outcome_of worked-number.1) in (
       ap (permute (parameters_of 1 1 (words 5))) (sym worked-left.1) ∙ b.gives,
       λ z h g. b.only (z ∷ []) (record { size = refl; below = cons-below prime z [] h refl }) g ∙ worked-left.1,
     )

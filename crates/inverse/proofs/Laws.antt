@@ -10,8 +10,10 @@ use borrow.Author.Tests.{leb-true, le-leb, eqb-true, eq-eqb, eqb-false, not-true
 use lib.Dec.{eqb}
 use lib.ListN.{length}
 use Rattle.limits.specs.Numbers.{max_count, max_width}
-use Rattle.limits.specs.Questions.{ask, ◌▸◌, Question, question, first_no}
+use Rattle.limits.specs.Questions.{ask, first_of_two, ◌▸◌, Question, question, first_no}
 use Rattle.limits.proofs.Questions.{accepted-says, both, says-yes, ask-yes, ask-no, join, goes_on, stays, first_no-append, ▸-zero, on_yes-yes, on_yes-no}
+use Rattle.limits.specs.Outcome.{outcome_of}
+use Rattle.limits.proofs.Answered.{accepted-zero, refused-number}
 use Rattle.limits.proofs.Below.{both_true}
 use Rattle.baby_bear.specs.Field.{are_units}
 use Rattle.permute.specs.Parameters.{parameters_of, sound_parameters, permute_asks, permute_no, permuted}
@@ -29,7 +31,7 @@ lacks k (q ∷ qs) = not (eqb q.number k) && lacks k qs
 
 -- a question of another number leaves it to the rest
 other_goes : (n k rest : ℕ) (says : Bool) → (n ≡ suc k → ⊥) → ask n says ▸ rest ≡ suc k → rest ≡ suc k
-unfolding ask ◌▸◌
+unfolding ask first_of_two
 other_goes n k rest true h e = e
 other_goes zero k rest false h e = e
 other_goes (suc n) k rest false h e = absurd (h e)
@@ -157,15 +159,16 @@ module _ (w rounds : ℕ) (words y x : List ℕ) where
       by_front ∙ goes_on _ _ z ∙ ask-yes 44 _ (ap (λ (k : ℕ). is_invertible w k words) r ∙ none-invertible w words) in
       (n, permute_inverted-yes n ∙ none-returned w rounds words y r)
 
-  -- ---- what the number and the list say
-  -- 0: the list holds the only input that gives y; 44: two inputs share an output
-  pub behind : StateBehind w rounds words y (permute_inverse_no w rounds words y x) (permute_inverted w rounds words y x)
+  -- ---- what the answer and the list say
+  -- a yes: the list holds the only input that gives y; 44: two inputs share an output
+  pub behind : StateBehind w rounds words y (outcome_of (permute_inverse_no w rounds words y x)) (permute_inverted w rounds words y x)
   behind = record {
     input = λ e.
-        let a = accepted-is e in
-        rw (permute_inverted-yes e)
+        let z : permute_inverse_no w rounds words y x ≡ 0 = accepted-zero _ tt refl e in
+        let a = accepted-is z in
+        rw (permute_inverted-yes z)
         (input-is w rounds words a.asked.sound a.invertible y (record { size = a.asked.size; below = a.asked.units }));
-    shared = λ e. (fortyfour-is e).1;
+    shared = λ e. (fortyfour-is (refused-number _ tt refl e)).1;
   }
 
 -- ---- the two calls, one after the other
@@ -176,7 +179,7 @@ module _ (w rounds : ℕ) (words : List ℕ) where
       × (permuted w rounds words (permute_inverted w rounds words y x) ≡ y)
   back-there y x e =
       let q = (accepted-is w rounds words y x e).asked in
-      let o = (behind w rounds words y x).input e in
+      let o = (behind w rounds words y x).input (ap outcome_of e) in
       let n = turns w rounds words (permute_inverted w rounds words y x)
       (record { some = q.some; most = q.most; size = o.units.size; units = o.units.below; sound = q.sound }) in
       (n, permuted-yes w rounds words (permute_inverted w rounds words y x) n ∙ o.gives)
@@ -186,5 +189,5 @@ module _ (w rounds : ℕ) (words : List ℕ) where
       → permute_inverted w rounds words (permuted w rounds words x) z ≡ x
   there_back x z e f =
       let a = turned w rounds words x e in
-      let o = (behind w rounds words (permuted w rounds words x) z).input f in
+      let o = (behind w rounds words (permuted w rounds words x) z).input (ap outcome_of f) in
       sym (o.only x (record { size = a.size; below = a.units }) (sym (permuted-yes w rounds words x e)))

@@ -2,13 +2,13 @@
 -- rows one after the other.
 --
 -- `RowSum` goes with the loop over a row's words, `Rows` with the one over the rows. Assumes nothing.
-use Prim.Native.Nat.{ℕ, suc, ◌+◌, ◌-◌, ◌*◌, ◌/◌, ◌%◌, ◌≤◌, ◌<◌}
+use Prim.Native.Nat.{ℕ, ◌+◌, ◌-◌, ◌*◌, ◌/◌, ◌%◌, ◌≤◌, ◌<◌}
 use mathlib.Core.Path.{◌≡◌, refl, sym, ap, ◌∙◌}
-use mathlib.Core.List.{List, ◌∷◌, ◌++◌}
+use mathlib.Core.List.{List, [], ◌∷◌, ◌++◌}
 use native.Mathlib.Omega.{arith}
-use native.Mathlib.Nat.{mul-le-mul}
-use lib.ListN.{length, get_or, take, drop, set, length-set, length-take, length-drop}
-use lib.Seq.{drop-drop}
+use native.Mathlib.Numerals.{add-one}
+use lib.ListN.{length, get_or, take, drop, set, drop_of_length-le}
+use lib.Seq.{drop-cons}
 use Rattle.limits.specs.Numbers.{prime}
 use Rattle.limits.proofs.Below.{below-take, below-drop}
 use Rattle.baby_bear.specs.Field.{dot, dot_units}
@@ -19,6 +19,9 @@ use Rattle.permute.specs.Parameters.{rows_of}
 use Rattle.permute.specs.Columns.{half, half_leaves}
 use Rattle.permute.proofs.Fill.{fill-turn, fill_done}
 use Rattle.permute.proofs.Columns.{unit-product, dot-turn, dot-end}
+use Rattle.permute.proofs.Keeps.{rows_of-length}
+use Rattle.permute.proofs.Trace.{lent_length}
+use Rattle.matrix_inverse.proofs.Places.{row_room, row-lent}
 use Rattle.inverse.specs.Walks.{RowAsked, RowsAsked}
 
 -- ---- a row times the state
@@ -31,19 +34,11 @@ pub record RowSum (row x : List ℕ) (low high i : ℕ) : Type 0 where
   pub within : i ≤ length x
 
 module _ {row x : List ℕ} (a : RowAsked row x) where
-  -- before the first word nothing is added
-  pub sum-start : RowSum row x 0 0 0
-  sum-start = record { sum = omega arith; low_fits = omega arith; high_fits = omega arith; within = omega arith }
-
   -- a product of the row and the state fits
-  pub product-most : (i : ℕ) → get_or row i 0 * get_or x i 0 ≤ 4053239664633446400
+  product-most : (i : ℕ) → get_or row i 0 * get_or x i 0 ≤ 4053239664633446400
   product-most i = unit-product (units-at row a.row-units i) (units-at x a.units i)
 
   module _ {low high i : ℕ} (s : RowSum row x low high i) where
-    -- the parts never come near 2^64
-    pub parts-most : (low ≤ 103079215080) × (high ≤ 22649241600)
-    parts-most = (omega (arith, s.low_fits, s.within, a.wide), omega (arith, s.high_fits, s.within, a.wide))
-
     -- one word more
     pub sum-turn : (u : ℕ) → u ≡ get_or row i 0 * get_or x i 0 → i < length x
         → RowSum row x (low + u % half) (high + u / half) (i + 1)
@@ -63,68 +58,42 @@ module _ {row x : List ℕ} (a : RowAsked row x) where
         f ∙ ap (λ (k : ℕ). k % prime) d ∙ sym (dot_units-is row x)
 
 -- ---- the rows
--- i rows are done, and the next one starts at `at`
-pub record Rows (matrix x out : List ℕ) (i at : ℕ) : Type 0 where
-  pub rows : take i out ++ times_matrix (rows_of (length x) (length x - i) (drop at matrix)) x ≡ times_matrix (rows_of (length x) (length x) matrix) x
-  pub place : at ≡ i * length x
-  pub kept : length out ≡ length x
-  pub within : i ≤ length x
-
--- the next row, and those after it
-next_row : (x matrix : List ℕ) (w n at v : ℕ) → v ≡ dot_units (take w (drop at matrix)) x
-    → times_matrix (rows_of w (suc n) (drop at matrix)) x ≡ v ∷ times_matrix (rows_of w n (drop (at + w) matrix)) x
-unfolding times_matrix rows_of
-next_row x matrix w n at v e = rw (e, drop-drop w at matrix)
+-- i rows are done
+abbrev pub Rows : (matrix x out : List ℕ) → ℕ → Type 0
+Rows matrix x out i =
+    take i out ++ times_matrix (drop i (rows_of (length x) (length x) matrix)) x ≡ times_matrix (rows_of (length x) (length x) matrix) x
 
 module _ {matrix x out₀ : List ℕ} (a : RowsAsked matrix x out₀) where
   -- the width
   abbrev w : ℕ
   w = length x
 
-  -- before the first row nothing is written
-  pub rows_start : Rows matrix x out₀ 0 0
-  rows_start =
-      let z : w - 0 ≡ w = omega arith in
-      record { rows = rw z; place = omega arith; kept = a.room; within = omega arith }
+  -- the rows
+  abbrev rows : List (List ℕ)
+  rows = rows_of w w matrix
 
-  module _ {out : List ℕ} {i at : ℕ} (s : Rows matrix x out i at) where
-    -- the next row lies in the matrix
-    pub rows-room : i < w → at + w ≤ length matrix
-    rows-room h = omega (arith, mul-le-mul {n₁ = suc i} {m₁ = w} {n₂ = w} {m₂ = w} h (omega arith), s.place, a.square)
+  -- row i and the state may be multiplied
+  pub row-asked : (i : ℕ) → i < w → RowAsked (take (i * w + w - i * w) (drop (i * w) matrix)) x
+  row-asked i h =
+      record {
+        row-units = below-take prime (i * w + w - i * w) (drop (i * w) matrix) (below-drop prime (i * w) matrix a.matrix-units);
+        units = a.units;
+        row-long = lent_length matrix (i * w) w (row_room w w i matrix h a.square);
+        wide = a.wide;
+      }
 
-    -- the row as it is lent
-    abbrev lent : List ℕ
-    lent = take (at + w - at) (drop at matrix)
-
-    -- it is the w words from `at` on
-    lent_is : lent ≡ take w (drop at matrix)
-    lent_is = let z : at + w - at ≡ w = omega arith in rw z
-
-    -- it and the state may be multiplied
-    pub row-asked : i < w → RowAsked lent x
-    row-asked h =
-        record {
-          row-units = below-take prime (at + w - at) (drop at matrix) (below-drop prime at matrix a.matrix-units);
-          units = a.units;
-          row-long = simp (length-take, length-drop) (omega (arith, rows-room h));
-          wide = a.wide;
-        }
-
+  module _ (out : List ℕ) (i : ℕ) (kept : length out ≡ w) (s : Rows matrix x out i) where
     -- one row more
-    pub rows-turn : (v : ℕ) → i < w → v ≡ dot_units lent x → Rows matrix x (set out i v) (i + 1) (at + w)
-    rows-turn v h e =
-        let n : w - i ≡ suc (w - (i + 1)) = omega arith in
-        let f : v ≡ dot_units (take w (drop at matrix)) x = e ∙ ap (λ (l : List ℕ). dot_units l x) lent_is in
-        record {
-          rows = fill-turn _ out _ _ i v (omega (arith, s.kept)) (rw n (next_row x matrix w _ at v f)) s.rows;
-          place = omega (arith, s.place);
-          kept = length-set out i v ∙ s.kept;
-          within = omega arith;
-        }
+    pub rows-turn : i < w → (v : ℕ) → v ≡ dot_units (take (i * w + w - i * w) (drop (i * w) matrix)) x → Rows matrix x (set out i v) (i + 1)
+    unfolding times_matrix
+    rows-turn h v e =
+        let f : times_matrix (drop i rows) x ≡ v ∷ times_matrix (drop (i + 1) rows) x
+        = rw (add-one i, drop-cons rows i [] (omega (arith, rows_of-length w w matrix)), ← row-lent w w i matrix h a.square, e) refl in
+        fill-turn _ out _ _ i v (omega arith) f s
 
     -- all rows
-    pub rows-done : w ≤ i → out ≡ times_matrix (rows_of w w matrix) x
-    unfolding times_matrix rows_of
+    pub rows-done : w ≤ i → out ≡ times_matrix rows x
+    unfolding times_matrix
     rows-done h =
-        let z : w - i ≡ 0 = omega arith in
-        fill_done _ out _ i (omega (arith, s.kept)) (rw z) s.rows
+        let k : length rows ≤ i = omega (arith, rows_of-length w w matrix) in
+        fill_done _ out _ i (omega arith) (rw (drop_of_length-le rows k)) s

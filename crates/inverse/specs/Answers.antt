@@ -1,5 +1,6 @@
 -- R-4's call: its questions, its number and what it leaves. Assumes nothing.
-use Rattle.std.specs.Prelude.{ℕ, ◌*◌, ◌+◌, ◌≡◌, Bool, ◌||◌, List, [], ◌∷◌, ◌++◌, eqb, length, drop}
+use Rattle.std.specs.Prelude.{ℕ, ◌*◌, ◌+◌, ◌≡◌, Bool, ◌||◌, List, [], ◌∷◌, ◌++◌, eqb, length, drop, Ok, Err}
+use Rattle.limits.specs.Outcome.{Outcome, refusal}
 use Rattle.limits.specs.Asks.{width_asks, store_asks}
 use Rattle.limits.specs.Questions.{Question, question, first_no, on_yes}
 use Rattle.baby_bear.specs.Field.{are_units}
@@ -39,7 +40,7 @@ unfoldable pub permute_inverted : ℕ → ℕ → List ℕ → List ℕ → List
 permute_inverted w rounds words y x =
     on_yes (permute_inverse_no w rounds words y x) (permute_inverse (parameters_of w rounds words) y) x
 
--- what the number and that list say: a yes that the list is the input that gives y, 44 that two inputs share an output
-pub record StateBehind (w rounds : ℕ) (words y : List ℕ) (no : ℕ) (x : List ℕ) : Type 0 where
-  pub input : no ≡ 0 → OnlyInput w (parameters_of w rounds words) y x
-  pub shared : no ≡ 44 → SharedOutput w (parameters_of w rounds words)
+-- what the answer and that list say: a yes that the list is the input that gives y, 44 that two inputs share an output
+pub record StateBehind (w rounds : ℕ) (words y : List ℕ) (answer : Outcome) (x : List ℕ) : Type 0 where
+  pub input : answer ≡ Ok tt → OnlyInput w (parameters_of w rounds words) y x
+  pub shared : answer ≡ Err (refusal 44) → SharedOutput w (parameters_of w rounds words)

@@ -20,10 +20,8 @@ const SEVENTH_ROOT: u32 = 1725656503;
 fn square_all(a: &mut [u32])
     ensures { a.new ≡ map (λ x. mul_unit x x) a.old }
 {
-    let mut i = 0;
-    while i < a.len() {
-        a[i] = mul_unit(BabyBearUnit(a[i]), BabyBearUnit(a[i])).0;
-        i += 1;
+    for x in a.iter_mut() {
+        *x = mul_unit(BabyBearUnit(*x), BabyBearUnit(*x)).0;
     }
 }
 
@@ -32,10 +30,8 @@ fn times_all(a: &[u32], by: &mut [u32])
     requires { length a.now ≡ length by.old }
     ensures { by.new ≡ pairwise mul_unit a.now by.old }
 {
-    let mut i = 0;
-    while i < by.len() {
-        by[i] = mul_unit(BabyBearUnit(by[i]), BabyBearUnit(a[i])).0;
-        i += 1;
+    for (i, b) in by.iter_mut().enumerate() {
+        *b = mul_unit(BabyBearUnit(*b), BabyBearUnit(a[i])).0;
     }
 }
 

@@ -20,12 +20,10 @@ fn times_row(row: &[u32], x: &[u32]) -> u32
 {
     let mut low = 0u64;
     let mut high = 0u64;
-    let mut i = 0;
-    while i < x.len() {
-        let u = row[i] as u64 * x[i] as u64;
-        low = low + u % HALF;
-        high = high + u / HALF;
-        i += 1;
+    for (i, y) in x.iter().enumerate() {
+        let u = row[i] as u64 * *y as u64;
+        low += u % HALF;
+        high += u / HALF;
     }
     ((high * HALF_LEAVES + low) % P as u64) as u32
 }
@@ -36,13 +34,9 @@ fn times_rows(matrix: &[u32], x: &[u32], out: &mut [u32])
     ensures { out.new ≡ times_matrix (rows_of (length x.now) (length x.now) matrix.now) x.now }
 {
     let w = x.len();
-    let mut i = 0;
-    let mut at = 0;
-    while i < w {
-        let end = at + w;
-        out[i] = times_row(&matrix[at..end], x);
-        at = end;
-        i += 1;
+    for (i, y) in out.iter_mut().enumerate() {
+        let at = i * w;
+        *y = times_row(&matrix[at..at + w], x);
     }
 }
 
@@ -59,10 +53,8 @@ fn sub_constants(constants: &[u32], x: &[u32], out: &mut [u32])
     requires { MixAsked constants.now x.now out.old }
     ensures { out.new ≡ sub_constants constants.now x.now }
 {
-    let mut i = 0;
-    while i < x.len() {
-        out[i] = sub_units(x[i], constants[i]);
-        i += 1;
+    for (i, y) in out.iter_mut().enumerate() {
+        *y = sub_units(x[i], constants[i]);
     }
 }
 
@@ -86,19 +78,13 @@ pub(crate) fn undo_rounds(rounds: usize, params: &[u32], inverse: &[u32], state:
 {
     let w = state.len();
     let mut mixed = [0u32; STATE_WORDS];
-    let mut left = rounds;
-    let mut end = rounds * (w + 1);
-    while 0 < left {
-        let first = end - w;
-        let at = first - 1;
+    for round in params[..rounds * (w + 1)].rchunks_exact(w + 1) {
         undo_round(
-            params[at],
-            &params[first..end],
+            round[0],
+            &round[1..],
             inverse,
             &mut *state,
             &mut mixed[0..w],
         );
-        end = at;
-        left -= 1;
     }
 }

@@ -10,11 +10,11 @@ use borrow.Author.Tests.{lt-leb, leb-true}
 use lib.Dec.{leb}
 use lib.ListN.{length, set, drop, length-append, length-set}
 use lib.Seq.{sets-eq, set_split}
+use Rattle.std.specs.Prelude.{Some, None}
 use Rattle.words.specs.Store.{put_words}
 use Rattle.narg.specs.Reader.{Got, got, stop, on_got, ◌>>=◌, give, need, wire, unit, times, items, each}
 use Rattle.narg.specs.Cursor.{read_u32}
 use Rattle.narg.specs.declared.Cursor.{Cursor}
-use Rattle.narg.specs.declared.Word.TheVariants.{Read as ReadWord, Short}
 use Rattle.narg.proofs.At.{read_u32-read, read_u32-stop, word_next}
 use Rattle.narg.proofs.Lists.{times-stop, times_more, times-count}
 use Rattle.narg.proofs.Stores.{put_words-nil, length-put_words, put_two}
@@ -25,7 +25,7 @@ use Rattle.instance.specs.Parts.{pair_words}
 use Rattle.items.specs.Read.{read_pair, read_term, read_equation, pair_size, size_of}
 use Rattle.items.specs.Told.{TermsGiven, EquationGiven}
 use Rattle.items.proofs.Fields.{term, two-got}
-use Rattle.items.proofs.Run.{Run, run-stop, run_more, give-nil, give-snoc, stop_is, pred-is}
+use Rattle.items.proofs.Run.{Run, run-stop, run_more, give-nil, give-snoc, stop_is, left-is}
 
 -- ---- a wire and a unit
 pub pair-stop : (bs : List ℕ) (k : ℕ) → wire bs ≡ stop k → read_pair bs ≡ stop k
@@ -74,22 +74,22 @@ pub each-pairs : (ps : List Pair) → each two_words ps ≡ pair_words ps
 each-pairs [] = refl
 each-pairs (p ∷ ps) = ap (λ (l : List ℕ). p.var ∷ p.value ∷ l) (each-pairs ps)
 
-module _ (bytes : List ℕ) (start n : ℕ) (out₀ out : List ℕ) (at to left : ℕ) (r : Run read_pair pair_size two_words bytes start n out₀ out at to left) (h : 0 < left) where
+module _ (bytes : List ℕ) (start n : ℕ) (out₀ out : List ℕ) (at to i : ℕ) (r : Run read_pair pair_size two_words bytes start n out₀ out at to i) (h : i < n) where
   pub run-pair-stop : (k : ℕ) → read_pair (drop at bytes) ≡ stop k → items read_pair pair_size (length out₀) 0 n (drop start bytes) ≡ stop k
-  run-pair-stop k e = run-stop read_pair pair_size two_words bytes start n out₀ out at to left r h k (rw e)
+  run-pair-stop k e = run-stop read_pair pair_size two_words bytes start n out₀ out at to i r h k (rw e)
 
   module _ (x v : ℕ) (next : ℕ) (e : read_pair (drop at bytes) ≡ got (pair x v) (drop next bytes)) where
     pub run-pair-full : length out - to < 2 → items read_pair pair_size (length out₀) 0 n (drop start bytes) ≡ stop 10
     run-pair-full f =
         let s = r.same in
         let k = r.fits in
-        run-stop read_pair pair_size two_words bytes start n out₀ out at to left r h 10 (rw (e, lt-leb (to + 2) (length out₀) (omega arith)))
+        run-stop read_pair pair_size two_words bytes start n out₀ out at to i r h 10 (rw (e, lt-leb (to + 2) (length out₀) (omega arith)))
 
-    pub run-pair : next ≡ at + 8 → 2 ≤ length out - to → Run read_pair pair_size two_words bytes start n out₀ (set (set out to x) (to + 1) v) next (to + 2) (left - 1)
+    pub run-pair : next ≡ at + 8 → 2 ≤ length out - to → Run read_pair pair_size two_words bytes start n out₀ (set (set out to x) (to + 1) v) next (to + 2) (i + 1)
     run-pair past f =
         let s = r.same in
         let k = r.fits in
-        run_more read_pair pair_size two_words bytes start n out₀ out at to left r h (pair x v) next (set (set out to x) (to + 1) v) e past refl (omega arith)
+        run_more read_pair pair_size two_words bytes start n out₀ out at to i r h (pair x v) next (set (set out to x) (to + 1) v) e past refl (omega arith)
         (two-stored out to x v (omega arith))
 
 -- ---- terms
@@ -102,37 +102,37 @@ term_words-snoc [] t = refl
 term_words-snoc (s ∷ ts) t = ap (λ (l : List ℕ). s.var ∷ s.weight ∷ l) (term_words-snoc ts t)
 
 module _ (bytes : List ℕ) (start t : ℕ) (out₀ : List ℕ) (place : ℕ) where
-  pub record TermsRun (out : List ℕ) (at to left : ℕ) : Type 0 where
+  pub record TermsRun (out : List ℕ) (at to i : ℕ) : Type 0 where
     pub done : List Term
-    pub rest : on_got (times read_term left (drop at bytes)) (λ l. give (done ++ l)) ≡ times read_term t (drop start bytes)
-    pub count : length done + left ≡ t
+    pub rest : on_got (times read_term (t - i) (drop at bytes)) (λ l. give (done ++ l)) ≡ times read_term t (drop start bytes)
+    pub count : length done ≡ i
     pub used : to ≡ place + 2 * length done
     pub past : at ≡ start + 8 * length done
     pub same : length out ≡ length out₀
     pub stored : to ≤ length out₀ → out ≡ put_words place (term_words done) out₀
 
-  pub terms-start : TermsRun out₀ start place t
+  pub terms-start : TermsRun out₀ start place 0
   terms-start = record {
     done = [];
-    rest = give-nil (times read_term t (drop start bytes));
-    count = omega arith;
+    rest = let z : t - 0 ≡ t = omega arith in rw z (give-nil (times read_term t (drop start bytes)));
+    count = refl;
     used = omega arith;
     past = omega arith;
     same = refl;
     stored = λ h. sym (put_words-nil place out₀);
   }
 
-  module _ (out : List ℕ) (at to left : ℕ) (r : TermsRun out at to left) where
-    pub terms-stop : 0 < left → (k : ℕ) → read_pair (drop at bytes) ≡ stop k → times read_term t (drop start bytes) ≡ stop k
+  module _ (out : List ℕ) (at to i : ℕ) (r : TermsRun out at to i) where
+    pub terms-stop : i < t → (k : ℕ) → read_pair (drop at bytes) ≡ stop k → times read_term t (drop start bytes) ≡ stop k
     terms-stop h k e =
-        let s = ap (λ (m : ℕ). times read_term m (drop at bytes)) (pred-is left h) ∙ times-stop read_term (drop at bytes) (left - 1) k (term-stop (drop at bytes) k e) in
+        let s = ap (λ (m : ℕ). times read_term m (drop at bytes)) (left-is t i h) ∙ times-stop read_term (drop at bytes) (t - (i + 1)) k (term-stop (drop at bytes) k e) in
         sym r.rest ∙ ap (λ (g : Got (List Term)). on_got g (λ l. give (r.done ++ l))) s
 
-    pub terms-more : 0 < left → (x v next : ℕ) → read_pair (drop at bytes) ≡ got (pair x v) (drop next bytes) → next ≡ at + 8
-        → TermsRun (set (set out to x) (to + 1) v) next (to + 2) (left - 1)
+    pub terms-more : i < t → (x v next : ℕ) → read_pair (drop at bytes) ≡ got (pair x v) (drop next bytes) → next ≡ at + 8
+        → TermsRun (set (set out to x) (to + 1) v) next (to + 2) (i + 1)
     terms-more h x v next e at_next =
-        let s = ap (λ (m : ℕ). times read_term m (drop at bytes)) (pred-is left h)
-        ∙ times_more read_term (drop at bytes) (left - 1) (term x v) (drop next bytes) (term-got (drop at bytes) x v (drop next bytes) e) in
+        let s = ap (λ (m : ℕ). times read_term m (drop at bytes)) (left-is t i h)
+        ∙ times_more read_term (drop at bytes) (t - (i + 1)) (term x v) (drop next bytes) (term-got (drop at bytes) x v (drop next bytes) e) in
         let c = r.count in
         let u = r.used in
         let at-is = r.past in
@@ -143,7 +143,7 @@ module _ (bytes : List ℕ) (start t : ℕ) (out₀ : List ℕ) (place : ℕ) wh
         record {
           done = d ++ (term x v ∷ []);
           rest =
-              give-snoc (times read_term (left - 1) (drop next bytes)) d (term x v)
+              give-snoc (times read_term (t - (i + 1)) (drop next bytes)) d (term x v)
               ∙ sym (ap (λ (g : Got (List Term)). on_got g (λ k. give (d ++ k))) s)
               ∙ r.rest;
           count = omega arith;
@@ -157,19 +157,19 @@ module _ (bytes : List ℕ) (start t : ℕ) (out₀ : List ℕ) (place : ℕ) wh
               ∙ ap (λ (k : List ℕ). put_words place k out₀) (sym (term_words-snoc d (term x v)));
         }
 
-    pub terms-given : left ≤ 0 → (next : Cursor) → next.at ≡ at → TermsGiven (times read_term t (drop start bytes)) bytes start out₀ out place next
-    terms-given h next i =
-        let z : left ≡ 0 = omega arith in
+    pub terms-given : t ≤ i → (next : Cursor) → next.at ≡ at → TermsGiven (times read_term t (drop start bytes)) bytes start out₀ out place next
+    terms-given h next w =
+        let z : t - i ≡ 0 = omega arith in
         let e = ap (λ (m : ℕ). on_got (times read_term m (drop at bytes)) (λ l. give (r.done ++ l))) (sym z) ∙ r.rest in
         let u = r.used in
         let at-is = r.past in
-        let w = length-term_words r.done in
+        let l = length-term_words r.done in
         record {
           terms = r.done;
           reads =
               sym e
               ∙ ap (λ (l : List Term). got l (drop at bytes)) (append-nil r.done)
-              ∙ ap (λ (m : ℕ). got r.done (drop m bytes)) (sym i);
+              ∙ ap (λ (m : ℕ). got r.done (drop m bytes)) (sym w);
           past = omega arith;
           stored = λ f. r.stored (omega arith);
         }
@@ -179,10 +179,10 @@ module _ (s : List ℕ) (at place room : ℕ) where
   abbrev asked : Got (Unit {0})
   asked = (read_equation >>= λ e. need 10 (leb (place + size_of e) room)) (drop at s)
 
-  pub equation-short : read_u32 s at ≡ Short → asked ≡ stop 20
+  pub equation-short : read_u32 s at ≡ None → asked ≡ stop 20
   equation-short e = rw (read_u32-stop s at e)
 
-  module _ (t : ℕ) (c : Cursor) (ew : read_u32 s at ≡ ReadWord t c) where
+  module _ (t : ℕ) (c : Cursor) (ew : read_u32 s at ≡ Some (t, c)) where
     pub equation-terms-stop : (k : ℕ) → times read_term t (drop c.at s) ≡ stop k → asked ≡ stop k
     equation-terms-stop k e = rw (word_next s at t c ew, e)
 
@@ -213,7 +213,7 @@ equation-stored out place t v ts after e h w =
     ∙ ap (λ (n : ℕ). put_words place (n ∷ (term_words ts ++ (v ∷ []))) out) e
 
 -- what was read and stored, with the room asked
-module _ (s : List ℕ) (at : ℕ) (out : List ℕ) (place t : ℕ) (c : Cursor) (ew : read_u32 s at ≡ ReadWord t c) (out1 : List ℕ) (e1 : out1 ≡ set out place t)
+module _ (s : List ℕ) (at : ℕ) (out : List ℕ) (place t : ℕ) (c : Cursor) (ew : read_u32 s at ≡ Some (t, c)) (out1 : List ℕ) (e1 : out1 ≡ set out place t)
     (out2 : List ℕ) (last : Cursor) (g : TermsGiven (times read_term t (drop c.at s)) s c.at out1 out2 (place + 1) last)
     (v : ℕ) (next : Cursor) (ei : unit (drop last.at s) ≡ got v (drop next.at s)) (en : next.at ≡ last.at + 4) (len : ℕ) (el : len ≡ length out) where
   counted : length g.terms ≡ t
@@ -250,23 +250,23 @@ pub each-equations : (es : List Equation) → each equation_words es ≡ equatio
 each-equations [] = refl
 each-equations (e ∷ es) = ap (λ (l : List ℕ). equation_words e ++ l) (each-equations es)
 
-module _ (bytes : List ℕ) (start n : ℕ) (out₀ out : List ℕ) (at to left : ℕ) (r : Run read_equation size_of equation_words bytes start n out₀ out at to left) (h : 0 < left) where
+module _ (bytes : List ℕ) (start n : ℕ) (out₀ out : List ℕ) (at to i : ℕ) (r : Run read_equation size_of equation_words bytes start n out₀ out at to i) (h : i < n) where
   pub run-equation-stop : (k : ℕ) → (read_equation >>= λ e. need 10 (leb (to + size_of e) (length out))) (drop at bytes) ≡ stop k
       → items read_equation size_of (length out₀) 0 n (drop start bytes) ≡ stop k
   run-equation-stop k e =
-      run-stop read_equation size_of equation_words bytes start n out₀ out at to left r h k
+      run-stop read_equation size_of equation_words bytes start n out₀ out at to i r h k
       (ap (λ (m : ℕ). (read_equation >>= λ q. need 10 (leb (to + size_of q) m)) (drop at bytes)) (sym r.same) ∙ e)
 
   pub run-equation : (after : List ℕ) (t : ℕ) (next : Cursor) → EquationGiven bytes at out after to t next
-      → Run read_equation size_of equation_words bytes start n out₀ after next.at (to + (2 + 2 * t)) (left - 1)
+      → Run read_equation size_of equation_words bytes start n out₀ after next.at (to + (2 + 2 * t)) (i + 1)
   run-equation after t next g =
       let s = r.same in
       let m = g.room in
       let c = g.count in
       ap-run (ap (λ (k : ℕ). to + (2 + 2 * k)) (sym c))
-      (run_more read_equation size_of equation_words bytes start n out₀ out at to left r h g.value next.at after g.reads g.past
+      (run_more read_equation size_of equation_words bytes start n out₀ out at to i r h g.value next.at after g.reads g.past
       (sym (length-equation g.value)) (omega arith) g.stored)
     where
-      ap-run : {a b : ℕ} → a ≡ b → Run read_equation size_of equation_words bytes start n out₀ after next.at a (left - 1)
-          → Run read_equation size_of equation_words bytes start n out₀ after next.at b (left - 1)
+      ap-run : {a b : ℕ} → a ≡ b → Run read_equation size_of equation_words bytes start n out₀ after next.at a (i + 1)
+          → Run read_equation size_of equation_words bytes start n out₀ after next.at b (i + 1)
       ap-run e q = rw (← e) q

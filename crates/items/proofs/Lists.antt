@@ -6,18 +6,19 @@ use mathlib.Core.List.{List, ◌++◌}
 use native.Mathlib.Omega.{arith}
 use borrow.Author.Tests.{leb-true}
 use lib.ListN.{length, drop, replicate}
+use Rattle.std.specs.Prelude.{true, false, Some, None, Result, Ok, Err, is_err}
+use Rattle.limits.specs.Outcome.{refusal}
+use Rattle.limits.specs.declared.Refused.{Refused}
 use Rattle.limits.specs.Numbers.{max_count, max_width}
-use Rattle.limits.specs.Questions.{◌▸◌, first_no}
+use Rattle.limits.specs.Questions.{first_no}
 use Rattle.limits.specs.Asks.{width_asks, store_asks}
-use Rattle.limits.proofs.Questions.{▸-zero, zero-▸, ▸-assoc, both, first_no-append, on_yes-yes, on_yes-no, accepted-says}
+use Rattle.limits.proofs.Questions.{both, first_no-append, on_yes-yes, on_yes-no, accepted-says}
 use Rattle.words.specs.Store.{put_words}
 use Rattle.narg.specs.Reader.{Got, got, stop, Reader, ◌>>=◌, word, items}
 use Rattle.narg.specs.Cursor.{cursor, read_u32}
 use Rattle.narg.specs.declared.Cursor.{Cursor}
-use Rattle.narg.specs.declared.Word.TheVariants.{Read as ReadWord, Short}
 use Rattle.narg.proofs.At.{read_u32-stop, word_next}
 use Rattle.header.specs.declared.Field.{Field}
-use Rattle.header.specs.declared.Field.TheVariants.{Read, Refused}
 use Rattle.items.specs.Told.{ListTold, kept_on}
 use Rattle.items.specs.Answers.{got_after, padded, store_after, list_end, list_field, pieces_asks, ListReads}
 
@@ -34,22 +35,22 @@ put-padded len words =
 
 -- ---- a count and as many items, by what stands at the place
 module _ {A : Type 0} (p : Reader A) (size : A → ℕ) (room : ℕ) (s : List ℕ) (at : ℕ) where
-  pub count-short : read_u32 s at ≡ Short → (word >>= λ n. items p size room 0 n) (drop at s) ≡ stop 20
+  pub count-short : read_u32 s at ≡ None → (word >>= λ n. items p size room 0 n) (drop at s) ≡ stop 20
   count-short e = rw (read_u32-stop s at e)
 
-  pub count-on : (n : ℕ) (next : Cursor) → read_u32 s at ≡ ReadWord n next
+  pub count-on : (n : ℕ) (next : Cursor) → read_u32 s at ≡ Some (n, next)
       → items p size room 0 n (drop next.at s) ≡ (word >>= λ m. items p size room 0 m) (drop at s)
   count-on n next e = rw (word_next s at n next e)
 
 -- ---- 1 and 2 first
-pub store-no : (len room no : ℕ) → no ≡ 0 ▸ first_no (store_asks len) → len ≡ room → no ≡ first_no (store_asks room)
-store-no len room k e l = rw (e, l) (simp (zero-▸, ▸-zero))
+pub store-no : (len room k : ℕ) → first_no (store_asks len) ≡ k → len ≡ room → k ≡ first_no (store_asks room)
+store-no len room k e l = sym e ∙ ap (λ (n : ℕ). first_no (store_asks n)) l
 
 pub store-fits : (room no : ℕ) → no ≡ first_no (store_asks room) → no ≡ 0 → room ≤ max_count
 store-fits room k e z = leb-true room max_count (accepted-says (store_asks room) tt (sym e ∙ z) 0)
 
-pub pieces-no : (width len room a no : ℕ) → a ≡ 0 ▸ first_no (width_asks width) → no ≡ a ▸ first_no (store_asks len) → len ≡ room → no ≡ first_no (pieces_asks width room)
-pieces-no width len room a k e f l = rw (f, e, l) (simp (▸-assoc, zero-▸, ▸-zero))
+pub pieces-no : (width len room k : ℕ) → first_no (pieces_asks width len) ≡ k → len ≡ room → k ≡ first_no (pieces_asks width room)
+pieces-no width len room k e l = sym e ∙ ap (λ (n : ℕ). first_no (pieces_asks width n)) l
 
 pub pieces-fit : (width room no : ℕ) → no ≡ first_no (pieces_asks width room) → no ≡ 0 → (room ≤ max_count) × (width ≤ max_width)
 pieces-fit width room k e z =
@@ -64,21 +65,30 @@ module _ {A : Type 0} (no : ℕ) (g : Got A) (k : ℕ) (e : k ≡ no) where
   pub after-yes : k ≡ 0 → got_after no g ≡ g
   after-yes z = rw (← e) (on_yes-yes k g (stop k) z)
 
+-- the store after a list that was answered
+pub kept-err : (r : Result Field Refused) (s : List ℕ) → is_err r ≡ true → replicate (length s) 0 ≡ kept_on r s
+kept-err (Ok f) s e = cc
+kept-err (Err why) s e = refl
+
+pub kept-ok : (r : Result Field Refused) (s : List ℕ) → is_err r ≡ false → s ≡ kept_on r s
+kept-ok (Ok f) s e = refl
+kept-ok (Err why) s e = cc
+
 -- ---- a list read into a store
 module _ {A : Type 0} (words_of : List A → List ℕ) (g : Got (List A)) (at : ℕ) (before : List ℕ) where
-  pub list-no : (k : ℕ) (last : List ℕ) → g ≡ stop k → last ≡ replicate (length before) 0 → ListReads words_of g at before last (Refused k)
-  list-no k last e z = record { answer = rw e; store = rw e z }
+  pub list-no : (r : Result Field Refused) (why : Refused) (last : List ℕ) → r ≡ Err why → g ≡ stop why.0 → last ≡ replicate (length before) 0 → ListReads words_of g at before last r
+  list-no r why last i e z = record { answer = rw (i, e); store = rw e z }
 
-  told-reads : (bytes filled after last : List ℕ) (list r : Field) → filled ≡ replicate (length before) 0 → length after ≡ length before
+  told-reads : (bytes filled after last : List ℕ) (list r : Result Field Refused) → filled ≡ replicate (length before) 0 → length after ≡ length before
       → ListTold g words_of bytes (at + 4) filled after list → r ≡ list → last ≡ kept_on list after → ListReads words_of g at before last r
   unfolding ListTold
-  told-reads bytes filled after last (Read n words next) r z l t e k =
+  told-reads bytes filled after last (Ok f) r z l t e k =
       let p = t.past in
-      let c : next.at ≡ list_end at (words_of t.items) = omega arith in
+      let c : f.next.at ≡ list_end at (words_of t.items) = omega arith in
       record {
         answer =
             e
-            ∙ (λ i. Read (t.count i) (t.size i) (record { at = c i }))
+            ∙ (λ i. Ok (record { value = t.count i; extra = t.size i; next = record { at = c i } }))
             ∙ sym (ap (list_field words_of at) t.reads);
         store =
             k ∙ t.stored
@@ -86,25 +96,27 @@ module _ {A : Type 0} (words_of : List A → List ℕ) (g : Got (List A)) (at : 
             ∙ put-padded (length before) (words_of t.items)
             ∙ sym (ap (store_after words_of (length before)) t.reads);
       }
-  told-reads bytes filled after last (Refused j) r z l t e k =
+  told-reads bytes filled after last (Err why) r z l t e k =
       record {
         answer = e ∙ sym (ap (list_field words_of at) t);
         store = k ∙ ap (λ (n : ℕ). replicate {A = ℕ} n 0) l ∙ sym (ap (store_after words_of (length before)) t);
       }
 
-  pub list-reads : (h : Got (List A)) → g ≡ h → (bytes filled after last : List ℕ) (list r : Field) → filled ≡ replicate (length before) 0 → length after ≡ length before
+  pub list-reads : (h : Got (List A)) → g ≡ h → (bytes filled after last : List ℕ) (list r : Result Field Refused) → filled ≡ replicate (length before) 0 → length after ≡ length before
       → ListTold h words_of bytes (at + 4) filled after list → r ≡ list → last ≡ kept_on list after → ListReads words_of g at before last r
   list-reads h i bytes filled after last list r z l t e k =
       told-reads bytes filled after last list r z l (subst (λ (y : Got (List A)). ListTold y words_of bytes (at + 4) filled after list) (sym i) t) e k
 
 -- ---- what an answer tells
-module _ {A : Type 0} (words_of : List A → List ℕ) (g : Got (List A)) (at : ℕ) (before after : List ℕ) (r : Field) (h : ListReads words_of g at before after r) where
-  pub list-refused : (k : ℕ) → r ≡ Refused k → g ≡ stop k
-  list-refused k i = go g (sym h.answer ∙ i)
+module _ {A : Type 0} (words_of : List A → List ℕ) (g : Got (List A)) (at : ℕ) (before after : List ℕ) (r : Result Field Refused) (h : ListReads words_of g at before after r) where
+  pub list-refused : (why : Refused) → r ≡ Err why → g ≡ stop why.0
+  list-refused why i = go g (sym h.answer ∙ i)
     where
-      go : (y : Got (List A)) → list_field words_of at y ≡ Refused k → y ≡ stop k
+      go : (y : Got (List A)) → list_field words_of at y ≡ Err why → y ≡ stop why.0
       go (got xs rest) z = absurd (let y : ◌≡◌ {A = ℕ} 0 1 = cc in omega arith)
-      go (stop j) z = let y : j ≡ k = cc in ap (λ (n : ℕ). stop n) y
+      go (stop j) z =
+          let y : refusal j ≡ why = cc in
+          ap (λ (r : Refused). stop r.0) y
 
   -- a list that was got, and stored
   pub record ListGot (n words : ℕ) (next : Cursor) : Type 0 where
@@ -116,21 +128,19 @@ module _ {A : Type 0} (words_of : List A → List ℕ) (g : Got (List A)) (at : 
     pub past : next.at ≡ list_end at (words_of items)
     pub stored : after ≡ padded (length before) (words_of items)
 
-  pub list-got : (n words : ℕ) (next : Cursor) → r ≡ Read n words next → ListGot n words next
-  list-got n words next i = go g refl (sym h.answer ∙ i)
+  pub list-got : (f : Field) → r ≡ Ok f → ListGot f.value f.extra f.next
+  list-got f i = go g refl (sym h.answer ∙ i)
     where
-      go : (y : Got (List A)) → g ≡ y → list_field words_of at y ≡ Read n words next → ListGot n words next
-      go (got xs rest) f z =
-          let c : length xs ≡ n = cc in
-          let w : length (words_of xs) ≡ words = cc in
-          let p : cursor (list_end at (words_of xs)) ≡ next = cc in
+      go : (y : Got (List A)) → g ≡ y → list_field words_of at y ≡ Ok f → ListGot f.value f.extra f.next
+      go (got xs rest) e z =
+          let p : record { value = length xs; extra = length (words_of xs); next = cursor (list_end at (words_of xs)) } ≡ f = cc in
           record {
             items = xs;
             rest = rest;
-            reads = f;
-            count = sym c;
-            size = sym w;
-            past = ap (λ (x : Cursor). x.at) (sym p);
-            stored = h.store ∙ ap (store_after words_of (length before)) f;
+            reads = e;
+            count = ap (λ (x : Field). x.value) (sym p);
+            size = ap (λ (x : Field). x.extra) (sym p);
+            past = ap (λ (x : Field). x.next.at) (sym p);
+            stored = h.store ∙ ap (store_after words_of (length before)) e;
           }
-      go (stop j) f z = absurd (let y : ◌≡◌ {A = ℕ} 0 1 = cc in omega arith)
+      go (stop j) e z = absurd (let y : ◌≡◌ {A = ℕ} 0 1 = cc in omega arith)

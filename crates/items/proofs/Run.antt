@@ -8,12 +8,13 @@ use mathlib.Core.List.{List, [], ◌∷◌, ◌++◌, append_assoc, append-nil}
 use native.Mathlib.Omega.{arith}
 use lib.Dec.{leb}
 use lib.ListN.{length, drop, length-append}
+use Rattle.std.specs.Prelude.{Ok, Err}
+use Rattle.limits.specs.declared.Refused.{Refused}
 use Rattle.words.specs.Store.{put_words}
 use Rattle.words.specs.Pieces.{flat}
 use Rattle.narg.specs.Reader.{Got, got, stop, Reader, on_got, ◌>>=◌, ◌>>◌, give, need, below, times, items, each}
 use Rattle.narg.specs.Cursor.{item, read_words, read_words_out}
 use Rattle.narg.specs.declared.Cursor.{Cursor}
-use Rattle.narg.specs.declared.Item.TheVariants.{Read as ReadItem, Refused as RefusedItem}
 use Rattle.narg.proofs.Fields.{never}
 use Rattle.narg.proofs.Lists.{each_append, items_more}
 use Rattle.narg.proofs.Items.{read_words-read, read_words-refused}
@@ -33,8 +34,9 @@ give-snoc (stop k) done a = refl
 pub stop_is : {A B : Type 0} (j k : ℕ) → ◌≡◌ {A = Got A} (stop j) (stop k) → ◌≡◌ {A = Got B} (stop j) (stop k)
 stop_is j k e = let z : j ≡ k = cc in ap (λ (n : ℕ). stop n) z
 
-pub pred-is : (n : ℕ) → 0 < n → n ≡ suc (n - 1)
-pred-is n h = omega arith
+-- how many are left after i of n
+pub left-is : (n i : ℕ) → i < n → n - i ≡ suc (n - (i + 1))
+left-is n i h = omega arith
 
 module _ {A : Type 0} (p : Reader A) (size : A → ℕ) where
   -- an item that is refused, by its own questions or by 10
@@ -53,21 +55,21 @@ module _ {A : Type 0} (p : Reader A) (size : A → ℕ) where
       go (stop j) f = stop_is j k f
 
   module _ (words : A → List ℕ) (bytes : List ℕ) (start n : ℕ) (out₀ : List ℕ) where
-    pub record Run (out : List ℕ) (at to left : ℕ) : Type 0 where
+    pub record Run (out : List ℕ) (at to i : ℕ) : Type 0 where
       pub done : List A
-      pub rest : on_got (items p size (length out₀) to left (drop at bytes)) (λ l. give (done ++ l)) ≡ items p size (length out₀) 0 n (drop start bytes)
-      pub count : length done + left ≡ n
+      pub rest : on_got (items p size (length out₀) to (n - i) (drop at bytes)) (λ l. give (done ++ l)) ≡ items p size (length out₀) 0 n (drop start bytes)
+      pub count : length done ≡ i
       pub used : to ≡ length (each words done)
       pub fits : to ≤ length out₀
       pub place : at ≡ start + 4 * to
       pub same : length out ≡ length out₀
       pub stored : out ≡ put_words 0 (each words done) out₀
 
-    pub run-start : Run out₀ start 0 n
+    pub run-start : Run out₀ start 0 0
     run-start = record {
       done = [];
-      rest = give-nil (items p size (length out₀) 0 n (drop start bytes));
-      count = omega arith;
+      rest = let z : n - 0 ≡ n = omega arith in rw z (give-nil (items p size (length out₀) 0 n (drop start bytes)));
+      count = refl;
       used = refl;
       fits = omega arith;
       place = omega arith;
@@ -75,18 +77,18 @@ module _ {A : Type 0} (p : Reader A) (size : A → ℕ) where
       stored = sym (put_words-nil 0 out₀);
     }
 
-    module _ (out : List ℕ) (at to left : ℕ) (r : Run out at to left) where
-      pub run-stop : 0 < left → (k : ℕ) → (p >>= λ a. need 10 (leb (to + size a) (length out₀))) (drop at bytes) ≡ stop k
+    module _ (out : List ℕ) (at to i : ℕ) (r : Run out at to i) where
+      pub run-stop : i < n → (k : ℕ) → (p >>= λ a. need 10 (leb (to + size a) (length out₀))) (drop at bytes) ≡ stop k
           → items p size (length out₀) 0 n (drop start bytes) ≡ stop k
       run-stop h k e =
-          let s = ap (λ (m : ℕ). items p size (length out₀) to m (drop at bytes)) (pred-is left h) ∙ items-no (length out₀) to (left - 1) (drop at bytes) k e in
+          let s = ap (λ (m : ℕ). items p size (length out₀) to m (drop at bytes)) (left-is n i h) ∙ items-no (length out₀) to (n - (i + 1)) (drop at bytes) k e in
           sym r.rest ∙ ap (λ (g : Got (List A)). on_got g (λ l. give (r.done ++ l))) s
 
-      pub run_more : 0 < left → (a : A) (next : ℕ) (last : List ℕ) → p (drop at bytes) ≡ got a (drop next bytes) → next ≡ at + 4 * size a → size a ≡ length (words a)
-          → to + size a ≤ length out₀ → last ≡ put_words to (words a) out → Run last next (to + size a) (left - 1)
+      pub run_more : i < n → (a : A) (next : ℕ) (last : List ℕ) → p (drop at bytes) ≡ got a (drop next bytes) → next ≡ at + 4 * size a → size a ≡ length (words a)
+          → to + size a ≤ length out₀ → last ≡ put_words to (words a) out → Run last next (to + size a) (i + 1)
       run_more h a next last e past z f w =
-          let s = ap (λ (m : ℕ). items p size (length out₀) to m (drop at bytes)) (pred-is left h)
-          ∙ items_more p (drop at bytes) size (length out₀) to (left - 1) a (drop next bytes) e f in
+          let s = ap (λ (m : ℕ). items p size (length out₀) to m (drop at bytes)) (left-is n i h)
+          ∙ items_more p (drop at bytes) size (length out₀) to (n - (i + 1)) a (drop next bytes) e f in
           let c = r.count in
           let u = r.used in
           let k = r.fits in
@@ -100,7 +102,7 @@ module _ {A : Type 0} (p : Reader A) (size : A → ℕ) where
           record {
             done = r.done ++ (a ∷ []);
             rest =
-                give-snoc (items p size (length out₀) (to + size a) (left - 1) (drop next bytes)) r.done a
+                give-snoc (items p size (length out₀) (to + size a) (n - (i + 1)) (drop next bytes)) r.done a
                 ∙ sym (ap (λ (g : Got (List A)). on_got g (λ l. give (r.done ++ l))) s)
                 ∙ r.rest;
             count = omega arith;
@@ -115,10 +117,10 @@ module _ {A : Type 0} (p : Reader A) (size : A → ℕ) where
                 ∙ ap (λ (t : List ℕ). put_words 0 t out₀) (sym x);
           }
 
-      pub run-listed : left ≤ 0 → (words_of : List A → List ℕ) → ((xs : List A) → each words xs ≡ words_of xs) → (next : Cursor) → next.at ≡ at
+      pub run-listed : i ≡ n → (words_of : List A → List ℕ) → ((xs : List A) → each words xs ≡ words_of xs) → (next : Cursor) → next.at ≡ at
           → Listed (items p size (length out₀) 0 n (drop start bytes)) words_of bytes start out₀ out n to next
-      run-listed h words_of same next i =
-          let z : left ≡ 0 = omega arith in
+      run-listed h words_of same next w =
+          let z : n - i ≡ 0 = omega arith in
           let e = ap (λ (m : ℕ). on_got (items p size (length out₀) to m (drop at bytes)) (λ l. give (r.done ++ l))) (sym z) ∙ r.rest in
           let c = r.count in
           let u = r.used in
@@ -131,7 +133,7 @@ module _ {A : Type 0} (p : Reader A) (size : A → ℕ) where
             reads =
                 sym e
                 ∙ ap (λ (l : List A). got l (drop at bytes)) (append-nil r.done)
-                ∙ ap (λ (m : ℕ). got r.done (drop m bytes)) (sym i);
+                ∙ ap (λ (m : ℕ). got r.done (drop m bytes)) (sym w);
             count = omega arith;
             size = omega arith;
             past = omega arith;
@@ -143,32 +145,32 @@ pub each-flat : (qs : List (List ℕ)) → each (λ (q : List ℕ). q) qs ≡ fl
 each-flat [] = refl
 each-flat (q ∷ qs) = ap (λ (l : List ℕ). q ++ l) (each-flat qs)
 
-module _ (size bound k : ℕ) (bytes : List ℕ) (start n : ℕ) (out₀ out : List ℕ) (at to left : ℕ)
-    (r : Run (times (below bound k) size) (λ q. size) (λ q. q) bytes start n out₀ out at to left) (h : 0 < left) where
-  pub run-piece : (next : Cursor) (last : List ℕ) → read_words bytes at out to size bound k ≡ ReadItem next → last ≡ read_words_out bytes at out to size bound k
-      → Run (times (below bound k) size) (λ q. size) (λ q. q) bytes start n out₀ last next.at (to + size) (left - 1)
+module _ (size bound k : ℕ) (bytes : List ℕ) (start n : ℕ) (out₀ out : List ℕ) (at to i : ℕ)
+    (r : Run (times (below bound k) size) (λ q. size) (λ q. q) bytes start n out₀ out at to i) (h : i < n) where
+  pub run-piece : (next : Cursor) (last : List ℕ) → read_words bytes at out to size bound k ≡ Ok next → last ≡ read_words_out bytes at out to size bound k
+      → Run (times (below bound k) size) (λ q. size) (λ q. q) bytes start n out₀ last next.at (to + size) (i + 1)
   run-piece next last e w =
       let g = read_words-read bytes at out to size bound k next e in
       let l = r.same in
       let f = g.room in
-      run_more (times (below bound k) size) (λ q. size) (λ q. q) bytes start n out₀ out at to left r h g.ws next.at last
+      run_more (times (below bound k) size) (λ q. size) (λ q. q) bytes start n out₀ out at to i r h g.ws next.at last
       (g.reads ∙ ap (λ (m : ℕ). got g.ws (drop m bytes)) (sym g.past)) g.past (sym g.count) (omega arith) (w ∙ g.stored)
 
-  pub run-piece-no : (j : ℕ) → read_words bytes at out to size bound k ≡ RefusedItem j
-      → items (times (below bound k) size) (λ q. size) (length out₀) 0 n (drop start bytes) ≡ stop j
+  pub run-piece-no : (why : Refused) → read_words bytes at out to size bound k ≡ Err why
+      → items (times (below bound k) size) (λ q. size) (length out₀) 0 n (drop start bytes) ≡ stop why.0
   unfolding item
-  run-piece-no j e =
+  run-piece-no why e =
       let l = r.same in
-      let f = (read_words-refused bytes at out to size bound k j e).0 in
-      run-stop (times (below bound k) size) (λ q. size) (λ q. q) bytes start n out₀ out at to left r h j
+      let f = (read_words-refused bytes at out to size bound k why.0 e).0 in
+      run-stop (times (below bound k) size) (λ q. size) (λ q. q) bytes start n out₀ out at to i r h why.0
       (ap (λ (m : ℕ). on_got (times (below bound k) size (drop at bytes)) (λ q. need 10 (leb (to + size) m))) (sym l)
       ∙ go (times (below bound k) size (drop at bytes)) f)
     where
-      asked : (q : List ℕ) (s : List ℕ) (b : Bool) → on_got (need 10 b s) (λ u. give q) ≡ stop j → need 10 b s ≡ stop j
+      asked : (q : List ℕ) (s : List ℕ) (b : Bool) → on_got (need 10 b s) (λ u. give q) ≡ stop why.0 → need 10 b s ≡ stop why.0
       asked q s true f = absurd (never (sym f))
-      asked q s false f = stop_is 10 j f
+      asked q s false f = stop_is 10 why.0 f
 
-      go : (g : Got (List ℕ)) → on_got g (λ q. need 10 (leb (to + size) (length out)) >> give q) ≡ stop j
-          → on_got g (λ q. need 10 (leb (to + size) (length out))) ≡ stop j
+      go : (g : Got (List ℕ)) → on_got g (λ q. need 10 (leb (to + size) (length out)) >> give q) ≡ stop why.0
+          → on_got g (λ q. need 10 (leb (to + size) (length out))) ≡ stop why.0
       go (got q s) f = asked q s (leb (to + size) (length out)) f
-      go (stop i) f = stop_is i j f
+      go (stop m) f = stop_is m why.0 f

@@ -1,13 +1,14 @@
 -- What the readers of lists answer, and what they leave of the store that they are lent. Assumes nothing.
-use Rattle.std.specs.Prelude.{ℕ, ◌+◌, ◌*◌, ◌-◌, ◌≡◌, List, ◌++◌, length, drop, replicate}
+use Rattle.std.specs.Prelude.{ℕ, ◌+◌, ◌*◌, ◌-◌, ◌≡◌, List, ◌++◌, length, drop, replicate, Result, Ok, Err}
 use Rattle.limits.specs.Questions.{Question, first_no, on_yes}
+use Rattle.limits.specs.Outcome.{refusal}
+use Rattle.limits.specs.declared.Refused.{Refused}
 use Rattle.limits.specs.Asks.{width_asks, store_asks}
 use Rattle.narg.specs.Reader.{Got, got, stop}
 use Rattle.narg.specs.Cursor.{cursor}
 use Rattle.allocator.specs.Slots.{Pair}
 use Rattle.expr.specs.Equation.{Equation}
 use Rattle.header.specs.declared.Field.{Field}
-use Rattle.header.specs.declared.Field.TheVariants.{Read, Refused}
 use Rattle.items.specs.Read.{read_publics, read_pieces, read_equations}
 
 -- what was got where a number is 0, else that number's refusal
@@ -30,9 +31,10 @@ abbrev pub list_end : ℕ → List ℕ → ℕ
 list_end at words = at + 4 * (1 + length words)
 
 -- a list that was read at a place: its count, how many words it takes, and the cursor past it; or its number
-abbrev pub list_field : {A : Type 0} → (List A → List ℕ) → (at : ℕ) → Got (List A) → Field
-list_field words_of at (got xs rest) = Read (length xs) (length (words_of xs)) (cursor (list_end at (words_of xs)))
-list_field words_of at (stop k) = Refused k
+abbrev pub list_field : {A : Type 0} → (List A → List ℕ) → (at : ℕ) → Got (List A) → Result Field Refused
+list_field words_of at (got xs rest) =
+    Ok (record { value = length xs; extra = length (words_of xs); next = cursor (list_end at (words_of xs)) })
+list_field words_of at (stop k) = Err (refusal k)
 
 -- ---- what a reader gets at a place, with a store of that many words: 1 and 2 first, then the list
 -- publics
@@ -53,6 +55,6 @@ unfoldable pub equations_got : (room : ℕ) (bytes : List ℕ) (at : ℕ) → Go
 equations_got room bytes at = got_after (first_no (store_asks room)) (read_equations room (drop at bytes))
 
 -- a list read at a place into a store: the answer, and the store afterwards
-pub record ListReads {A : Type 0} (words_of : List A → List ℕ) (g : Got (List A)) (at : ℕ) (before after : List ℕ) (r : Field) : Type 0 where
+pub record ListReads {A : Type 0} (words_of : List A → List ℕ) (g : Got (List A)) (at : ℕ) (before after : List ℕ) (r : Result Field Refused) : Type 0 where
   pub answer : r ≡ list_field words_of at g
   pub store : after ≡ store_after words_of (length before) g

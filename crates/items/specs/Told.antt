@@ -1,39 +1,32 @@
 -- What the answer of a private reader tells of the bytes at a cursor: with a refusal, that the definition's
 -- reader stops with that number; else what it got, and where it goes on. A refused reader may leave anything in
 -- the store that it writes to. Only private contracts cite what is here. Assumes nothing.
-use Rattle.std.specs.Prelude.{ℕ, ◌+◌, ◌*◌, ◌≤◌, ◌≡◌, List, leb, length, drop, replicate}
+use Rattle.std.specs.Prelude.{ℕ, ◌+◌, ◌*◌, ◌≤◌, ◌≡◌, List, leb, length, drop, replicate, Result, Ok, Err}
+use Rattle.limits.specs.declared.Refused.{Refused}
 use Rattle.words.specs.Store.{put_words}
 use Rattle.narg.specs.Reader.{Got, got, stop, ◌>>=◌, need}
 use Rattle.narg.specs.declared.Cursor.{Cursor}
-use Rattle.narg.specs.declared.Item.{Item}
-use Rattle.narg.specs.declared.Item.TheVariants.{Read as ReadItem, Refused as RefusedItem}
 use Rattle.allocator.specs.Slots.{Pair, pair}
 use Rattle.expr.specs.Equation.{Term, Equation, term_words, equation_words}
 use Rattle.header.specs.declared.Field.{Field}
-use Rattle.header.specs.declared.Field.TheVariants.{Read, Refused}
 use Rattle.items.specs.Read.{read_equation, size_of}
 
--- a refused item as a refused field
-abbrev pub refused_of : Item → Field
-refused_of (ReadItem next) = Refused 0
-refused_of (RefusedItem k) = Refused k
-
 -- the store where that was answered: as it is, or all 0 after a refusal
-abbrev pub kept_on : Field → List ℕ → List ℕ
-kept_on (Read n words next) s = s
-kept_on (Refused k) s = replicate (length s) 0
+abbrev pub kept_on : Result Field Refused → List ℕ → List ℕ
+kept_on (Ok field) s = s
+kept_on (Err why) s = replicate (length s) 0
 
 -- ---- a word: where it was read, a number that the reader gets too, and that the cursor stands at its end
 -- an answer tells what a reader of a number gets
-unfoldable pub FieldTold : Got ℕ → (bytes : List ℕ) (end : ℕ) → Field → Type 0
-FieldTold g bytes end (Read n words next) = (g ≡ got n (drop next.at bytes)) × (next.at ≡ end)
-FieldTold g bytes end (Refused k) = g ≡ stop k
+unfoldable pub FieldTold : Got ℕ → (bytes : List ℕ) (end : ℕ) → Result Field Refused → Type 0
+FieldTold g bytes end (Ok f) = (g ≡ got f.value (drop f.next.at bytes)) × (f.next.at ≡ end)
+FieldTold g bytes end (Err why) = g ≡ stop why.0
 
 -- ---- a wire and a unit
 -- an answer tells what a reader of a pair gets, by its two numbers
-unfoldable pub PairTold : Got Pair → (bytes : List ℕ) (end : ℕ) → Field → Type 0
-PairTold g bytes end (Read var value next) = (g ≡ got (pair var value) (drop next.at bytes)) × (next.at ≡ end)
-PairTold g bytes end (Refused k) = g ≡ stop k
+unfoldable pub PairTold : Got Pair → (bytes : List ℕ) (end : ℕ) → Result Field Refused → Type 0
+PairTold g bytes end (Ok f) = (g ≡ got (pair f.value f.extra) (drop f.next.at bytes)) × (f.next.at ≡ end)
+PairTold g bytes end (Err why) = g ≡ stop why.0
 
 -- ---- a list of items at a place: their count and how many words they take, written from the start of a store on
 -- what was read: items that the reader gets too, stored at the front, the rest as it was
@@ -46,9 +39,9 @@ pub record Listed {A : Type 0} (g : Got (List A)) (words_of : List A → List �
   pub stored : after ≡ put_words 0 (words_of items) before
 
 -- an answer tells what a reader of a list gets; a refused one may leave anything in the store
-unfoldable pub ListTold : {A : Type 0} → Got (List A) → (List A → List ℕ) → (bytes : List ℕ) (start : ℕ) (before after : List ℕ) → Field → Type 0
-ListTold g words_of bytes start before after (Read n words next) = Listed g words_of bytes start before after n words next
-ListTold g words_of bytes start before after (Refused k) = g ≡ stop k
+unfoldable pub ListTold : {A : Type 0} → Got (List A) → (List A → List ℕ) → (bytes : List ℕ) (start : ℕ) (before after : List ℕ) → Result Field Refused → Type 0
+ListTold g words_of bytes start before after (Ok f) = Listed g words_of bytes start before after f.value f.extra f.next
+ListTold g words_of bytes start before after (Err why) = g ≡ stop why.0
 
 -- ---- the terms of an equation: written from a place on, as far as the store holds them
 -- what was read: terms that the reader gets too, stored where there is room for all
@@ -59,9 +52,9 @@ pub record TermsGiven (g : Got (List Term)) (bytes : List ℕ) (start : ℕ) (be
   pub stored : place + length (term_words terms) ≤ length before → after ≡ put_words place (term_words terms) before
 
 -- an answer tells what a reader of terms gets
-unfoldable pub TermsTold : Got (List Term) → (bytes : List ℕ) (start : ℕ) (before after : List ℕ) (place : ℕ) → Field → Type 0
-TermsTold g bytes start before after place (Read t words next) = TermsGiven g bytes start before after place next
-TermsTold g bytes start before after place (Refused k) = g ≡ stop k
+unfoldable pub TermsTold : Got (List Term) → (bytes : List ℕ) (start : ℕ) (before after : List ℕ) (place : ℕ) → Result Field Refused → Type 0
+TermsTold g bytes start before after place (Ok f) = TermsGiven g bytes start before after place f.next
+TermsTold g bytes start before after place (Err why) = g ≡ stop why.0
 
 -- ---- an equation at a place of a store: its term count; or a refusal by its own questions, or by 10 after them
 -- what was read: an equation that the reader gets too, stored at its place
@@ -74,7 +67,7 @@ pub record EquationGiven (bytes : List ℕ) (at : ℕ) (before after : List ℕ)
   pub stored : after ≡ put_words place (equation_words value) before
 
 -- an answer tells what the reader of an equation gets, and 10 after it
-unfoldable pub EquationTold : (bytes : List ℕ) (at : ℕ) (before after : List ℕ) (place : ℕ) → Field → Type 0
-EquationTold bytes at before after place (Read t words next) = EquationGiven bytes at before after place t next
-EquationTold bytes at before after place (Refused k) =
-    (read_equation >>= λ e. need 10 (leb (place + size_of e) (length before))) (drop at bytes) ≡ stop k
+unfoldable pub EquationTold : (bytes : List ℕ) (at : ℕ) (before after : List ℕ) (place : ℕ) → Result Field Refused → Type 0
+EquationTold bytes at before after place (Ok f) = EquationGiven bytes at before after place f.value f.next
+EquationTold bytes at before after place (Err why) =
+    (read_equation >>= λ e. need 10 (leb (place + size_of e) (length before))) (drop at bytes) ≡ stop why.0

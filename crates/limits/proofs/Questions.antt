@@ -12,7 +12,7 @@ use mathlib.Core.Bool.{Bool, true, false, ◌&&◌}
 use mathlib.Core.List.{List, [], ◌∷◌, ◌++◌}
 use lib.Dec.{T, ltb}
 use lib.ListN.{length, get_or}
-use Rattle.limits.specs.Questions.{ask, ◌▸◌, Question, question, first_no, in_turn, on_yes}
+use Rattle.limits.specs.Questions.{ask, first_of_two, ◌▸◌, Question, question, first_no, in_turn, on_yes}
 
 -- ---- one question
 pub ask-yes : (k : ℕ) (b : Bool) → b ≡ true → ask k b ≡ 0
@@ -31,36 +31,36 @@ says-yes k false e = cc
 
 -- ---- the first no of two
 pub stays : (a b : ℕ) → (a ≡ 0 → ⊥) → a ▸ b ≡ a
-unfolding ◌▸◌
+unfolding first_of_two
 stays zero b h = absurd (h refl)
 stays (suc a) b h = refl
 
 pub goes_on : (a b : ℕ) → a ≡ 0 → a ▸ b ≡ b
-unfolding ◌▸◌
+unfolding first_of_two
 goes_on zero b e = refl
 goes_on (suc a) b e = cc
 
 pub both : (a b : ℕ) → a ▸ b ≡ 0 → (a ≡ 0) × (b ≡ 0)
-unfolding ◌▸◌
+unfolding first_of_two
 both zero b e = (refl, e)
 both (suc a) b e = (cc, cc)
 
 pub join : (a b : ℕ) → a ≡ 0 → b ≡ 0 → a ▸ b ≡ 0
-unfolding ◌▸◌
+unfolding first_of_two
 join zero b e f = f
 join (suc a) b e f = e
 
 pub zero-▸ : (b : ℕ) → 0 ▸ b ≡ b
-unfolding ◌▸◌
+unfolding first_of_two
 zero-▸ b = refl
 
 pub ▸-zero : (a : ℕ) → a ▸ 0 ≡ a
-unfolding ◌▸◌
+unfolding first_of_two
 ▸-zero zero = refl
 ▸-zero (suc a) = refl
 
 pub ▸-assoc : (a b c : ℕ) → (a ▸ b) ▸ c ≡ a ▸ (b ▸ c)
-unfolding ◌▸◌
+unfolding first_of_two
 ▸-assoc zero b c = refl
 ▸-assoc (suc a) b c = refl
 
@@ -81,7 +81,7 @@ on_yes-length (suc k) new old f = refl
 -- ---- a list of questions
 -- a list in two parts: the first no of the parts' first noes
 pub first_no-append : (ps qs : List Question) → first_no (ps ++ qs) ≡ first_no ps ▸ first_no qs
-unfolding ◌▸◌
+unfolding first_of_two
 first_no-append [] qs = refl
 first_no-append (p ∷ ps) qs =
     ap (λ (n : ℕ). ask p.number p.says ▸ n) (first_no-append ps qs)

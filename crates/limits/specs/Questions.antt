@@ -15,10 +15,13 @@ unfoldable pub ask : ℕ → Bool → ℕ
 ask k says = pick says 0 k
 
 -- the first no of two: the left one, or the right one where the left is 0
+unfoldable pub first_of_two : ℕ → ℕ → ℕ
+first_of_two zero b = b
+first_of_two (suc k) b = suc k
+
 infixr 20 ◌▸◌
-unfoldable pub ◌▸◌ : ℕ → ℕ → ℕ
-zero ▸ b = b
-suc k ▸ b = suc k
+abbrev pub ◌▸◌ : ℕ → ℕ → ℕ
+a ▸ b = first_of_two a b
 
 -- a question of document 01: its number, and what it says
 pub record Question : Type 0 where

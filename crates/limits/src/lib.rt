@@ -1,13 +1,13 @@
 // The numbers that every call keeps to, and how questions are put: in order, up to the first no.
 //
 // A call of the documents answers the number of the first of its questions that says no, or its result. In
-// code the questions are a chain: each takes the number that was answered before it (0 for none yet), and
-// an earlier no stays.
+// code each question is a line that ends in `?`, so the call goes on only where it says yes.
 
-#![tactic(auto)]
+#![tactic(auto, unfolding(crate::specs::Questions::ask, crate::specs::Questions::first_of_two))]
 
 ghost use Rattle.std.specs.Prelude.{◌≡◌};
-ghost use Rattle.limits.specs.Questions.{◌▸◌, ask, first_no};
+ghost use Rattle.limits.specs.Questions.{first_no};
+ghost use Rattle.limits.specs.Outcome.{asked, outcome_of, answer_number};
 ghost use Rattle.limits.specs.Asks.{width_asks, store_asks, count_asks};
 
 // The BabyBear prime p: a unit is below it.
@@ -34,45 +34,47 @@ pub const MATRIX_WORDS: usize = 576;
 // 2^32: a label has fewer bytes.
 pub const LABEL_END: usize = 4294967296;
 
-// What a call answers that has no value to give.
-#[derive(Clone, Copy)]
-pub enum Outcome {
-    Accepted,
-    Refused(u32),
+// The number of the question that said no, as docs/NUMBERS.md has it. (No enum with names: the documents, C and every
+// theorem of a refusal have the number.)
+#[derive(Clone, Copy, PartialEq, Eq)]
+pub struct Refused(pub u32);
+
+// One question, number k: is the answer yes?
+pub fn ask(k: u32, says: bool) -> Result<(), Refused>
+    ensures { result ≡ asked k says }
+{
+    if says { Ok(()) } else { Err(Refused(k)) }
 }
 
-// One question more, number k: an earlier no stays, else k where the answer is not yes.
-pub fn asked(no: u32, says: bool, k: u32) -> u32
-    ensures { result ≡ no ▸ ask k says }
+// Question 1.
+pub fn ask_width(width: u32) -> Result<(), Refused>
+    ensures { result ≡ outcome_of (first_no (width_asks width)) }
 {
-    if no != 0 {
-        return no;
-    }
-    if says {
-        return 0;
-    }
-    k
-}
-
-// Question 1, after the answer so far.
-pub fn asked_width(no: u32, width: u32) -> u32
-    ensures { result ≡ no ▸ first_no (width_asks width) }
-{
-    let a = asked(no, 1 <= width, 1);
-    asked(a, width <= MAX_WIDTH, 1)
+    ask(1, 1 <= width)?;
+    ask(1, width <= MAX_WIDTH)
 }
 
 // Question 2 of a lent word store, by its length.
-pub fn asked_store(no: u32, len: usize) -> u32
-    ensures { result ≡ no ▸ first_no (store_asks len) }
+pub fn ask_store(len: usize) -> Result<(), Refused>
+    ensures { result ≡ outcome_of (first_no (store_asks len)) }
 {
-    asked(no, len <= MAX_COUNT as usize, 2)
+    ask(2, len <= MAX_COUNT as usize)
 }
 
 // Question 2 of a relation's wire count.
-pub fn asked_count(no: u32, count: u32) -> u32
-    ensures { result ≡ no ▸ first_no (count_asks count) }
+pub fn ask_count(count: u32) -> Result<(), Refused>
+    ensures { result ≡ outcome_of (first_no (count_asks count)) }
 {
-    let a = asked(no, 1 <= count, 2);
-    asked(a, count <= MAX_COUNT, 2)
+    ask(2, 1 <= count)?;
+    ask(2, count <= MAX_COUNT)
+}
+
+// The documents' number of an answer: 0 where it is accepted.
+pub fn number<T>(answer: &Result<T, Refused>) -> u32
+    ensures { result ≡ answer_number answer.now }
+{
+    match answer {
+        Ok(_) => 0,
+        Err(refused) => refused.0,
+    }
 }

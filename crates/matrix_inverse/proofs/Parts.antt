@@ -128,22 +128,11 @@ module _ (w c : ℕ) (words : List ℕ) (h : c < w) (l : length words ≡ w * w)
     one-front : take (c * w - 0) one ≡ front
     one-front = mid-front (c * w) w front r behind front_length r-long
 
-    -- it lies within the words
-    pub one-room : c * w + w ≤ length one
-    one-room = rw (mid-length (c * w) w front r behind front_length r-long) (omega arith)
-
     -- copied into room for it, and lent from there
     pub one-held : (room held : List ℕ) → w ≤ length room → held ≡ fit_words 0 (take (c * w + w - c * w) (drop (c * w) one)) room
         → take (w - 0) held ≡ r
     one-held room held j e =
         rw (e, mid_row (c * w) w front r behind front_length r-long) (held-lent r room w r-long j)
-
-    -- what is asked of the rows before it
-    pub one-asked : (s : List ℕ) → s ≡ r → w ≤ max_width
-        → (c < length s) × (length s ≤ max_width) × (c ≤ max_width) × (length (take (c * w - 0) one) ≡ c * length s)
-    one-asked s e m =
-        let z : length s ≡ w = ap length e ∙ r-long in
-        (omega arith, omega arith, omega arith, ap length one-front ∙ front_length ∙ ap (λ (n : ℕ). c * n) (sym z))
 
     -- ---- the rows before it put there
     module _ (x : List ℕ) (j : length x ≡ length (take (c * w - 0) one)) where
@@ -158,10 +147,6 @@ module _ (w c : ℕ) (words : List ℕ) (h : c < w) (l : length words ≡ w * w)
       -- the words in three parts
       two_is : two ≡ x ++ (r ++ behind)
       two_is = ap (λ (t : List ℕ). x ++ t) (mid_back (c * w) w front r behind front_length r-long)
-
-      -- row c ends within them
-      pub two-room : c * w + w ≤ length two
-      two-room = rw (two_is, mid-length (c * w) w x r behind x-long r-long) (omega arith)
 
       -- the words behind it as they are lent
       two-last : take (length two - (c * w + w)) (drop (c * w + w) two) ≡ behind

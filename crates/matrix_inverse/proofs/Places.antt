@@ -10,7 +10,7 @@ use lib.Seq.{take-append-le, drop-append-le, take_at, drop_at, drop-drop, take-a
 use Rattle.limits.specs.Numbers.{max_width}
 use Rattle.words.specs.Pieces.{flat}
 use Rattle.words.specs.Store.{All, fit_words}
-use Rattle.words.proofs.Written.{fit-put, put-length}
+use Rattle.words.proofs.Written.{fit-put}
 use Rattle.permute.specs.Parameters.{rows_of}
 use Rattle.permute.proofs.Trace.{lent-piece, lent_length}
 use Rattle.matrix_inverse.specs.Inverse.{swap}
@@ -61,7 +61,7 @@ module _ (w n i : ℕ) (words : List ℕ) (h : i < n) (l : length words ≡ n * 
   row_small a b = omega (arith, row_room, mul-le-mul {n₁ = n} {m₁ = w} {n₂ = 24} {m₂ = 24} a b)
 
   -- row i as it is lent
-  row-lent : take (i * w + w - i * w) (drop (i * w) words) ≡ get_or (rows_of w n words) i []
+  pub row-lent : take (i * w + w - i * w) (drop (i * w) words) ≡ get_or (rows_of w n words) i []
   row-lent = lent-piece words (i * w) w ∙ sym (rows_of-at w n i words h)
 
   -- it has w words
@@ -74,12 +74,6 @@ module _ (w n i : ℕ) (words : List ℕ) (h : i < n) (l : length words ≡ n * 
       let f : i * w + length r ≤ length words = omega (arith, row_room) in
       rw (fit-put (i * w) r words f, k, ← drop-drop w (i * w) words) (rows_of-put w n i words r h l k)
 
-  -- the words stay as many
-  row-put-length : (r : List ℕ) → length r ≡ w → length (fit_words (i * w) r words) ≡ n * w
-  row-put-length r k =
-      let f : i * w + length r ≤ length words = omega (arith, row_room) in
-      ap length (fit-put (i * w) r words f) ∙ put-length (i * w) r words f ∙ l
-
 -- a list put into room for it, and lent from there
 pub held-lent : (r room : List ℕ) (w : ℕ) → length r ≡ w → w ≤ length room → take (w - 0) (fit_words 0 r room) ≡ r
 held-lent r room w k h =
@@ -87,24 +81,24 @@ held-lent r room w k h =
     let f : 0 + length r ≤ length room = omega arith in
     rw (z, fit-put 0 r room f) (take_at r (drop (0 + length r) room) w k)
 
--- two rows copied, and each put in the place of the other
-pub rows-swapped : (w i j : ℕ) (words a b first second one two : List ℕ) → i < w → j < w → length words ≡ w * w
-    → w ≤ length a → w ≤ length b
-    → first ≡ fit_words 0 (take (i * w + w - i * w) (drop (i * w) words)) a
-    → second ≡ fit_words 0 (take (j * w + w - j * w) (drop (j * w) words)) b
-    → one ≡ fit_words (i * w) (take (w - 0) second) words
-    → two ≡ fit_words (j * w) (take (w - 0) first) one
-    → rows_of w w two ≡ swap [] i j (rows_of w w words)
-rows-swapped w i j words a b first second one two hi hj l ha hb ef es eo et =
+-- row i copied into room for it, row j copied over it, and the copy put over row j
+pub rows-swapped : (w i j : ℕ) (words room first one back : List ℕ) → i < w → j < w → length words ≡ w * w
+    → first ≡ take (i * w + w - i * w) (drop (i * w) words)
+    → one ≡ take (i * w) words ++ take (j * w + w - j * w) (drop (j * w) words) ++ drop (i * w + (j * w + w - j * w)) words
+    → length one ≡ length words
+    → back ≡ take (w - 0) (first ++ drop (w - 0) room)
+    → rows_of w w (take (j * w) one ++ (back ++ drop (j * w + w - j * w) (drop (j * w) one))) ≡ swap [] i j (rows_of w w words)
+rows-swapped w i j words room first one back hi hj l ef eo lo eb =
     let r = get_or (rows_of w w words) i [] in
     let s = get_or (rows_of w w words) j [] in
     let lr : length r ≡ w = row-length w w i words hi l in
     let ls : length s ≡ w = row-length w w j words hj l in
-    let f : take (w - 0) first ≡ r = rw (ef, row-lent w w i words hi l) (held-lent r a w lr ha) in
-    let g : take (w - 0) second ≡ s = rw (es, row-lent w w j words hj l) (held-lent s b w ls hb) in
-    let o : one ≡ fit_words (i * w) s words = eo ∙ rw g in
-    let lo : length one ≡ w * w = ap length o ∙ row-put-length w w i words hi l s ls in
-    rw (et, f, row_put w w j one hj lo r lr, o, row_put w w i words hi l s ls)
+    let z : w - 0 ≡ w = omega arith in
+    let n : j * w + w - j * w ≡ w = omega arith in
+    let b : back ≡ r = eb ∙ rw (ef, row-lent w w i words hi l, z) (take_at r (drop w room) w lr) in
+    let o : one ≡ take (i * w) words ++ (s ++ drop w (drop (i * w) words))
+    = eo ∙ rw (row-lent w w j words hj l, n, append_assoc, drop-drop w (i * w) words) refl in
+    rw (b, n, rows_of-put w w j one r hj (lo ∙ l) lr, o, rows_of-put w w i words s hi l ls)
 
 -- ---- the words of rows
 -- all rows one after the other are the words

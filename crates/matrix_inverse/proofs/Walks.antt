@@ -6,31 +6,26 @@ use mathlib.Core.Bool.{Bool, true, false}
 use mathlib.Core.List.{List, [], ◌∷◌, ◌++◌, map, append-nil}
 use native.Mathlib.Omega.{arith}
 use native.Mathlib.Numerals.{add-one}
-use native.Mathlib.Nat.{mul-le-mul}
 use borrow.Author.Tests.{lt-ltb, le-ltb, eq-eqb, ne_eqb}
-use borrow.Rule.Slice.PartMut.{same_len_mid}
 use lib.Dec.{eqb, ltb}
 use lib.ListN.{length, get_or, take, drop, set, length-drop, drop_of_length-le}
-use lib.Seq.{drop-cons, take_all, length-take-le, get_or-take, get_or-drop}
-use Rattle.limits.specs.Numbers.{prime, max_width}
+use lib.Seq.{drop-cons, take_all, get_or-take, get_or-drop}
+use Rattle.limits.specs.Numbers.{prime}
 use Rattle.limits.specs.Questions.{pick}
 use Rattle.baby_bear.specs.Field.{add_unit, mul_unit}
 use Rattle.baby_bear.proofs.Ring.{add_unit-right}
 use Rattle.permute.specs.Parameters.{rows_of}
 use Rattle.permute.proofs.Keeps.{rows_of-length}
 use Rattle.permute.proofs.Parameters.{never}
+use Rattle.permute.proofs.Trace.{lent_length}
 use Rattle.matrix_inverse.specs.Inverse.{Inverse, inverse, none, swap, exchange, zeros_at, pivot, swap_columns, eliminate}
 use Rattle.matrix_inverse.specs.Words.{Eliminated}
-use Rattle.matrix_inverse.proofs.Places.{rows_of-at, rows_of-put}
+use Rattle.matrix_inverse.proofs.Places.{rows_of-at, rows_of-put, row_room, row-lent}
 
 -- a sum with a product, reduced once
 pub sum-product : (a f b : ℕ) → (a + f * b) % prime ≡ add_unit a (mul_unit f b)
 unfolding add_unit mul_unit
 sum-product a f b = sym (add_unit-right a (f * b))
-
--- the product of two words, with room for one more
-pub word-product : (a b : ℕ) → a < 4294967296 → b < 4294967296 → a * b ≤ 18446744065119617025
-word-product a b h k = mul-le-mul {n₁ = a} {m₁ = b} {n₂ = 4294967295} {m₂ = 4294967295} (omega arith) (omega arith)
 
 -- ---- rows turned one after the other
 -- one row more is turned: what is done and what is left are the same together
@@ -40,111 +35,76 @@ turn-set f [] i r h e = absurd (omega arith)
 turn-set f (a ∷ m) zero r h e = rw e
 turn-set f (a ∷ m) (suc i) r h e = ap (λ (l : List (List ℕ)). a ∷ l) (turn-set f m i r (omega arith) e)
 
--- the first i of n rows are turned by f, and the next one starts at `at`
-pub record Turning (f : List ℕ → List ℕ) (w n : ℕ) (first words : List ℕ) (i at : ℕ) : Type 0 where
-  pub rows : take i (rows_of w n words) ++ map f (drop i (rows_of w n words)) ≡ map f (rows_of w n first)
-  pub place : at ≡ i * w
-  pub kept : length words ≡ n * w
-  pub within : i ≤ n
+-- the first i of n rows are turned by f
+abbrev pub Turning : (List ℕ → List ℕ) → (w n : ℕ) → (first words : List ℕ) → ℕ → Type 0
+Turning f w n first words i =
+    take i (rows_of w n words) ++ map f (drop i (rows_of w n words)) ≡ map f (rows_of w n first)
 
-module _ (f : List ℕ → List ℕ) (w n : ℕ) (first : List ℕ) where
-  -- none is yet
-  pub turning-start : length first ≡ n * w → Turning f w n first first 0 0
-  turning-start l = record { rows = refl; place = omega arith; kept = l; within = omega arith }
+module _ (f : List ℕ → List ℕ) (w n : ℕ) (first words : List ℕ) (i : ℕ) (t : Turning f w n first words i) where
+  -- all of them are
+  pub turning-done : n ≤ i → rows_of w n words ≡ map f (rows_of w n first)
+  turning-done h =
+      let k : length (rows_of w n words) ≤ i = omega (arith, rows_of-length w n words) in
+      let e : take i (rows_of w n words) ++ map f (drop i (rows_of w n words)) ≡ rows_of w n words
+      = rw (take_all i (rows_of w n words) k, drop_of_length-le (rows_of w n words) k) (append-nil (rows_of w n words)) in
+      sym e ∙ t
 
-  module _ (words : List ℕ) (i at : ℕ) (t : Turning f w n first words i at) where
-    -- all of them are
-    pub turning-done : n ≤ i → rows_of w n words ≡ map f (rows_of w n first)
-    turning-done h =
-        let k : length (rows_of w n words) ≤ i = omega (arith, rows_of-length w n words) in
-        let e : take i (rows_of w n words) ++ map f (drop i (rows_of w n words)) ≡ rows_of w n words
-        = rw (take_all i (rows_of w n words) k, drop_of_length-le (rows_of w n words) k) (append-nil (rows_of w n words)) in
-        sym e ∙ t.rows
-
-    -- the next row lies within the words
-    pub turning-room : i < n → at + w ≤ length words
-    turning-room h = omega (arith, t.place, t.kept, mul-le-mul {n₁ = suc i} {m₁ = w} {n₂ = n} {m₂ = w} h (omega arith))
-
-    -- which are at most 24 rows of 24
-    pub turning-small : n ≤ max_width → w ≤ max_width → i < n → at + w ≤ 576
-    turning-small hn hw h = omega (arith, turning-room h, t.kept, mul-le-mul {n₁ = n} {m₁ = w} {n₂ = 24} {m₂ = 24} hn hw)
-
-    -- as it is lent it has w words
-    pub turning-lent : i < n → length (take (at + w - at) (drop at words)) ≡ w
-    turning-lent h =
-        let s : at + w - at ≡ w = omega arith in
-        rw s (length-take-le w (drop at words) (simp length-drop (omega (arith, turning-room h))))
-
-    -- it's turned
-    pub turning-turn : i < n → (r : List ℕ) → r ≡ f (take (at + w - at) (drop at words)) → length r ≡ length (take (at + w - at) (drop at words))
-        → Turning f w n first (take at words ++ (r ++ drop (at + w - at) (drop at words))) (i + 1) (at + w)
-    turning-turn h r e l =
-        let s : at + w - at ≡ w = omega arith in
-        let lr : length r ≡ w = l ∙ turning-lent h in
-        let p : rows_of w n (take at words ++ (r ++ drop (at + w - at) (drop at words))) ≡ set (rows_of w n words) i r
-        = rw (s, t.place) (rows_of-put w n i words r h t.kept lr) in
-        let q : r ≡ f (get_or (rows_of w n words) i []) = e ∙ rw (s, t.place, rows_of-at w n i words h) in
-        record {
-          rows = rw (p, add-one) (turn-set f (rows_of w n words) i r (omega (arith, rows_of-length w n words)) q ∙ t.rows);
-          place = omega (arith, t.place);
-          kept = same_len_mid at (at + w - at) words r l ∙ t.kept;
-          within = omega arith;
-        }
+  -- the next one is turned as it is lent
+  pub turning-turn : i < n → length words ≡ n * w → (r : List ℕ)
+      → r ≡ f (take (i * w + w - i * w) (drop (i * w) words)) → length r ≡ length (take (i * w + w - i * w) (drop (i * w) words))
+      → Turning f w n first (take (i * w) words ++ (r ++ drop (i * w + w - i * w) (drop (i * w) words))) (i + 1)
+  turning-turn h l r e k =
+      let s : i * w + w - i * w ≡ w = omega arith in
+      let lr : length r ≡ w = k ∙ lent_length words (i * w) w (row_room w n i words h l) in
+      let p : rows_of w n (take (i * w) words ++ (r ++ drop (i * w + w - i * w) (drop (i * w) words))) ≡ set (rows_of w n words) i r
+      = rw s (rows_of-put w n i words r h l lr) in
+      let q : r ≡ f (get_or (rows_of w n words) i []) = e ∙ ap f (row-lent w n i words h l) in
+      rw (p, add-one) (turn-set f (rows_of w n words) i r (omega (arith, rows_of-length w n words)) q ∙ t)
 
 -- ---- the first row that can be solved
--- it is looked for from row i on, which starts at `at`
-pub record Seeking (w c : ℕ) (words : List ℕ) (i at : ℕ) : Type 0 where
-  pub found : i + zeros_at c (drop i (rows_of w w words)) ≡ pivot c (rows_of w w words)
-  pub place : at ≡ i * w
-  pub within : i ≤ w
+-- it is looked for from row i on
+abbrev pub Seeking : (w c : ℕ) → List ℕ → ℕ → Type 0
+Seeking w c words i = i + zeros_at c (drop i (rows_of w w words)) ≡ pivot c (rows_of w w words)
 
 module _ (w c : ℕ) (words : List ℕ) where
   -- at first from row c on
-  pub seeking-start : c ≤ w → Seeking w c words c (c * w)
+  pub seeking-start : Seeking w c words c
   unfolding pivot
-  seeking-start h = record { found = refl; place = refl; within = h }
+  seeking-start = refl
 
-  module _ (i at : ℕ) (s : Seeking w c words i at) where
+  module _ (i : ℕ) (s : Seeking w c words i) where
     -- no row is left: there's none
-    pub seeking-none : w ≤ i → i ≡ pivot c (rows_of w w words)
+    pub seeking-none : i ≡ w → w ≡ pivot c (rows_of w w words)
     unfolding zeros_at
     seeking-none h =
         let k : length (rows_of w w words) ≤ i = omega (arith, rows_of-length w w words) in
-        let e : i + zeros_at c (drop i (rows_of w w words)) ≡ i = rw (drop_of_length-le (rows_of w w words) k) (omega arith) in
-        sym e ∙ s.found
+        let e : i + zeros_at c (drop i (rows_of w w words)) ≡ w = rw (drop_of_length-le (rows_of w w words) k) (omega arith) in
+        sym e ∙ s
 
     module _ (h : i < w) where
-      -- row i lies within the words
-      pub seeking-room : length words ≡ w * w → at + w ≤ length words
-      seeking-room l = omega (arith, s.place, l, mul-le-mul {n₁ = suc i} {m₁ = w} {n₂ = w} {m₂ = w} h (omega arith))
-
-      -- which are at most 24 rows of 24
-      pub seeking-small : length words ≡ w * w → w ≤ max_width → at + w ≤ 576
-      seeking-small l k = omega (arith, seeking-room l, l, mul-le-mul {n₁ = w} {m₁ = w} {n₂ = 24} {m₂ = 24} k k)
-
-      -- it's the first of the rows left
+      -- row i is the first of the rows left
       seeking-rest : drop i (rows_of w w words) ≡ get_or (rows_of w w words) i [] ∷ drop (suc i) (rows_of w w words)
       seeking-rest = drop-cons (rows_of w w words) i [] (omega (arith, rows_of-length w w words))
 
       -- its word c is what is looked at
-      seeking-word : c < w → get_or (get_or (rows_of w w words) i []) c 0 ≡ get_or words (at + c) 0
-      seeking-word k = rw (rows_of-at w w i words h, get_or-take w (drop (i * w) words) c 0 k, get_or-drop (i * w) words c 0, s.place)
+      seeking-word : c < w → get_or (get_or (rows_of w w words) i []) c 0 ≡ get_or words (i * w + c) 0
+      seeking-word k = rw (rows_of-at w w i words h, get_or-take w (drop (i * w) words) c 0 k, get_or-drop (i * w) words c 0)
 
       -- it isn't 0: row i is the one
-      pub seeking-here : c < w → (get_or words (at + c) 0 % prime ≡ 0 → ⊥) → i ≡ pivot c (rows_of w w words)
+      pub seeking-here : c < w → (get_or words (i * w + c) 0 % prime ≡ 0 → ⊥) → i ≡ pivot c (rows_of w w words)
       unfolding zeros_at
       seeking-here k z =
           let e : i + zeros_at c (drop i (rows_of w w words)) ≡ i
-          = rw (seeking-rest, seeking-word k, ne_eqb (get_or words (at + c) 0 % prime) 0 z) (omega arith) in
-          sym e ∙ s.found
+          = rw (seeking-rest, seeking-word k, ne_eqb (get_or words (i * w + c) 0 % prime) 0 z) (omega arith) in
+          sym e ∙ s
 
       -- it's 0: on to the next
-      pub seeking-next : c < w → get_or words (at + c) 0 % prime ≡ 0 → Seeking w c words (i + 1) (at + w)
+      pub seeking-next : c < w → get_or words (i * w + c) 0 % prime ≡ 0 → Seeking w c words (i + 1)
       unfolding zeros_at
       seeking-next k z =
           let e : i + zeros_at c (drop i (rows_of w w words)) ≡ i + 1 + zeros_at c (drop (i + 1) (rows_of w w words))
-          = rw (add-one i, seeking-rest, seeking-word k, eq-eqb (get_or words (at + c) 0 % prime) 0 z) (omega arith) in
-          record { found = sym e ∙ s.found; place = omega (arith, s.place); within = omega arith }
+          = rw (add-one i, seeking-rest, seeking-word k, eq-eqb (get_or words (i * w + c) 0 % prime) 0 z) (omega arith) in
+          sym e ∙ s
 
 -- ---- the elimination
 -- at the front are at most as many rows with 0 as there are rows

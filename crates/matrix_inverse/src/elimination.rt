@@ -14,16 +14,12 @@ fn pivot(w: usize, c: usize, matrix: &[u32]) -> usize
     requires { (c < w) × (w ≤ max_width) × (length matrix.now ≡ w * w) }
     ensures { result ≡ pivot c (rows_of w w matrix.now) }
 {
-    let mut i = c;
-    let mut at = c * w;
-    while i < w {
-        if matrix[at + c] % P != 0 {
+    for i in c..w {
+        if matrix[i * w + c] % P != 0 {
             return i;
         }
-        at += w;
-        i += 1;
     }
-    i
+    w
 }
 
 // Rows i and j exchanged.
@@ -34,11 +30,9 @@ fn swap_rows(w: usize, i: usize, j: usize, matrix: &mut [u32])
     let from = i * w;
     let to = j * w;
     let mut first = [0u32; STATE_WORDS];
-    let mut second = [0u32; STATE_WORDS];
-    words::put(&mut first, 0, &matrix[from..from + w]);
-    words::put(&mut second, 0, &matrix[to..to + w]);
-    words::put(&mut *matrix, from, &second[0..w]);
-    words::put(matrix, to, &first[0..w]);
+    first[0..w].copy_from_slice(&matrix[from..from + w]);
+    matrix.copy_within(to..to + w, from);
+    matrix[to..to + w].copy_from_slice(&first[0..w]);
 }
 
 // Row c solved for unknown c, and the solution put into the other rows.

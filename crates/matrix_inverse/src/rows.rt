@@ -21,10 +21,8 @@ fn add_row(f: u32, s: &[u32], row: &mut [u32])
     requires { length s.now ≡ length row.old }
     ensures { row.new ≡ add_row f s.now row.old }
 {
-    let mut i = 0;
-    while i < row.len() {
-        row[i] = ((row[i] as u64 + f as u64 * s[i] as u64) % P as u64) as u32;
-        i += 1;
+    for (i, x) in row.iter_mut().enumerate() {
+        *x = ((*x as u64 + f as u64 * s[i] as u64) % P as u64) as u32;
     }
 }
 
@@ -32,10 +30,8 @@ fn add_row(f: u32, s: &[u32], row: &mut [u32])
 fn scale_row(f: BabyBearUnit, row: &mut [u32])
     ensures { row.new ≡ map (mul_unit f.0) row.old }
 {
-    let mut i = 0;
-    while i < row.len() {
-        row[i] = baby_bear::mul_unit(f, BabyBearUnit(row[i])).0;
-        i += 1;
+    for x in row.iter_mut() {
+        *x = baby_bear::mul_unit(f, BabyBearUnit(*x)).0;
     }
 }
 
@@ -67,24 +63,10 @@ pub(crate) fn substitute_all(c: usize, s: &[u32], n: usize, rows: &mut [u32])
         ≡ map (substitute c s.now) (rows_of (length s.now) n rows.old) }
 {
     let w = s.len();
-    let mut i = 0;
-    let mut at = 0;
-    while i < n {
-        let end = at + w;
-        substitute(c, s, &mut rows[at..end]);
-        at = end;
-        i += 1;
+    for i in 0..n {
+        let at = i * w;
+        substitute(c, s, &mut rows[at..at + w]);
     }
-}
-
-// Words c and i of the row exchanged.
-fn swap_words(c: usize, i: usize, row: &mut [u32])
-    requires { (c < length row.old) × (i < length row.old) }
-    ensures { row.new ≡ swap 0 c i row.old }
-{
-    let first = row[c];
-    row[c] = row[i];
-    row[i] = first;
 }
 
 // Columns c and i of w rows exchanged.
@@ -92,12 +74,8 @@ pub(crate) fn swap_columns(w: usize, c: usize, i: usize, matrix: &mut [u32])
     requires { (c < w) × (i < w) × (w ≤ max_width) × (length matrix.old ≡ w * w) }
     ensures { rows_of w w matrix.new ≡ map (swap 0 c i) (rows_of w w matrix.old) }
 {
-    let mut k = 0;
-    let mut at = 0;
-    while k < w {
-        let end = at + w;
-        swap_words(c, i, &mut matrix[at..end]);
-        at = end;
-        k += 1;
+    for k in 0..w {
+        let at = k * w;
+        matrix[at..at + w].swap(c, i);
     }
 }

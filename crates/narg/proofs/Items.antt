@@ -8,26 +8,30 @@ use native.Mathlib.Omega.{arith}
 use borrow.Author.Tests.{ltb-true, ltb-false, le-leb, lt-leb, leb-true}
 use lib.Dec.{ltb, leb}
 use lib.ListN.{length, drop, length-drop}
+use Rattle.std.specs.Prelude.{Result, Ok, Err}
 use Rattle.limits.specs.Questions.{pick}
+use Rattle.limits.specs.Outcome.{refusal}
+use Rattle.limits.specs.declared.Refused.{Refused}
 use Rattle.words.specs.Store.{put_words}
 use Rattle.narg.specs.Bytes.{word_in}
 use Rattle.narg.specs.Reader.{Got, got, stop, on_got, ◌>>◌, give, need, word, below, times}
 use Rattle.narg.specs.Cursor.{cursor, item, item_of, store_of, read_words, read_words_out}
 use Rattle.narg.specs.declared.Cursor.{Cursor}
-use Rattle.narg.specs.declared.Item.{Item}
-use Rattle.narg.specs.declared.Item.TheVariants.{Read as ReadItem, Refused}
 use Rattle.narg.proofs.Fields.{word-short, below-short, below-not, below-yes}
 use Rattle.narg.proofs.Lists.{times-stop, times_more, times-count}
 use Rattle.narg.proofs.At.{word_at}
 use Rattle.narg.proofs.Words.{words-rest-at, words-plain}
 
 -- an answer is one of two
-never : (next : Cursor) (k : ℕ) → ReadItem next ≡ Refused k → ⊥
+never : (next : Cursor) (k : ℕ) → Ok next ≡ Err (refusal k) → ⊥
 never next k e = let z : ◌≡◌ {A = ℕ} 0 1 = cc in omega arith
+
+refused-is : {a b : Refused} → ◌≡◌ {A = Result Cursor Refused} (Err a) (Err b) → a ≡ b
+refused-is e = cc
 
 -- ---- the questions of an item of n words, asked of the words that are there first
 -- what the words from the i-th on answer
-unfoldable pub asked_from : (s : List ℕ) (at n bound k i : ℕ) → Item
+unfoldable pub asked_from : (s : List ℕ) (at n bound k i : ℕ) → Result Cursor Refused
 asked_from s at n bound k i = item_of (at + 4 * n) (times (below bound k) (n - i) (drop (at + 4 * i) s))
 
 -- a word before the others changes no answer
@@ -36,12 +40,12 @@ cons-item to a (got l r) = refl
 cons-item to a (stop k) = refl
 
 -- one test and then another
-pick-and : (a b : Bool) (x y : Item) → pick (a && b) x y ≡ pick a (pick b x y) y
+pick-and : (a b : Bool) (x y : Result Cursor Refused) → pick (a && b) x y ≡ pick a (pick b x y) y
 pick-and true b x y = refl
 pick-and false b x y = refl
 
 module _ (s : List ℕ) (at n bound k i : ℕ) where
-  asked-done : i ≡ n → asked_from s at n bound k i ≡ ReadItem (cursor (at + 4 * i))
+  asked-done : i ≡ n → asked_from s at n bound k i ≡ Ok (cursor (at + 4 * n))
   unfolding asked_from
   asked-done h = let z : n - n ≡ 0 = omega arith in rw (h, z)
 
@@ -50,17 +54,17 @@ module _ (s : List ℕ) (at n bound k i : ℕ) where
     unfolding asked_from
     asked-suc = let z : n - i ≡ suc (n - (i + 1)) = omega arith in rw z
 
-    asked-short : length s < at + 4 * i + 4 → asked_from s at n bound k i ≡ Refused 20
+    asked-short : length s < at + 4 * i + 4 → asked_from s at n bound k i ≡ Err (refusal 20)
     asked-short l =
         let bs = drop (at + 4 * i) s in
         asked-suc ∙ ap (item_of (at + 4 * n)) (times-stop (below bound k) bs (n - (i + 1)) 20 (below-short bound k bs (word-short bs (rw length-drop (omega arith)))))
 
     asked-more : (v : ℕ) → word (drop (at + 4 * i) s) ≡ got v (drop (at + 4 * i + 4) s)
-        → asked_from s at n bound k i ≡ pick (ltb v bound) (asked_from s at n bound k (i + 1)) (Refused k)
+        → asked_from s at n bound k i ≡ pick (ltb v bound) (asked_from s at n bound k (i + 1)) (Err (refusal k))
     unfolding asked_from
     asked-more v w = go (ltb v bound) refl
       where
-        go : (b : Bool) → ltb v bound ≡ b → asked_from s at n bound k i ≡ pick b (asked_from s at n bound k (i + 1)) (Refused k)
+        go : (b : Bool) → ltb v bound ≡ b → asked_from s at n bound k i ≡ pick b (asked_from s at n bound k (i + 1)) (Err (refusal k))
         go true t =
             let bs = drop (at + 4 * i) s in
             let z : at + 4 * i + 4 ≡ at + 4 * (i + 1) = omega arith in
@@ -78,22 +82,22 @@ module _ (s : List ℕ) (at n bound k i : ℕ) where
   asked-all = let x : n - 0 ≡ n = omega arith in let z : at + 4 * 0 ≡ at = omega arith in rw (x, z)
 
   -- what the words before the i-th say, with those from it on still to be asked
-  module _ (says : Bool) (e : pick says (asked_from s at n bound k i) (Refused k) ≡ asked_from s at n bound k 0) where
-    pub ask-not : says ≡ false → Refused k ≡ item_of (at + 4 * n) (times (below bound k) n (drop at s))
+  module _ (says : Bool) (e : pick says (asked_from s at n bound k i) (Err (refusal k)) ≡ asked_from s at n bound k 0) where
+    pub ask-not : says ≡ false → Err (refusal k) ≡ item_of (at + 4 * n) (times (below bound k) n (drop at s))
     ask-not f = (rw f at e) ∙ asked-all
 
-    pub ask-short : says ≡ true → i < n → length s < at + 4 * i + 4 → Refused 20 ≡ item_of (at + 4 * n) (times (below bound k) n (drop at s))
+    pub ask-short : says ≡ true → i < n → length s < at + 4 * i + 4 → Err (refusal 20) ≡ item_of (at + 4 * n) (times (below bound k) n (drop at s))
     ask-short f h l = sym (asked-short h l) ∙ (rw f at e) ∙ asked-all
 
-    pub ask-done : says ≡ true → i ≡ n → ReadItem (cursor (at + 4 * i)) ≡ item_of (at + 4 * n) (times (below bound k) n (drop at s))
+    pub ask-done : says ≡ true → i ≡ n → Ok (cursor (at + 4 * n)) ≡ item_of (at + 4 * n) (times (below bound k) n (drop at s))
     ask-done f h = sym (asked-done h) ∙ (rw f at e) ∙ asked-all
 
     pub ask-more : (v : ℕ) → i < n → at + 4 * i + 4 ≤ length s → v ≡ word_in s (at + 4 * i)
-        → pick (says && ltb v bound) (asked_from s at n bound k (i + 1)) (Refused k) ≡ asked_from s at n bound k 0
+        → pick (says && ltb v bound) (asked_from s at n bound k (i + 1)) (Err (refusal k)) ≡ asked_from s at n bound k 0
     ask-more v h l f =
         let w = word_at s (at + 4 * i) l ∙ ap (λ (x : ℕ). got x (drop (at + 4 * i + 4) s)) (sym f) in
-        pick-and says (ltb v bound) (asked_from s at n bound k (i + 1)) (Refused k)
-        ∙ ap (λ (x : Item). pick says x (Refused k)) (sym (asked-more h v w))
+        pick-and says (ltb v bound) (asked_from s at n bound k (i + 1)) (Err (refusal k))
+        ∙ ap (λ (x : Result Cursor Refused). pick says x (Err (refusal k))) (sym (asked-more h v w))
         ∙ e
 
 -- ---- an item that goes into a store
@@ -119,10 +123,10 @@ module _ (s : List ℕ) (at : ℕ) (out : List ℕ) (place n bound k : ℕ) wher
     pub fits : 4 * n ≤ length s - at
     pub past : next.at ≡ at + 4 * n
 
-  words-got : (next : Cursor) → item_of (at + 4 * n) (times (below bound k) n (drop at s)) ≡ ReadItem next → WordsGot next
+  words-got : (next : Cursor) → item_of (at + 4 * n) (times (below bound k) n (drop at s)) ≡ Ok next → WordsGot next
   words-got next e = go (times (below bound k) n (drop at s)) refl e
     where
-      go : (g : Got (List ℕ)) → times (below bound k) n (drop at s) ≡ g → item_of (at + 4 * n) g ≡ ReadItem next → WordsGot next
+      go : (g : Got (List ℕ)) → times (below bound k) n (drop at s) ≡ g → item_of (at + 4 * n) g ≡ Ok next → WordsGot next
       go (got ws r) w f =
           let t = words-rest-at bound k s at n ws r w in
           let en : cursor (at + 4 * n) ≡ next = cc in
@@ -135,37 +139,37 @@ module _ (s : List ℕ) (at : ℕ) (out : List ℕ) (place n bound k : ℕ) wher
           }
       go (stop j) w f = absurd (never next j (sym f))
 
-  words-stop : (j : ℕ) → item_of (at + 4 * n) (times (below bound k) n (drop at s)) ≡ Refused j → times (below bound k) n (drop at s) ≡ stop j
+  words-stop : (j : ℕ) → item_of (at + 4 * n) (times (below bound k) n (drop at s)) ≡ Err (refusal j) → times (below bound k) n (drop at s) ≡ stop j
   words-stop j e = go (times (below bound k) n (drop at s)) refl e
     where
-      go : (g : Got (List ℕ)) → times (below bound k) n (drop at s) ≡ g → item_of (at + 4 * n) g ≡ Refused j → times (below bound k) n (drop at s) ≡ stop j
+      go : (g : Got (List ℕ)) → times (below bound k) n (drop at s) ≡ g → item_of (at + 4 * n) g ≡ Err (refusal j) → times (below bound k) n (drop at s) ≡ stop j
       go (got ws r) w f = absurd (never (cursor (at + 4 * n)) j f)
-      go (stop i) w f = let z : i ≡ j = cc in w ∙ ap (λ (m : ℕ). stop m) z
+      go (stop i) w f = let z = ap (λ (r : Refused). r.0) (refused-is f) in w ∙ ap (λ (m : ℕ). stop m) z
 
   -- the ends of reading an item, by the answer to its words' questions
-  module _ (asked : Item) (e : asked ≡ item_of (at + 4 * n) (times (below bound k) n (drop at s))) where
-    pub words-refused : (j : ℕ) → asked ≡ Refused j → (asked ≡ read_words s at out place n bound k) × (out ≡ read_words_out s at out place n bound k)
+  module _ (asked : Result Cursor Refused) (e : asked ≡ item_of (at + 4 * n) (times (below bound k) n (drop at s))) where
+    pub words-refused : (j : ℕ) → asked ≡ Err (refusal j) → (Err (refusal j) ≡ read_words s at out place n bound k) × (out ≡ read_words_out s at out place n bound k)
     unfolding read_words read_words_out
-    words-refused j r = let f = item-stop (length out) j (words-stop j (sym e ∙ r)) in (rw f r, rw f)
+    words-refused j r = let f = item-stop (length out) j (words-stop j (sym e ∙ r)) in (rw f, rw f)
 
-    module _ (next : Cursor) (r : asked ≡ ReadItem next) where
+    module _ (next : Cursor) (r : asked ≡ Ok next) where
       pub words-fit : 4 * n ≤ length s - at
       words-fit = (words-got next (sym e ∙ r)).fits
 
-      pub words-full : length out < place + n → (Refused 10 ≡ read_words s at out place n bound k) × (out ≡ read_words_out s at out place n bound k)
+      pub words-full : length out < place + n → (Err (refusal 10) ≡ read_words s at out place n bound k) × (out ≡ read_words_out s at out place n bound k)
       unfolding read_words read_words_out
       words-full h =
           let g = words-got next (sym e ∙ r) in
           let f = item-full (length out) g.ws (drop (at + 4 * n) s) g.reads h in (rw f, rw f)
 
       pub words-read : (last : List ℕ) → place + n ≤ length out → last ≡ store_of place out (times word n (drop at s))
-          → (asked ≡ read_words s at out place n bound k) × (last ≡ read_words_out s at out place n bound k)
+          → (Ok next ≡ read_words s at out place n bound k) × (last ≡ read_words_out s at out place n bound k)
       unfolding read_words read_words_out
       words-read last h l =
           let g = words-got next (sym e ∙ r) in
           let f = item-got (length out) g.ws (drop (at + 4 * n) s) g.reads h in
           let w = words-plain bound k n (drop at s) g.ws (drop (at + 4 * n) s) g.reads in
-          (r ∙ rw f (ap (λ (m : ℕ). ReadItem (cursor m)) g.past), l ∙ rw (f, w))
+          (rw f (ap (λ (m : ℕ). Ok (cursor m)) g.past), l ∙ rw (f, w))
 
   -- an item that was answered, for those who call
   pub record WordsRead (next : Cursor) : Type 0 where
@@ -177,12 +181,12 @@ module _ (s : List ℕ) (at : ℕ) (out : List ℕ) (place n bound k : ℕ) wher
     pub past : next.at ≡ at + 4 * n
     pub stored : read_words_out s at out place n bound k ≡ put_words place ws out
 
-  pub read_words-read : (next : Cursor) → read_words s at out place n bound k ≡ ReadItem next → WordsRead next
+  pub read_words-read : (next : Cursor) → read_words s at out place n bound k ≡ Ok next → WordsRead next
   unfolding read_words read_words_out item
   read_words-read next e = go (times (below bound k) n (drop at s)) refl e
     where
       asked : (ws r : List ℕ) (b : Bool) → leb (place + n) (length out) ≡ b → times (below bound k) n (drop at s) ≡ got ws r
-          → item_of (at + 4 * n) (on_got (need 10 b r) (λ u. give ws)) ≡ ReadItem next → WordsRead next
+          → item_of (at + 4 * n) (on_got (need 10 b r) (λ u. give ws)) ≡ Ok next → WordsRead next
       asked ws r true t w f =
           let h = leb-true (place + n) (length out) t in
           let g = words-got next (ap (item_of (at + 4 * n)) w ∙ f) in
@@ -191,16 +195,16 @@ module _ (s : List ℕ) (at : ℕ) (out : List ℕ) (place n bound k : ℕ) wher
       asked ws r false t w f = absurd (never next 10 (sym f))
 
       go : (g : Got (List ℕ)) → times (below bound k) n (drop at s) ≡ g
-          → item_of (at + 4 * n) (on_got g (λ ws. need 10 (leb (place + n) (length out)) >> give ws)) ≡ ReadItem next → WordsRead next
+          → item_of (at + 4 * n) (on_got g (λ ws. need 10 (leb (place + n) (length out)) >> give ws)) ≡ Ok next → WordsRead next
       go (got ws r) w f = asked ws r (leb (place + n) (length out)) refl w f
       go (stop j) w f = absurd (never next j (sym f))
 
-  pub read_words-refused : (j : ℕ) → read_words s at out place n bound k ≡ Refused j
+  pub read_words-refused : (j : ℕ) → read_words s at out place n bound k ≡ Err (refusal j)
       → (item bound k n place (length out) (drop at s) ≡ stop j) × (read_words_out s at out place n bound k ≡ out)
   unfolding read_words read_words_out
   read_words-refused j e = go (item bound k n place (length out) (drop at s)) refl e
     where
-      go : (g : Got (List ℕ)) → item bound k n place (length out) (drop at s) ≡ g → item_of (at + 4 * n) g ≡ Refused j
+      go : (g : Got (List ℕ)) → item bound k n place (length out) (drop at s) ≡ g → item_of (at + 4 * n) g ≡ Err (refusal j)
           → (item bound k n place (length out) (drop at s) ≡ stop j) × (store_of place out g ≡ out)
       go (got ws r) w f = absurd (never (cursor (at + 4 * n)) j f)
-      go (stop i) w f = let z : i ≡ j = cc in (w ∙ ap (λ (m : ℕ). stop m) z, refl)
+      go (stop i) w f = let z = ap (λ (r : Refused). r.0) (refused-is f) in (w ∙ ap (λ (m : ℕ). stop m) z, refl)

@@ -1,26 +1,23 @@
 -- Words or bytes written one after the other at a place, as one written part.
 -- Assumes nothing.
-use Prim.Native.Nat.{ℕ, suc, ◌+◌, ◌*◌, ◌≤◌, ◌<◌}
+use Prim.Native.Nat.{ℕ, ◌+◌, ◌*◌, ◌≤◌, ◌<◌}
 use mathlib.Core.Path.{◌≡◌, sym, ap, ◌∙◌}
-use mathlib.Core.List.{List, [], ◌∷◌, ◌++◌, append_assoc, append-nil}
+use mathlib.Core.List.{List, [], ◌++◌, append_assoc, append-nil}
 use native.Mathlib.Omega.{arith}
+use borrow.Rule.Slice.PartMut.{put_mid}
 use native.Mathlib.Numerals.{add-one}
-use lib.ListN.{length, set, take, drop, get_or, length-append, length-take, length-drop, take-append-drop}
-use lib.Seq.{sets-eq, take_at, drop-append-add, drop-drop, length-take-le, take-suc}
+use lib.ListN.{length, take, drop, get_or, length-append, length-take, length-drop, take-append-drop}
+use lib.Seq.{take_at, drop-append-add, drop-drop, length-take-le, take-suc}
 use Rattle.words.specs.Store.{put_words}
 use Rattle.narg.specs.Bytes.{u32_bytes}
 use Rattle.narg.specs.Reader.{each}
 use Rattle.narg.proofs.Lists.{each_append}
 use Rattle.narg.proofs.Words.{length-words}
 
--- four stores in a row
-pub stores4 : (s : List ℕ) (at a b c d : ℕ) → at + 4 ≤ length s
-    → set (set (set (set s at a) (at + 1) b) (at + 2) c) (at + 3) d ≡ put_words at (a ∷ b ∷ c ∷ d ∷ []) s
-stores4 s at a b c d h =
-    let e1 : at + 1 ≡ suc at = omega arith in
-    let e2 : at + 2 ≡ suc (suc at) = omega arith in
-    let e3 : at + 3 ≡ suc (suc (suc at)) = omega arith in
-    rw (e1, e2, e3) (sets-eq (a ∷ b ∷ c ∷ d ∷ []) s at h ∙ simp append_assoc)
+-- a part that was written over
+pub put_words-mid : (at k : ℕ) (xs s : List ℕ) → k ≡ length xs → put_mid at k s xs ≡ put_words at xs s
+put_words-mid at k xs s e =
+    ap (λ (rest : List ℕ). take at s ++ (xs ++ rest)) (drop-drop k at s ∙ ap (λ (n : ℕ). drop (at + n) s) e)
 
 -- nothing written
 pub put_words-nil : (at : ℕ) (s : List ℕ) → put_words at [] s ≡ s

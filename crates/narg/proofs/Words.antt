@@ -1,14 +1,16 @@
 -- Lists of words in bytes, each below a bound: the laws of Fields and Lists put together.
 -- Assumes nothing.
-use Prim.Native.Nat.{ℕ, zero, suc, ◌+◌, ◌*◌, ◌-◌, ◌≤◌, ◌<◌}
+use Prim.Native.Nat.{ℕ, zero, suc, ◌+◌, ◌*◌, ◌/◌, ◌-◌, ◌≤◌, ◌<◌, min}
 use mathlib.Core.Path.{◌≡◌, refl, sym, ap, ◌∙◌}
 use mathlib.Core.Bool.{Bool, true, false, ◌&&◌}
 use mathlib.Core.List.{List, [], ◌∷◌, ◌++◌}
 use native.Mathlib.Omega.{arith}
 use borrow.Author.Tests.{lt-ltb, ltb-true}
 use lib.Dec.{ltb}
-use lib.ListN.{length, drop, get_or, length-drop}
+use lib.ListN.{length, take, drop, get_or, length-drop}
 use lib.Seq.{drop-drop, get_or-drop}
+use Rattle.std.specs.Int.{w32, from_le_bytes, to_le_bytes}
+use Rattle.std.specs.Simd.{first_chunks}
 use Rattle.words.specs.Store.{all_below, All}
 use Rattle.narg.specs.Bytes.{word_end, IsBytes, u32_bytes, word_in}
 use Rattle.narg.specs.Reader.{Got, got, on_got, give, word, below, times, each}
@@ -103,3 +105,67 @@ get_or-words_of (suc n) bs (suc i) h =
 
 pub get_or-words_of-at : (s : List ℕ) (at n i : ℕ) → i < n → get_or (words_of n (drop at s)) i 0 ≡ word_in s (at + 4 * i)
 get_or-words_of-at s at n i h = get_or-words_of n (drop at s) i h ∙ word_in-drop at s (4 * i)
+
+-- ---- words as the library reads and writes them
+pub u32_bytes-le : (v : ℕ) → to_le_bytes w32 v ≡ u32_bytes v
+unfolding u32_bytes
+u32_bytes-le v =
+    let two : v / 65536 ≡ v / 256 / 256 = omega arith in
+    let three : v / 16777216 ≡ v / 256 / 256 / 256 = omega arith in
+    rw (two, three)
+
+word_in-le : (bs : List ℕ) → 4 ≤ length bs → from_le_bytes w32 (take 4 bs) ≡ word_in bs 0
+word_in-le [] h = absurd (omega arith)
+word_in-le (a ∷ []) h = absurd (omega arith)
+word_in-le (a ∷ b ∷ []) h = absurd (omega arith)
+word_in-le (a ∷ b ∷ c ∷ []) h = absurd (omega arith)
+word_in-le (a ∷ b ∷ c ∷ d ∷ rest) h = omega arith
+
+-- four bytes cut out at a place
+pub word_in-cut : (s : List ℕ) (at : ℕ) (cut : List ℕ) → cut ≡ take 4 (drop at s) → at + 4 ≤ length s → from_le_bytes w32 cut ≡ word_in s at
+word_in-cut s at cut e h =
+    let l = length-drop at s in
+    let z : at + 0 ≡ at = omega arith in
+    ap (from_le_bytes w32) e ∙ word_in-le (drop at s) (omega arith) ∙ word_in-drop at s 0 ∙ ap (word_in s) z
+
+-- ---- bytes cut into fours
+pub length-first_chunks : (n : ℕ) (bs : List ℕ) → length (first_chunks 4 n bs) ≡ n
+length-first_chunks zero bs = refl
+length-first_chunks (suc n) bs = ap suc (length-first_chunks n (drop 4 bs))
+
+take-first_chunks : (k n : ℕ) (bs : List ℕ) → k ≤ n → take k (first_chunks 4 n bs) ≡ first_chunks 4 k bs
+take-first_chunks zero n bs h = refl
+take-first_chunks (suc k) zero bs h = absurd (omega arith)
+take-first_chunks (suc k) (suc n) bs h = ap (λ (l : List (List ℕ)). take 4 bs ∷ l) (take-first_chunks k n (drop 4 bs) (omega arith))
+
+get_or-first_chunks : (n : ℕ) (bs : List ℕ) (i : ℕ) → i < n → get_or (first_chunks 4 n bs) i [] ≡ take 4 (drop (4 * i) bs)
+get_or-first_chunks zero bs i h = absurd (omega arith)
+get_or-first_chunks (suc n) bs zero h = refl
+get_or-first_chunks (suc n) bs (suc i) h =
+    let e : 4 + 4 * i ≡ 4 * suc i = omega arith in
+    get_or-first_chunks n (drop 4 bs) i (omega arith) ∙ ap (take 4) (drop-drop (4 * i) 4 bs ∙ ap (λ (m : ℕ). drop m bs) e)
+
+-- the words that the bytes hold from a place on, at most n
+abbrev pub chunks_held : (s : List ℕ) (at n : ℕ) → List (List ℕ)
+chunks_held s at n = first_chunks 4 (min n ((length s - at) / 4)) (drop at s)
+
+module _ (s : List ℕ) (at n : ℕ) (cs : List (List ℕ)) where
+  pub chunks_held-take : (k : ℕ) → cs ≡ first_chunks 4 (length (drop at s) / 4) (drop at s) → k ≡ min n (length cs) → take k cs ≡ chunks_held s at n
+  chunks_held-take k e h =
+      let d = length-drop at s in
+      let l = ap length e ∙ length-first_chunks (length (drop at s) / 4) (drop at s) in
+      let m : k ≡ min n ((length s - at) / 4) = omega arith in
+      ap (take k) e ∙ take-first_chunks k (length (drop at s) / 4) (drop at s) (omega arith) ∙ ap (λ (j : ℕ). first_chunks 4 j (drop at s)) m
+
+  pub length-chunks_held : cs ≡ chunks_held s at n → length cs ≡ min n ((length s - at) / 4)
+  length-chunks_held e = ap length e ∙ length-first_chunks (min n ((length s - at) / 4)) (drop at s)
+
+  -- the i-th of them
+  pub chunks_held-word : (i : ℕ) → cs ≡ chunks_held s at n → i < length cs → from_le_bytes w32 (get_or cs i []) ≡ word_in s (at + 4 * i)
+  chunks_held-word i e h =
+      let l = length-chunks_held e in
+      word_in-cut s (at + 4 * i) (get_or cs i [])
+      (ap (λ (x : List (List ℕ)). get_or x i []) e
+      ∙ get_or-first_chunks (min n ((length s - at) / 4)) (drop at s) i (omega arith)
+      ∙ ap (take 4) (drop-drop (4 * i) at s))
+      (omega arith)

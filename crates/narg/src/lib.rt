@@ -6,16 +6,16 @@
 #![tactic(auto)]
 
 ghost use Rattle.std.specs.Prelude.{◌≡◌, ◌+◌, ◌*◌, ◌-◌, ◌/◌, ◌≤◌, min, length, drop};
+ghost use Rattle.std.specs.Simd.{first_chunks};
 ghost use Rattle.words.specs.Store.{put_words, fit_words};
-ghost use Rattle.narg.specs.Bytes.{u32_bytes, word4, word_in};
+ghost use Rattle.narg.specs.Bytes.{u32_bytes};
 ghost use Rattle.narg.specs.Reader.{word, below, times, each};
 ghost use Rattle.narg.specs.Cursor.{read_u32, put_at, put_u32, put_u32_out, item_of, store_of, read_words, read_words_out, read_units, read_units_out, read_vars, read_vars_out};
 
+use limits::Refused;
+
 // How many bytes a word has.
 const WORD: usize = 4;
-
-// How many values a byte has: what a word's second byte counts by.
-const BYTE: u32 = 256;
 
 // A place in bytes.
 #[derive(Clone, Copy)]
@@ -23,55 +23,20 @@ pub struct Cursor {
     pub at: usize,
 }
 
-// A word that was read, with the cursor past it.
-#[derive(Clone, Copy)]
-pub enum Word {
-    Read(u32, Cursor),
-    Short,
-}
-
-// What was written, with the cursor past it.
-#[derive(Clone, Copy)]
-pub enum Put {
-    Written(Cursor),
-    Full,
-}
-
-// An item that was read into a store, with the cursor past it; or its number.
-#[derive(Clone, Copy)]
-pub enum Item {
-    Read(Cursor),
-    Refused(u32),
-}
-
-// The word of four bytes.
-fn word4(a: u8, b: u8, c: u8, d: u8) -> u32
-    ensures { result ≡ word4 a b c d }
+// The bytes from a place on: none past the end.
+fn behind(bytes: &[u8], at: usize) -> &[u8]
+    ensures { result.now ≡ drop at bytes.now }
 {
-    a as u32 + BYTE * (b as u32) + BYTE * BYTE * (c as u32) + BYTE * BYTE * BYTE * (d as u32)
+    &bytes[at.min(bytes.len())..]
 }
 
-// The word at a place, where the bytes hold it.
-fn word_in(bytes: &[u8], at: usize) -> u32
-    requires { at + 4 ≤ length bytes.now }
-    ensures { result ≡ word_in bytes.now at }
-{
-    word4(bytes[at], bytes[at + 1], bytes[at + 2], bytes[at + 3])
-}
-
-// The word at the cursor; Short where the bytes end before it.
-pub fn read_u32(bytes: &[u8], c: Cursor) -> Word
+// The word at the cursor, with the cursor past it; None where the bytes end before it.
+pub fn read_u32(bytes: &[u8], c: Cursor) -> Option<(u32, Cursor)>
     ensures { result ≡ read_u32 bytes.now c.at }
 {
     let at = c.at;
-    if bytes.len() < at {
-        return Word::Short;
-    }
-    if bytes.len() - at < WORD {
-        return Word::Short;
-    }
-    let v = word_in(bytes, at);
-    Word::Read(v, Cursor { at: at + WORD })
+    let word = behind(bytes, at).first_chunk::<WORD>()?;
+    Some((u32::from_le_bytes(*word), Cursor { at: at + WORD }))
 }
 
 // The four bytes of a word, where the output holds them.
@@ -79,80 +44,72 @@ fn store_u32(out: &mut [u8], at: usize, value: u32)
     requires { at + 4 ≤ length out.old }
     ensures { out.new ≡ put_words at (u32_bytes value) out.old }
 {
-    out[at] = (value % BYTE) as u8;
-    out[at + 1] = (value / BYTE % BYTE) as u8;
-    out[at + 2] = (value / BYTE / BYTE % BYTE) as u8;
-    out[at + 3] = (value / BYTE / BYTE / BYTE % BYTE) as u8;
+    out[at..at + WORD].copy_from_slice(&value.to_le_bytes());
 }
 
-// The word's four bytes at the cursor, or Full.
-pub fn put_u32(out: &mut [u8], c: Cursor, value: u32) -> Put
+// The word's four bytes at the cursor: the cursor past them, or None where the output does not hold them.
+pub fn put_u32(out: &mut [u8], c: Cursor, value: u32) -> Option<Cursor>
     ensures { (result ≡ put_u32 out.old c.at value) × (out.new ≡ put_u32_out out.old c.at value) }
 {
     let at = c.at;
     if out.len() < at {
-        return Put::Full;
+        return None;
     }
     if out.len() - at < WORD {
-        return Put::Full;
+        return None;
     }
     store_u32(out, at, value);
-    Put::Written(Cursor { at: at + WORD })
+    Some(Cursor { at: at + WORD })
 }
 
-// The words in order, four bytes each, at the cursor; or Full.
-pub fn put_words(out: &mut [u8], c: Cursor, words: &[u32]) -> Put
+// The words in order, four bytes each, at the cursor: the cursor past them, or None.
+pub fn put_words(out: &mut [u8], c: Cursor, words: &[u32]) -> Option<Cursor>
     ensures { (result ≡ put_at out.old c.at (each u32_bytes words.now))
         × (out.new ≡ fit_words c.at (each u32_bytes words.now) out.old) }
 {
     let at = c.at;
     if out.len() < at {
-        return Put::Full;
+        return None;
     }
     if (out.len() - at) / WORD < words.len() {
-        return Put::Full;
+        return None;
     }
-    let mut i = 0;
-    while i < words.len() {
-        store_u32(out, at + WORD * i, words[i]);
-        i += 1;
+    for (i, word) in words.iter().enumerate() {
+        store_u32(out, at + WORD * i, *word);
     }
-    Put::Written(Cursor { at: at + WORD * i })
+    Some(Cursor {
+        at: at + WORD * words.len(),
+    })
 }
 
-// How many of n words the bytes hold from a place on, when there are len of them.
-fn words_held(len: usize, at: usize, n: usize) -> usize
-    ensures { result ≡ min n ((len - at) / 4) }
+// The words from a place on, as four bytes each: n of them, or as many as the bytes hold.
+fn words_held(bytes: &[u8], at: usize, n: usize) -> &[[u8; WORD]]
+    ensures { result.now ≡ first_chunks 4 (min n ((length bytes.now - at) / 4)) (drop at bytes.now) }
 {
-    if len < at {
-        return 0;
-    }
-    let whole = (len - at) / WORD;
-    if whole < n { whole } else { n }
+    let (words, _) = behind(bytes, at).as_chunks::<WORD>();
+    &words[..n.min(words.len())]
 }
 
 // The questions of an item of n words at the cursor: each is there (20) and below the bound (k). A word that is not
 // there stands behind all that are, so these come first, in a loop that has no exit of its own.
-fn ask_words(bytes: &[u8], c: Cursor, n: u32, bound: u32, k: u32) -> Item
+fn ask_words(bytes: &[u8], c: Cursor, n: u32, bound: u32, k: u32) -> Result<Cursor, Refused>
     ensures { result ≡ item_of (c.at + 4 * n) (times (below bound k) n (drop c.at bytes.now)) }
 {
-    let at = c.at;
     let wanted = n as usize;
-    let held = words_held(bytes.len(), at, wanted);
+    let words = words_held(bytes, c.at, wanted);
     let mut below = true;
-    let mut i = 0;
-    while i < held {
-        let v = word_in(bytes, at + WORD * i);
-        below = below & (v < bound);
-        i += 1;
+    for word in words {
+        below = below & (u32::from_le_bytes(*word) < bound);
     }
     if !below {
-        return Item::Refused(k);
+        return Err(Refused(k));
     }
-    if held < wanted {
-        return Item::Refused(20);
+    if words.len() < wanted {
+        return Err(Refused(20));
     }
-    Item::Read(Cursor { at: at + WORD * i })
+    Ok(Cursor {
+        at: c.at + WORD * wanted,
+    })
 }
 
 // The n words at the place of the store, where the bytes and the store hold them.
@@ -160,15 +117,13 @@ fn store_words(bytes: &[u8], at: usize, out: &mut [u32], place: usize, n: usize)
     requires { (4 * n ≤ length bytes.now - at) × (place + n ≤ length out.old) }
     ensures { out.new ≡ store_of place out.old (times word n (drop at bytes.now)) }
 {
-    let mut i = 0;
-    while i < n {
-        out[place + i] = word_in(bytes, at + WORD * i);
-        i += 1;
+    for (i, word) in words_held(bytes, at, n).iter().enumerate() {
+        out[place + i] = u32::from_le_bytes(*word);
     }
 }
 
-// An item of n words, each below the bound, from the cursor into the store at the place. Questions 20 and k
-// word by word, then 10.
+// An item of n words, each below the bound, from the cursor into the store at the place: the cursor past it.
+// Questions 20 and k word by word, then 10.
 pub fn read_words(
     bytes: &[u8],
     c: Cursor,
@@ -177,28 +132,31 @@ pub fn read_words(
     n: u32,
     bound: u32,
     k: u32,
-) -> Item
+) -> Result<Cursor, Refused>
     ensures { (result ≡ read_words bytes.now c.at out.old place n bound k)
         × (out.new ≡ read_words_out bytes.now c.at out.old place n bound k) }
 {
     let at = c.at;
     let count = n as usize;
-    let read = ask_words(bytes, c, n, bound, k);
-    let Item::Read(_) = read else {
-        return read;
-    };
+    let next = ask_words(bytes, c, n, bound, k)?;
     if out.len() < place {
-        return Item::Refused(10);
+        return Err(Refused(10));
     }
     if out.len() - place < count {
-        return Item::Refused(10);
+        return Err(Refused(10));
     }
     store_words(bytes, at, out, place, count);
-    read
+    Ok(next)
 }
 
 // An item of n units (the source's units of a public, a step, a weight): below p, else 4.
-pub fn read_units(bytes: &[u8], c: Cursor, out: &mut [u32], place: usize, n: u32) -> Item
+pub fn read_units(
+    bytes: &[u8],
+    c: Cursor,
+    out: &mut [u32],
+    place: usize,
+    n: u32,
+) -> Result<Cursor, Refused>
     ensures { (result ≡ read_units bytes.now c.at out.old place n)
         × (out.new ≡ read_units_out bytes.now c.at out.old place n) }
 {
@@ -206,7 +164,13 @@ pub fn read_units(bytes: &[u8], c: Cursor, out: &mut [u32], place: usize, n: u32
 }
 
 // An item of n wires (the source's `FieldVar`s): below 2^30, else 3.
-pub fn read_vars(bytes: &[u8], c: Cursor, out: &mut [u32], place: usize, n: u32) -> Item
+pub fn read_vars(
+    bytes: &[u8],
+    c: Cursor,
+    out: &mut [u32],
+    place: usize,
+    n: u32,
+) -> Result<Cursor, Refused>
     ensures { (result ≡ read_vars bytes.now c.at out.old place n)
         × (out.new ≡ read_vars_out bytes.now c.at out.old place n) }
 {

@@ -2,37 +2,34 @@
 -- the bytes. Assumes nothing.
 use Prim.Native.Nat.{ℕ, zero, suc, ◌+◌, ◌^◌, ◌≤◌, ◌<◌}
 use mathlib.Core.Path.{◌≡◌, refl, sym, ap, ◌∙◌}
-use mathlib.Core.Bool.{Bool, true, false}
+use mathlib.Core.Bool.{true, false}
 use mathlib.Core.List.{List}
 use native.Mathlib.Omega.{arith}
-use borrow.Author.Tests.{leb-true, leb-false}
-use lib.Dec.{leb}
 use lib.ListN.{length, take, drop, length-drop}
 use lib.Seq.{drop-drop, length-take-le}
+use Rattle.std.specs.Prelude.{Some, None, Result, Ok, Err}
+use Rattle.limits.specs.Outcome.{refusal}
+use Rattle.limits.specs.declared.Refused.{Refused}
 use Rattle.utf8.specs.Utf8.{is_utf8}
 use Rattle.narg.specs.Reader.{Got, got, stop, word, part, give}
 use Rattle.narg.specs.Cursor.{cursor, read_u32}
 use Rattle.narg.specs.declared.Cursor.{Cursor}
-use Rattle.narg.specs.declared.Word.{Word}
-use Rattle.narg.specs.declared.Word.TheVariants.{Read as ReadWord, Short}
 use Rattle.narg.proofs.Fields.{word-rest, part-short as cut, part-long as uncut, part-rest, part_length}
 use Rattle.narg.proofs.At.{read_u32-read, read_u32-stop, word_next}
 use Rattle.reader.specs.At.{part_at}
-use Rattle.reader.proofs.Found.{part_at-none, part_at-some, part-short, part-long}
+use Rattle.reader.proofs.Found.{part_at-some, part-short, part-long}
 use Rattle.header.specs.declared.Field.{Field}
-use Rattle.header.specs.declared.Field.TheVariants.{Read, Refused}
 use Rattle.header.proofs.Got.{took, asked as header-asked}
 use Rattle.parts.specs.Read.{read_label}
 use Rattle.parts.specs.Answers.{label_past, label_field}
-use Rattle.parts.specs.Told.{label_first, label_count, LabelTold}
 
 -- ---- reading it
 module _ (s : List ℕ) (at : ℕ) where
-  label-short : read_u32 s at ≡ Short → read_label (drop at s) ≡ stop 20
+  label-short : read_u32 s at ≡ None → read_label (drop at s) ≡ stop 20
   unfolding read_label
   label-short e = rw (read_u32-stop s at e)
 
-  module _ (n : ℕ) (c : Cursor) (ew : read_u32 s at ≡ ReadWord n c) where
+  module _ (n : ℕ) (c : Cursor) (ew : read_u32 s at ≡ Some (n, c)) where
     label-start : c.at ≤ length s
     label-start = let w = read_u32-read s at n c ew in let f = w.fits in let p = w.past in omega arith
 
@@ -56,72 +53,44 @@ module _ (s : List ℕ) (at : ℕ) where
       label-length = let l = length-drop c.at s in sym (length-take-le n (drop c.at s) (omega arith))
 
 -- a refusal
-refused : (at : ℕ) {g : Got (List ℕ)} {k : ℕ} → g ≡ stop k → Refused k ≡ label_field at g
+refused : (at : ℕ) {g : Got (List ℕ)} {k : ℕ} → g ≡ stop k → Err (refusal k) ≡ label_field at g
 refused at e = sym (ap (label_field at) e)
 
 -- by its length and the part behind it
-pub label-none : (w : Word) (m : List ℕ) → w ≡ Short → LabelTold w m (Refused 20)
-label-none w m i s at ew ep = refused at (label-short s at (sym ew ∙ i))
+module _ (s : List ℕ) (at : ℕ) where
+  pub label-none : read_u32 s at ≡ None → Err (refusal 20) ≡ label_field at (read_label (drop at s))
+  label-none e = refused at (label-short s at e)
 
-module _ (w : Word) (m : List ℕ) (n : ℕ) (c : Cursor) (i : w ≡ ReadWord n c) where
-  pub label-few : length m < n → LabelTold w m (Refused 20)
-  label-few h s at ew ep =
-      let p = ep ∙ ap (λ (x : Word). part_at s (label_first x).at (label_count x)) i in
-      refused at (label-cut s at n c (sym ew ∙ i) (part-short s c.at n m p h))
+  module _ (n : ℕ) (c : Cursor) (ew : read_u32 s at ≡ Some (n, c)) (m : List ℕ) (ep : m ≡ part_at s c.at n) where
+    pub label-few : length m < n → Err (refusal 20) ≡ label_field at (read_label (drop at s))
+    label-few h = refused at (label-cut s at n c ew (part-short s c.at n m ep h))
 
-  module _ (h : n ≤ length m) (s : List ℕ) (at : ℕ) (ew : w ≡ read_u32 s at) (ep : m ≡ part_at s (label_first w).at (label_count w)) where
-    here : read_u32 s at ≡ ReadWord n c
-    here = sym ew ∙ i
+    module _ (h : n ≤ length m) where
+      within : c.at + n ≤ length s
+      within = go n refl
+        where
+          go : (k : ℕ) → n ≡ k → c.at + n ≤ length s
+          go zero z = let l = label-start s at n c ew in omega arith
+          go (suc k) z = part-long s c.at n m ep (omega arith) h
 
-    taken : m ≡ part_at s c.at n
-    taken = ep ∙ ap (λ (x : Word). part_at s (label_first x).at (label_count x)) i
+      bytes-are : m ≡ take n (drop c.at s)
+      bytes-are = ep ∙ sym (part_at-some s c.at n within)
 
-    within : c.at + n ≤ length s
-    within = go n refl
-      where
-        go : (k : ℕ) → n ≡ k → c.at + n ≤ length s
-        go zero z = let l = label-start s at n c here in omega arith
-        go (suc k) z = part-long s c.at n m taken (omega arith) h
+      -- its end is a number that the code has
+      pub first_fits : length s < 2 ^ 64 → c.at + n < 2 ^ 64
+      first_fits l = let w = within in omega arith
 
-    bytes-are : m ≡ take n (drop c.at s)
-    bytes-are = taken ∙ sym (part_at-some s c.at n within)
+      pub label-not : is_utf8 m ≡ false → Err (refusal 25) ≡ label_field at (read_label (drop at s))
+      label-not u = refused at (label-bad s at n c ew within (ap is_utf8 (sym bytes-are) ∙ u))
 
-  pub label-not : n ≤ length m → is_utf8 m ≡ false → LabelTold w m (Refused 25)
-  label-not h u s at ew ep =
-      refused at (label-bad s at n c (here h s at ew ep) (within h s at ew ep) (ap is_utf8 (sym (bytes-are h s at ew ep)) ∙ u))
-
-  pub label-got : n ≤ length m → is_utf8 m ≡ true → LabelTold w m (Read n 0 (cursor (c.at + n)))
-  label-got h u s at ew ep =
-      let e = here h s at ew ep in
-      let f = within h s at ew ep in
-      let p = (read_u32-read s at n c e).past in
-      let z : c.at + n ≡ at + 4 + n = omega arith in
-      let l = label-length s at n c e f in
-      (λ i. Read (l i) 0 (cursor (z i))) ∙ (λ i. Read (length (take n (drop c.at s))) 0 (cursor (at + 4 + l i)))
-      ∙ sym (ap (label_field at) (label-yes s at n c e f (ap is_utf8 (sym (bytes-are h s at ew ep)) ∙ u)))
-
--- its end is a number that the code has
-pub first_fits : (w : Word) (n : ℕ) (c : Cursor) → w ≡ ReadWord n c → (k : ℕ) → (label_first w).at + k < 2 ^ 64 → n ≤ k → c.at + n < 2 ^ 64
-first_fits w n c i k f h = let e = ap (λ (x : Word). (label_first x).at) i in omega arith
-
--- a part that is taken ends within the bytes
-end-within : (s : List ℕ) (at n : ℕ) (m : List ℕ) → at ≤ length s → m ≡ part_at s at n → at + length m ≤ length s
-end-within s at n m h e = go (leb (at + n) (length s)) refl
-  where
-    go : (b : Bool) → leb (at + n) (length s) ≡ b → at + length m ≤ length s
-    go true t =
-        let k = leb-true (at + n) (length s) t in
-        let l = length-drop at s in
-        let z = ap length (e ∙ sym (part_at-some s at n k)) ∙ length-take-le n (drop at s) (omega arith) in
-        omega arith
-    go false t =
-        let z : length m ≡ 0 = ap length (e ∙ sym (part_at-none s at n (leb-false (at + n) (length s) t))) in
-        omega arith
-
-pub label-fits : (s : List ℕ) (at : ℕ) (w : Word) (m : List ℕ) → w ≡ read_u32 s at → m ≡ part_at s (label_first w).at (label_count w)
-    → length s < 2 ^ 64 → (label_first w).at + length m < 2 ^ 64
-label-fits s at (ReadWord n c) m ew ep h = let l = end-within s c.at n m (label-start s at n c (sym ew)) ep in omega arith
-label-fits s at Short m ew ep h = let l = end-within s 0 0 m (omega arith) ep in omega arith
+      pub label-got : is_utf8 m ≡ true → Ok (record { value = n; extra = 0; next = cursor (c.at + n) }) ≡ label_field at (read_label (drop at s))
+      label-got u =
+          let p = (read_u32-read s at n c ew).past in
+          let z : c.at + n ≡ at + 4 + n = omega arith in
+          let l = label-length s at n c ew within in
+          (λ i. Ok (record { value = l i; extra = 0; next = cursor (z i) }))
+          ∙ (λ i. Ok (record { value = length (take n (drop c.at s)); extra = 0; next = cursor (at + 4 + l i) }))
+          ∙ sym (ap (label_field at) (label-yes s at n c ew within (ap is_utf8 (sym bytes-are) ∙ u)))
 
 -- ---- what an answer tells
 -- a label whose length stands at a place lies behind it, and what is read next stands behind the label
@@ -151,13 +120,15 @@ label_at s at label rest e =
       next = sym last ∙ p.2 ∙ ap (drop n) there ∙ drop-drop n (at + 4) s ∙ ap (λ (m : ℕ). drop m s) z;
     })))
 
-module _ (s : List ℕ) (at : ℕ) (r : Field) (e : r ≡ label_field at (read_label (drop at s))) where
-  pub label-refused : (k : ℕ) → r ≡ Refused k → read_label (drop at s) ≡ stop k
-  label-refused k i = go (read_label (drop at s)) (sym e ∙ i)
+module _ (s : List ℕ) (at : ℕ) (r : Result Field Refused) (e : r ≡ label_field at (read_label (drop at s))) where
+  pub label-refused : (why : Refused) → r ≡ Err why → read_label (drop at s) ≡ stop why.0
+  label-refused why i = go (read_label (drop at s)) (sym e ∙ i)
     where
-      go : (y : Got (List ℕ)) → label_field at y ≡ Refused k → y ≡ stop k
+      go : (y : Got (List ℕ)) → label_field at y ≡ Err why → y ≡ stop why.0
       go (got l rest) h = absurd (let z : ◌≡◌ {A = ℕ} 0 1 = cc in omega arith)
-      go (stop j) h = let z : j ≡ k = cc in ap (λ (n : ℕ). stop n) z
+      go (stop j) h =
+          let z : refusal j ≡ why = cc in
+          ap (λ (x : Refused). stop x.0) z
 
   -- a label that was got
   pub record LabelGot (n : ℕ) (next : Cursor) : Type 0 where
@@ -166,18 +137,17 @@ module _ (s : List ℕ) (at : ℕ) (r : Field) (e : r ≡ label_field at (read_l
     pub count : n ≡ length label
     pub past : next.at ≡ label_past at label
 
-  pub label-told : (n words : ℕ) (next : Cursor) → r ≡ Read n words next → LabelGot n next
-  label-told n words next i = go (read_label (drop at s)) refl (sym e ∙ i)
+  pub label-told : (f : Field) → r ≡ Ok f → LabelGot f.value f.next
+  label-told f i = go (read_label (drop at s)) refl (sym e ∙ i)
     where
-      go : (y : Got (List ℕ)) → read_label (drop at s) ≡ y → label_field at y ≡ Read n words next → LabelGot n next
-      go (got l rest) f h =
-          let c : length l ≡ n = cc in
-          let p : cursor (label_past at l) ≡ next = cc in
-          let q = ap (λ (x : Cursor). x.at) (sym p) in
+      go : (y : Got (List ℕ)) → read_label (drop at s) ≡ y → label_field at y ≡ Ok f → LabelGot f.value f.next
+      go (got l rest) e h =
+          let p : record { value = length l; extra = 0; next = cursor (label_past at l) } ≡ f = cc in
+          let q = ap (λ (x : Field). x.next.at) (sym p) in
           record {
             label = l;
-            reads = f ∙ ap (λ (t : List ℕ). got l t) ((label_at s at l rest f).next ∙ ap (λ (m : ℕ). drop m s) (sym q));
-            count = sym c;
+            reads = e ∙ ap (λ (t : List ℕ). got l t) ((label_at s at l rest e).next ∙ ap (λ (m : ℕ). drop m s) (sym q));
+            count = ap (λ (x : Field). x.value) (sym p);
             past = q;
           }
-      go (stop j) f h = absurd (let z : ◌≡◌ {A = ℕ} 0 1 = cc in omega arith)
+      go (stop j) e h = absurd (let z : ◌≡◌ {A = ℕ} 0 1 = cc in omega arith)

@@ -6,6 +6,9 @@ use mathlib.Core.List.{List, [], ◌++◌, append-nil}
 use native.Mathlib.Omega.{arith}
 use lib.ListN.{length, take, drop, replicate}
 use lib.Seq.{drop-drop, take_at}
+use Rattle.std.specs.Prelude.{true, false, Some, None, Result, Ok, Err, is_err}
+use Rattle.limits.specs.Outcome.{refusal}
+use Rattle.limits.specs.declared.Refused.{Refused}
 use Rattle.limits.specs.Numbers.{max_count}
 use Rattle.limits.specs.Questions.{first_no}
 use Rattle.limits.specs.Asks.{width_asks, store_asks}
@@ -16,7 +19,6 @@ use Rattle.words.proofs.Held.{flat-length, pieces-flat}
 use Rattle.narg.specs.Reader.{Got, got, stop, word}
 use Rattle.narg.specs.Cursor.{cursor, read_u32}
 use Rattle.narg.specs.declared.Cursor.{Cursor}
-use Rattle.narg.specs.declared.Word.TheVariants.{Read as ReadWord, Short}
 use Rattle.narg.proofs.Fields.{word-rest}
 use Rattle.narg.proofs.At.{read_u32-read, read_u32-stop, word_next}
 use Rattle.expr.specs.Equation.{equations_words}
@@ -33,8 +35,6 @@ use Rattle.items.proofs.Lists.{ListGot, after-no, after-yes}
 use Rattle.parts.specs.Read.{Rooms, rooms, read_parts}
 use Rattle.parts.specs.Answers.{read_parts_asks, parts_got, instance_read, words_of_publics, words_of_queries, words_of_equations, parts_end, parts_answer, parts_from, PartsReads}
 use Rattle.parts.specs.Told.{PartsStored, PartsLeft, parts_here, PartsTold}
-use Rattle.parts.specs.declared.PartsRead.{PartsRead}
-use Rattle.parts.specs.declared.PartsRead.TheVariants.{Read, Refused}
 
 -- the zeros behind words in a store of that length
 abbrev zeros : ℕ → List ℕ → List ℕ
@@ -53,6 +53,17 @@ parts-yes width p q e z =
     let b = both _ _ (sym (first_no-append (store_asks p) (store_asks q ++ store_asks e)) ∙ a.1) in
     let c = both _ _ (sym (first_no-append (store_asks q) (store_asks e)) ∙ b.1) in
     record { width = a.0; publics = b.0; queries = c.0; equations = c.1 }
+
+-- ---- 1 and 2 first
+pub from-here : (width : ℕ) (s : List ℕ) (at : ℕ) (p q e : List ℕ) → first_no (read_parts_asks width (rooms (length p) (length q) (length e) 0)) ≡ 0
+    → parts_from width s at p q e ≡ parts_here width s at p q e
+unfolding parts_got
+from-here width s at p q e z = after-yes _ _ 0 (sym z) refl
+
+pub parts-asked-no : (width : ℕ) (s : List ℕ) (at : ℕ) (p q e : List ℕ) (no : ℕ) → no ≡ first_no (read_parts_asks width (rooms (length p) (length q) (length e) 0)) → (no ≡ 0 → ⊥)
+    → parts_from width s at p q e ≡ stop no
+unfolding parts_got
+parts-asked-no width s at p q e k a h = after-no (first_no (read_parts_asks width (rooms (length p) (length q) (length e) 0))) (parts_here width s at p q e) k a h
 
 -- ---- the ends of reading them
 module _ (width : ℕ) (s : List ℕ) (at : ℕ) (p q e : List ℕ) (yes : PartsYes width (length p) (length q) (length e)) where
@@ -74,16 +85,16 @@ module _ (width : ℕ) (s : List ℕ) (at : ℕ) (p q e : List ℕ) (yes : Parts
   unfolding equations_got
   equations-at c = after-yes _ _ 0 (sym yes.equations) refl
 
-  pub parts-short : read_u32 s at ≡ Short → here ≡ stop 20
+  pub parts-short : read_u32 s at ≡ None → here ≡ stop 20
   unfolding read_parts
   parts-short w = rw (read_u32-stop s at w)
 
-  module _ (vars : ℕ) (c : Cursor) (ew : read_u32 s at ≡ ReadWord vars c) where
+  module _ (vars : ℕ) (c : Cursor) (ew : read_u32 s at ≡ Some (vars, c)) where
     pub publics-stop : (k : ℕ) → publics_got (length p) s c.at ≡ stop k → here ≡ stop k
     unfolding read_parts
     publics-stop k f = rw (word_next s at vars c ew, sym (publics-at c.at) ∙ f)
 
-    module _ (p' : List ℕ) (rp : Field) (lp : ListReads pair_words (publics_got (length p) s c.at) c.at p p' rp)
+    module _ (p' : List ℕ) (rp : Result Field Refused) (lp : ListReads pair_words (publics_got (length p) s c.at) c.at p p' rp)
         (np wp : ℕ) (c1 : Cursor) (gp : ListGot pair_words (publics_got (length p) s c.at) c.at p p' rp lp np wp c1) where
       after-publics : read_publics (length p) (drop c.at s) ≡ got gp.items (drop c1.at s)
       after-publics =
@@ -94,7 +105,7 @@ module _ (width : ℕ) (s : List ℕ) (at : ℕ) (p q e : List ℕ) (yes : Parts
       unfolding read_parts
       queries-stop k f = rw (word_next s at vars c ew, after-publics, sym (queries-at c1.at) ∙ f)
 
-      module _ (q' : List ℕ) (rq : Field) (lq : ListReads flat (pieces_got max_count 3 width (length q) s c1.at) c1.at q q' rq)
+      module _ (q' : List ℕ) (rq : Result Field Refused) (lq : ListReads flat (pieces_got max_count 3 width (length q) s c1.at) c1.at q q' rq)
           (nq wq : ℕ) (c2 : Cursor) (gq : ListGot flat (pieces_got max_count 3 width (length q) s c1.at) c1.at q q' rq lq nq wq c2) where
         after-queries : read_queries width (length q) (drop c1.at s) ≡ got gq.items (drop c2.at s)
         unfolding read_queries
@@ -106,7 +117,7 @@ module _ (width : ℕ) (s : List ℕ) (at : ℕ) (p q e : List ℕ) (yes : Parts
         unfolding read_parts
         equations-stop k f = rw (word_next s at vars c ew, after-publics, after-queries, sym (equations-at c2.at) ∙ f)
 
-        module _ (e' : List ℕ) (re : Field) (le : ListReads equations_words (equations_got (length e) s c2.at) c2.at e e' re)
+        module _ (e' : List ℕ) (re : Result Field Refused) (le : ListReads equations_words (equations_got (length e) s c2.at) c2.at e e' re)
             (ne we : ℕ) (c3 : Cursor) (ge : ListGot equations_words (equations_got (length e) s c2.at) c2.at e e' re le ne we c3) where
           after-equations : read_equations (length e) (drop c2.at s) ≡ got ge.items ge.rest
           after-equations = sym (equations-at c2.at) ∙ ge.reads
@@ -118,10 +129,11 @@ module _ (width : ℕ) (s : List ℕ) (at : ℕ) (p q e : List ℕ) (yes : Parts
           unfolding read_parts
           here-is = rw (word_next s at vars c ew, after-publics, after-queries, after-equations)
 
-          pub parts-told : PartsTold width s at p q e p' q' e'
-              (Read (record { width = width; vars = vars; queries = nq; equations = ne; words = we; publics = np }) c3)
+          pub parts-told : first_no (read_parts_asks width (rooms (length p) (length q) (length e) 0)) ≡ 0 → PartsTold width s at p q e p' q' e'
+              (Ok (record { width = width; vars = vars; queries = nq; equations = ne; words = we; publics = np }, c3))
           unfolding PartsLeft
-          parts-told =
+          parts-told yes-all =
+              let from-is = from-here width s at p q e yes-all ∙ here-is in
               let i = (read_u32-read s at vars c ew).past in
               let i1 = gp.past in
               let i2 = gq.past in
@@ -129,55 +141,43 @@ module _ (width : ℕ) (s : List ℕ) (at : ℕ) (p q e : List ℕ) (yes : Parts
               let z : c3.at ≡ parts_end at parts = omega arith in
               record {
                 answer =
-                    (λ j. Read (record { width = width; vars = vars; queries = gq.count j; equations = ge.count j; words = ge.size j; publics = gp.count j }) (cursor (z j)))
-                    ∙ sym (ap (parts_answer width at) here-is);
-                left = rw here-is (record { publics = gp.stored; queries = gq.stored; equations = ge.stored });
+                    (λ j. Ok (record { width = width; vars = vars; queries = gq.count j; equations = ge.count j; words = ge.size j; publics = gp.count j }, cursor (z j)))
+                    ∙ sym (ap (parts_answer width at) from-is);
+                left = rw from-is (record { publics = gp.stored; queries = gq.stored; equations = ge.stored });
               }
 
 -- ---- telling
-pub parts-refused : (width : ℕ) (s : List ℕ) (at : ℕ) (p q e p' q' e' : List ℕ) (j k : ℕ) → j ≡ k → parts_here width s at p q e ≡ stop k
-    → PartsTold width s at p q e p' q' e' (Refused j)
-unfolding PartsLeft
-parts-refused width s at p q e p' q' e' j k i x =
-    record { answer = ap Refused i ∙ sym (ap (parts_answer width at) x); left = rw x tt }
+module _ (width : ℕ) (s : List ℕ) (at : ℕ) (p q e p' q' e' : List ℕ) (r : Result (PermutationInstance × Cursor) Refused) where
+  pub parts-refused : (why : Refused) → r ≡ Err why → parts_from width s at p q e ≡ stop why.0 → PartsTold width s at p q e p' q' e' r
+  unfolding PartsLeft
+  parts-refused why i x = record { answer = i ∙ sym (ap (parts_answer width at) x); left = rw x tt }
 
--- ---- the open reader: 1 and 2 first
-module _ (width : ℕ) (s : List ℕ) (at : ℕ) (p q e : List ℕ) (no : ℕ) (a : no ≡ first_no (read_parts_asks width (rooms (length p) (length q) (length e) 0))) where
+-- ---- the open reader: the stores become 0 where it refuses
+module _ (width : ℕ) (s : List ℕ) (at : ℕ) (p q e p₁ q₁ e₁ : List ℕ) (r : Result (PermutationInstance × Cursor) Refused) (t : PartsTold width s at p q e p₁ q₁ e₁ r) where
   abbrev from : Got Parts
   from = parts_from width s at p q e
 
-  pub parts-asked-no : (no ≡ 0 → ⊥) → (p' q' e' : List ℕ) → p' ≡ replicate (length p) 0 → q' ≡ replicate (length q) 0 → e' ≡ replicate (length e) 0
-      → PartsReads width s at p q e p' q' e' (Refused no)
-  unfolding parts_got
-  parts-asked-no h p' q' e' zp zq ze =
-      let g = after-no (first_no (read_parts_asks width (rooms (length p) (length q) (length e) 0))) (parts_here width s at p q e) no a h in
-      record { answer = rw g; publics = rw g zp; queries = rw g zq; equations = rw g ze }
+  -- is it refused?
+  told-err : (y : Got Parts) → from ≡ y → is_err r ≡ is_err (parts_answer width at y)
+  told-err y f = ap is_err (t.answer ∙ ap (parts_answer width at) f)
 
-  pub from-here : no ≡ 0 → from ≡ parts_here width s at p q e
-  unfolding parts_got
-  from-here z = after-yes _ _ no a z
+  pub parts-no : is_err r ≡ true → (p' q' e' : List ℕ) → p' ≡ replicate (length p) 0 → q' ≡ replicate (length q) 0 → e' ≡ replicate (length e) 0
+      → PartsReads width s at p q e p' q' e' r
+  parts-no i p' q' e' zp zq ze = go from refl
+    where
+      go : (y : Got Parts) → from ≡ y → PartsReads width s at p q e p' q' e' r
+      go (got x rest) f = let w : true ≡ false = sym i ∙ told-err (got x rest) f in cc
+      go (stop j) f = record { answer = t.answer; publics = rw f zp; queries = rw f zq; equations = rw f ze }
 
-  module _ (z : no ≡ 0) (p₁ q₁ e₁ : List ℕ) (r : PartsRead) (t : PartsTold width s at p q e p₁ q₁ e₁ r) where
-    answered : r ≡ parts_answer width at from
-    answered = t.answer ∙ sym (ap (parts_answer width at) (from-here z))
-
-    pub parts-no : (k : ℕ) → r ≡ Refused k → (p' q' e' : List ℕ) → p' ≡ replicate (length p) 0 → q' ≡ replicate (length q) 0 → e' ≡ replicate (length e) 0
-        → PartsReads width s at p q e p' q' e' r
-    parts-no k i p' q' e' zp zq ze = go from refl
-      where
-        go : (y : Got Parts) → from ≡ y → PartsReads width s at p q e p' q' e' r
-        go (got x rest) f = absurd (let w : Refused k ≡ Read _ _ = sym i ∙ answered ∙ ap (parts_answer width at) f in let n : ◌≡◌ {A = ℕ} 0 1 = cc in omega arith)
-        go (stop j) f = record { answer = answered; publics = rw f zp; queries = rw f zq; equations = rw f ze }
-
-    pub parts-got : (ins : PermutationInstance) (next : Cursor) → r ≡ Read ins next → PartsReads width s at p q e p₁ q₁ e₁ r
-    unfolding PartsLeft
-    parts-got ins next i = go from refl
-      where
-        go : (y : Got Parts) → from ≡ y → PartsReads width s at p q e p₁ q₁ e₁ r
-        go (got x rest) f =
-            let l = subst (λ (y : Got Parts). PartsLeft y p q e p₁ q₁ e₁) (sym (from-here z) ∙ f) t.left in
-            record { answer = answered; publics = rw f l.publics; queries = rw f l.queries; equations = rw f l.equations }
-        go (stop j) f = absurd (let w : Read ins next ≡ Refused j = sym i ∙ answered ∙ ap (parts_answer width at) f in let n : ◌≡◌ {A = ℕ} 0 1 = cc in omega arith)
+  pub parts-got : is_err r ≡ false → PartsReads width s at p q e p₁ q₁ e₁ r
+  unfolding PartsLeft
+  parts-got i = go from refl
+    where
+      go : (y : Got Parts) → from ≡ y → PartsReads width s at p q e p₁ q₁ e₁ r
+      go (got x rest) f =
+          let l = subst (λ (y : Got Parts). PartsLeft y p q e p₁ q₁ e₁) f t.left in
+          record { answer = t.answer; publics = rw f l.publics; queries = rw f l.queries; equations = rw f l.equations }
+      go (stop j) f = let w : false ≡ true = sym i ∙ told-err (stop j) f in cc
 
 -- ---- where they end, and that each query has 2w cells
 pub record PartsAt (width : ℕ) (s : List ℕ) (at : ℕ) (parts : Parts) (rest : List ℕ) : Type 0 where
@@ -207,13 +207,15 @@ parts_at width m s at parts rest e =
     }))))
 
 -- ---- what an answer tells
-module _ (width : ℕ) (s : List ℕ) (at : ℕ) (p q e p' q' e' : List ℕ) (r : PartsRead) (h : PartsReads width s at p q e p' q' e' r) where
-  pub read-refused : (k : ℕ) → r ≡ Refused k → parts_from width s at p q e ≡ stop k
-  read-refused k i = go (parts_from width s at p q e) (sym h.answer ∙ i)
+module _ (width : ℕ) (s : List ℕ) (at : ℕ) (p q e p' q' e' : List ℕ) (r : Result (PermutationInstance × Cursor) Refused) (h : PartsReads width s at p q e p' q' e' r) where
+  pub read-refused : (why : Refused) → r ≡ Err why → parts_from width s at p q e ≡ stop why.0
+  read-refused why i = go (parts_from width s at p q e) (sym h.answer ∙ i)
     where
-      go : (y : Got Parts) → parts_answer width at y ≡ Refused k → y ≡ stop k
+      go : (y : Got Parts) → parts_answer width at y ≡ Err why → y ≡ stop why.0
       go (got x rest) z = absurd (let n : ◌≡◌ {A = ℕ} 0 1 = cc in omega arith)
-      go (stop j) z = let n : j ≡ k = cc in ap (λ (m : ℕ). stop m) n
+      go (stop j) z =
+          let n : refusal j ≡ why = cc in
+          ap (λ (x : Refused). stop x.0) n
 
   -- parts that were got, and stored
   pub record PartsGot (ins : PermutationInstance) (next : Cursor) : Type 0 where
@@ -224,19 +226,18 @@ module _ (width : ℕ) (s : List ℕ) (at : ℕ) (p q e p' q' e' : List ℕ) (r 
     pub past : next.at ≡ parts_end at parts
     pub stored : PartsStored parts p q e p' q' e'
 
-  pub read-got : (ins : PermutationInstance) (next : Cursor) → r ≡ Read ins next → PartsGot ins next
+  pub read-got : (ins : PermutationInstance) (next : Cursor) → r ≡ Ok (ins, next) → PartsGot ins next
   read-got ins next i = go (parts_from width s at p q e) refl (sym h.answer ∙ i)
     where
-      go : (y : Got Parts) → parts_from width s at p q e ≡ y → parts_answer width at y ≡ Read ins next → PartsGot ins next
+      go : (y : Got Parts) → parts_from width s at p q e ≡ y → parts_answer width at y ≡ Ok (ins, next) → PartsGot ins next
       go (got x rest) f z =
-          let n : instance_read width x ≡ ins = cc in
-          let c : cursor (parts_end at x) ≡ next = cc in
+          let c : ◌≡◌ {A = PermutationInstance × Cursor} (instance_read width x, cursor (parts_end at x)) (ins, next) = cc in
           record {
             parts = x;
             rest = rest;
             reads = f;
-            is = sym n;
-            past = ap (λ (y : Cursor). y.at) (sym c);
+            is = ap (λ (y : PermutationInstance × Cursor). y.0) (sym c);
+            past = ap (λ (y : PermutationInstance × Cursor). y.1.at) (sym c);
             stored = record {
               publics = h.publics ∙ ap (store_after words_of_publics (length p)) f;
               queries = h.queries ∙ ap (store_after words_of_queries (length q)) f;

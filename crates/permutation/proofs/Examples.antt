@@ -4,17 +4,16 @@
 use Prim.Native.Nat.{ℕ}
 use mathlib.Core.Path.{◌≡◌, refl}
 use mathlib.Core.List.{List, [], ◌∷◌}
+use Rattle.std.specs.Prelude.{Err, Ok}
+use Rattle.limits.specs.Outcome.{Outcome, refusal}
 use Rattle.limits.specs.Numbers.{unassigned}
-use Rattle.limits.specs.Questions.{ask, ◌▸◌}
-use Rattle.limits.specs.declared.Outcome.{Outcome}
-use Rattle.limits.specs.declared.Outcome.TheVariants as outcome
+use Rattle.limits.specs.Questions.{ask, first_of_two}
 use Rattle.baby_bear.specs.Field.{add_unit, mul_unit}
 use Rattle.allocator.specs.Slots.{pair, pair_no, set_items}
 use Rattle.permutation.specs.Numbers.{new_relation_no, allocate_vars_no, set_var_no, set_vars_no}
 use Rattle.permutation.specs.Answers.{relation, new_relation, new_slots, new_uses, set_var, set_vars_run, set_vars, allocate_vars}
 use Rattle.permutation.specs.declared.PermutationRelation.{PermutationRelation}
 use Rattle.allocator.specs.declared.Set.TheVariants as set
-use Rattle.permutation.specs.declared.First.TheVariants as first
 use Rattle.permutation.specs.declared.SetVars.{SetVars}
 
 abbrev before : List ℕ
@@ -30,13 +29,13 @@ slots = new_slots 1 before before
 pub record Examples : Type 0 where
   pub sum : add_unit 2013265920 1 ≡ 0
   pub product : mul_unit 2013265920 2013265920 ≡ 1
-  pub set-zero : set_var one slots (pair 0 0) ≡ set.Repeated
-  pub set-five : set_var one slots (pair 0 5) ≡ set.Refused 8
-  pub allocate-all : (allocate_vars one slots 1073741824).first ≡ first.Refused 5
-  pub allocate-rest : (allocate_vars one slots 1073741823).first ≡ first.Refused 6
+  pub set-zero : set_var one slots (pair 0 0) ≡ Ok set.Repeated
+  pub set-five : set_var one slots (pair 0 5) ≡ Err (refusal 8)
+  pub allocate-all : (allocate_vars one slots 1073741824).first ≡ Err (refusal 5)
+  pub allocate-rest : (allocate_vars one slots 1073741823).first ≡ Err (refusal 6)
 
 pub examples : Examples
-unfolding ask ◌▸◌ add_unit mul_unit new_relation_no set_var_no allocate_vars_no
+unfolding ask first_of_two add_unit mul_unit new_relation_no set_var_no allocate_vars_no
 examples = record { sum = refl; product = refl; set-zero = refl; set-five = refl; allocate-all = refl; allocate-rest = refl }
 
 -- ---- fresh and its use store (document 02's R-6)
@@ -51,7 +50,7 @@ pub record Fresh : Type 0 where
   pub refused : new_uses 1 (9 ∷ 9 ∷ []) (3 ∷ []) ≡ 3 ∷ []
 
 pub fresh : Fresh
-unfolding ask ◌▸◌ new_relation_no
+unfolding ask first_of_two new_relation_no
 fresh = record { no_slot = refl; short = refl; long = refl; too_large = refl; cleared = refl; refused = refl }
 
 -- ---- set lists
@@ -65,15 +64,15 @@ told outcome accepted fresh = record { outcome = outcome; accepted = accepted; f
 
 pub record Lists : Type 0 where
   -- wire 1 twice and wire 0: of four accepted ones two are fresh
-  pub whole : listed 1 3 (1 ∷ 0 ∷ 1 ∷ 2 ∷ []) (7 ∷ 0 ∷ 7 ∷ 7 ∷ []) ≡ told outcome.Accepted 4 2
+  pub whole : listed 1 3 (1 ∷ 0 ∷ 1 ∷ 2 ∷ []) (7 ∷ 0 ∷ 7 ∷ 7 ∷ []) ≡ told (Ok tt) 4 2
   -- what follows the refused pair isn't counted
-  pub refused : listed 1 3 (1 ∷ 0 ∷ 1 ∷ 2 ∷ []) (7 ∷ 0 ∷ 8 ∷ 7 ∷ []) ≡ told (outcome.Refused 8) 2 1
+  pub refused : listed 1 3 (1 ∷ 0 ∷ 1 ∷ 2 ∷ []) (7 ∷ 0 ∷ 8 ∷ 7 ∷ []) ≡ told (Err (refusal 8)) 2 1
   -- 9 comes after the common pairs, which count
-  pub cut : listed 1 3 (1 ∷ 2 ∷ []) (7 ∷ []) ≡ told (outcome.Refused 9) 1 1
+  pub cut : listed 1 3 (1 ∷ 2 ∷ []) (7 ∷ []) ≡ told (Err (refusal 9)) 1 1
   -- at 1 and 2 nothing is tried
-  pub widthless : listed 0 3 (1 ∷ []) (7 ∷ []) ≡ told (outcome.Refused 1) 0 0
-  pub unfit : listed 1 4 (1 ∷ []) (7 ∷ []) ≡ told (outcome.Refused 2) 0 0
+  pub widthless : listed 0 3 (1 ∷ []) (7 ∷ []) ≡ told (Err (refusal 1)) 0 0
+  pub unfit : listed 1 4 (1 ∷ []) (7 ∷ []) ≡ told (Err (refusal 2)) 0 0
 
 pub lists : Lists
-unfolding ask ◌▸◌ set_vars_no pair_no set_items set_vars_run
+unfolding ask first_of_two set_vars_no pair_no set_items set_vars_run
 lists = record { whole = refl; refused = refl; cut = refl; widthless = refl; unfit = refl }

@@ -10,6 +10,7 @@ use borrow.Author.Tests.{ltb-true, ltb-false}
 use lib.Dec.{eqb, ltb}
 use lib.ListN.{length, take, get_or, get_or-eq_default}
 use lib.Seq.{get_or-take, length-take-le}
+use Rattle.std.specs.Prelude.{Err, None, Ok, Some}
 use Rattle.limits.specs.Numbers.{prime, unassigned, max_count}
 use Rattle.limits.specs.Questions.{pick, ask, ◌▸◌, first_no, on_yes}
 use Rattle.limits.proofs.Questions.{stays, ask-no, zero-▸}
@@ -21,7 +22,6 @@ use Rattle.allocator.proofs.Values.{slot-fits}
 use Rattle.permutation.specs.Answers.{slot_value}
 use Rattle.permutation.specs.State.{HoldsSlots}
 use Rattle.permutation.specs.Left.{sets_take, set_var_left, items_left, items_set, pair_left, pairs_left, pairs_set, given}
-use Rattle.allocator.specs.declared.VarValue.TheVariants as var_value
 use Rattle.permutation.proofs.Slots.{set_holds}
 
 -- ---- pairs on slots that hold the sets
@@ -111,14 +111,14 @@ pairs-left n = run-left (pair_no n) (pair_left n) (λ p. p) n (λ slots p z. z) 
 
 -- ---- a slot's value is what the sets give its wire
 module _ (n : ℕ) (slots : List ℕ) (sets : List Pair) (o : HoldsSlots n slots sets) where
-  pub slot-given : (x : ℕ) → pick (ltb x n) (slot_value (get_or slots x unassigned)) var_value.Nothing ≡ given (look sets x)
+  pub slot-given : (x : ℕ) → pick (ltb x n) (slot_value (get_or slots x unassigned)) (Ok None) ≡ given (look sets x)
   slot-given x = go (ltb x n) refl
     where
-      held_by : (h : ℕ) (b : Bool) → pick b var_value.Nothing (var_value.Value h) ≡ given (pick b none (some h))
+      held_by : (h : ℕ) (b : Bool) → pick b (Ok None) (Ok (Some h)) ≡ given (pick b none (some h))
       held_by h true = refl
       held_by h false = refl
 
-      go : (b : Bool) → ltb x n ≡ b → pick b (slot_value (get_or slots x unassigned)) var_value.Nothing ≡ given (look sets x)
+      go : (b : Bool) → ltb x n ≡ b → pick b (slot_value (get_or slots x unassigned)) (Ok None) ≡ given (look sets x)
       go true e =
           held_by (get_or slots x unassigned) (eqb (get_or slots x unassigned) unassigned)
           ∙ ap given (ap slot_unit (sym (get_or-take n slots x unassigned (ltb-true x n e))) ∙ o.held x)

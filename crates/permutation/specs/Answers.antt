@@ -1,45 +1,37 @@
 -- What each call on a relation's wires answers, and what it leaves of record and slots: by its number, which is 0
 -- where it is accepted. Assumes nothing.
-use Rattle.std.specs.Prelude.{ℕ, zero, suc, ◌+◌, List, eqb, ltb, length, get_or, set, replicate}
+use Rattle.std.specs.Prelude.{ℕ, ◌+◌, List, Some, None, Result, Ok, Err, eqb, ltb, length, get_or, set, replicate}
 use Rattle.limits.specs.Numbers.{unassigned}
 use Rattle.limits.specs.Questions.{pick, ask, ◌▸◌, on_yes}
-use Rattle.limits.specs.Outcome.{outcome_of}
+use Rattle.limits.specs.Outcome.{answer_of, answer_number, outcome_of, refusal}
+use Rattle.limits.specs.declared.Refused.{Refused}
+use Rattle.permutation.specs.Records.{First, Recorded, Allocated, IsAllocated}
+pub use Rattle.permutation.specs.Records.{relation}
 use Rattle.allocator.specs.Slots.{Pair, pairs, is_fresh, grown_slots, with_pair, SetRun, ran, run_after, set_run}
 use Rattle.allocator.specs.Assign.{set_of}
 use Rattle.permutation.specs.Numbers.{new_relation_no, allocate_vars_no, set_var_no, set_vars_no, value_of_no, is_allocated_no}
 use Rattle.permutation.specs.declared.PermutationRelation.{PermutationRelation}
 use Rattle.allocator.specs.declared.Set.{Set}
-use Rattle.permutation.specs.declared.First.{First}
-use Rattle.permutation.specs.declared.First.TheVariants as first
-use Rattle.permutation.specs.declared.Recorded.{Recorded}
-use Rattle.permutation.specs.declared.Allocated.{Allocated}
 use Rattle.permutation.specs.declared.SetVars.{SetVars}
-use Rattle.allocator.specs.declared.VarValue.{VarValue}
-use Rattle.allocator.specs.declared.VarValue.TheVariants as var_value
-use Rattle.permutation.specs.declared.IsAllocated.{IsAllocated}
-use Rattle.permutation.specs.declared.IsAllocated.TheVariants as is_allocated-is
+use Rattle.allocator.specs.VarValue.{VarValue}
 
 -- ---- answers by number
 -- the first new wire at 0, else refused with the number
 abbrev pub first_of : ℕ → ℕ → First
-first_of zero var = first.Var var
-first_of (suc k) var = first.Refused (suc k)
+first_of = answer_of
 
 -- document 01's number of an allocation's answer: 0 is yes
 abbrev pub first_number : First → ℕ
-first_number (first.Var v) = 0
-first_number (first.Refused k) = k
+first_number = answer_number
 
 -- the first new wire, 0 after a refusal
 abbrev pub first_var : First → ℕ
-first_var (first.Var x) = x
-first_var (first.Refused k) = 0
+first_var (Ok x) = x
+first_var (Err e) = 0
 
 -- of a look whether a wire is allocated
 abbrev pub is_allocated_number : IsAllocated → ℕ
-is_allocated_number is_allocated-is.Yes = 0
-is_allocated_number is_allocated-is.No = 0
-is_allocated_number (is_allocated-is.Refused k) = k
+is_allocated_number = answer_number
 
 -- the outcome with the record: the new one at 0, else the one that was given
 abbrev pub recorded_of : ℕ → PermutationRelation → PermutationRelation → Recorded
@@ -50,11 +42,6 @@ abbrev pub allocated_of : ℕ → ℕ → PermutationRelation → PermutationRel
 allocated_of k var new given = record { first = first_of k var; relation = on_yes k new given }
 
 -- ---- records
--- the record of these counts
-abbrev pub relation : (width vars queries equations words stray : ℕ) → PermutationRelation
-relation width vars queries equations words stray =
-    record { width = width; vars = vars; queries = queries; equations = equations; words = words; stray = stray }
-
 -- n wires more
 abbrev pub more_vars : PermutationRelation → ℕ → PermutationRelation
 more_vars rel n = relation rel.width (rel.vars + n) rel.queries rel.equations rel.words rel.stray
@@ -92,7 +79,7 @@ allocate_vars_slots rel slots n = on_yes (allocate_vars_no rel (length slots) n)
 
 -- ---- set: the slot becomes the value
 -- the answer, fresh where the slot was unassigned; the record has nothing new
-abbrev pub set_var : PermutationRelation → List ℕ → Pair → Set
+abbrev pub set_var : PermutationRelation → List ℕ → Pair → Result Set Refused
 set_var rel slots p = set_of (set_var_no rel slots p) (is_fresh slots p)
 
 -- the slots afterwards
@@ -122,19 +109,19 @@ set_vars_slots rel slots vars values = (set_vars_run rel slots vars values).slot
 -- ---- value of a wire: its slot, none where it is unassigned or beyond the count
 -- what a slot says of its wire
 abbrev pub slot_value : ℕ → VarValue
-slot_value held = pick (eqb held unassigned) var_value.Nothing (var_value.Value held)
+slot_value held = pick (eqb held unassigned) (Ok None) (Ok (Some held))
 
 -- the answer
 abbrev pub value_of : PermutationRelation → List ℕ → ℕ → VarValue
 value_of rel slots var =
     on_yes (value_of_no rel (length slots) var)
-    (pick (ltb var rel.vars) (slot_value (get_or slots var unassigned)) var_value.Nothing)
-    (var_value.Refused (value_of_no rel (length slots) var))
+    (pick (ltb var rel.vars) (slot_value (get_or slots var unassigned)) (Ok None))
+    (Err (refusal (value_of_no rel (length slots) var)))
 
 -- ---- is it allocated: is it below the count?
 -- the answer
 abbrev pub is_allocated : PermutationRelation → ℕ → IsAllocated
 is_allocated rel var =
     on_yes (is_allocated_no rel var)
-    (pick (ltb var rel.vars) is_allocated-is.Yes is_allocated-is.No)
-    (is_allocated-is.Refused (is_allocated_no rel var))
+    (Ok (ltb var rel.vars))
+    (Err (refusal (is_allocated_no rel var)))

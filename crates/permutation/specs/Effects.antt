@@ -1,14 +1,14 @@
 -- What each call on a relation's wires does, its parts by name: the answer, told as the caller has it (`as_is` or, for
 -- C, as a struct), and each lent store. A store's ₀ is what it held before the call, its ₁ what it holds after it.
 -- Assumes nothing.
-use Rattle.std.specs.Prelude.{ℕ, ◌≡◌, List}
+use Rattle.std.specs.Prelude.{ℕ, ◌≡◌, List, Result}
 use Rattle.allocator.specs.Slots.{Pair}
 use Rattle.allocator.specs.Assign.{Runs}
 use Rattle.permutation.specs.Answers.{new_relation, new_slots, new_uses, allocate_vars, allocate_vars_slots, set_var, set_var_slots, set_vars_run, set_vars_of}
 use Rattle.permutation.specs.declared.PermutationRelation.{PermutationRelation}
+use Rattle.limits.specs.declared.Refused.{Refused}
 use Rattle.allocator.specs.declared.Set.{Set}
-use Rattle.permutation.specs.declared.Recorded.{Recorded}
-use Rattle.permutation.specs.declared.Allocated.{Allocated}
+use Rattle.permutation.specs.Records.{Recorded, Allocated}
 use Rattle.permutation.specs.declared.SetVars.{SetVars}
 
 -- fresh
@@ -24,7 +24,7 @@ pub record AllocatesVars {A : Type 0} (told : Allocated → A) (rel : Permutatio
   pub slots : slots₁ ≡ allocate_vars_slots rel slots₀ n
 
 -- set
-pub record SetsVar {A : Type 0} (told : Set → A) (rel : PermutationRelation) (slots₀ : List ℕ) (p : Pair)
+pub record SetsVar {A : Type 0} (told : Result Set Refused → A) (rel : PermutationRelation) (slots₀ : List ℕ) (p : Pair)
     (r : A) (slots₁ : List ℕ) : Type 0 where
   pub answer : r ≡ told (set_var rel slots₀ p)
   pub slots : slots₁ ≡ set_var_slots rel slots₀ p

@@ -8,10 +8,10 @@ use Rattle.limits.specs.Questions.{pick, ask, ◌▸◌, Question, first_no, on_
 use Rattle.limits.specs.Asks.{store_asks}
 use Rattle.allocator.specs.Slots.{Pair, grow_asks_with, setting_asks, pairs}
 use Rattle.allocator.specs.Values.{look, fits}
-use Rattle.allocator.specs.declared.VarValue.{VarValue}
-use Rattle.allocator.specs.declared.VarValue.TheVariants as var_value
-use Rattle.permutation.specs.declared.IsAllocated.{IsAllocated}
-use Rattle.permutation.specs.declared.IsAllocated.TheVariants as allocated
+use Rattle.std.specs.Prelude.{Some, None, Ok, Err}
+use Rattle.limits.specs.Outcome.{refusal}
+use Rattle.allocator.specs.VarValue.{VarValue}
+use Rattle.permutation.specs.Records.{IsAllocated}
 
 -- allocate: 5 and 6, where the wires would be too many, and what is put in between
 abbrev pub allocate_vars_left : List Question → ℕ → ℕ → ℕ → List Question
@@ -63,16 +63,16 @@ set_vars_set n sets vars values = on_yes (lists_left vars values) (pairs_set n s
 
 -- value of a wire: 3, else what the sets give it
 abbrev pub given : Option ℕ → VarValue
-given none = var_value.Nothing
-given (some v) = var_value.Value v
+given none = Ok None
+given (some v) = Ok (Some v)
 
 -- the answer to it, by the sets alone
 abbrev pub value_left : List Pair → ℕ → VarValue
 value_left sets x =
-    on_yes (ask 3 (ltb x max_count)) (given (look sets x)) (var_value.Refused (ask 3 (ltb x max_count)))
+    on_yes (ask 3 (ltb x max_count)) (given (look sets x)) (Err (refusal (ask 3 (ltb x max_count))))
 
 -- is it allocated: 3, else whether it is below n
 abbrev pub is_allocated_left : ℕ → ℕ → IsAllocated
 is_allocated_left n x =
-    on_yes (ask 3 (ltb x max_count)) (pick (ltb x n) allocated.Yes allocated.No)
-    (allocated.Refused (ask 3 (ltb x max_count)))
+    on_yes (ask 3 (ltb x max_count)) (Ok (ltb x n))
+    (Err (refusal (ask 3 (ltb x max_count))))

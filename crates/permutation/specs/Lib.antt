@@ -1,4 +1,5 @@
 pub mod Sharing
+pub mod Records
 pub mod Relation
 pub mod Numbers
 pub mod Answers

@@ -7,37 +7,31 @@ use Prim.Native.Nat.{ℕ, zero, suc, ◌+◌, ◌-◌, ◌*◌, ◌/◌, ◌%◌
 use mathlib.Core.Path.{◌≡◌, refl, sym, ap, ◌∙◌}
 use mathlib.Core.Logic.{⊎_elim}
 use mathlib.Core.Bool.{true}
-use mathlib.Core.List.{List, ◌∷◌}
+use mathlib.Core.List.{List, [], ◌∷◌, ◌++◌}
 use native.Mathlib.Omega.{arith}
 use native.Mathlib.Numerals.{add-one}
 use native.Mathlib.Nat.{mul-le-mul, eq-or-lt_of_le}
+use borrow.Author.Rules.{rules}
+use borrow.Rule.Slice.PartMut.{put_mid, post_of}
 use lib.Dec.{lit<}
 use lib.ListN.{length, get_or, take, drop, set, replicate, length-set, length-take, length-drop, drop_of_length-le}
 use lib.Seq.{drop-cons, drop-drop, get_or-take, get_or-drop, get_or-set_same, get_or-set_other}
-use Rattle.limits.specs.Numbers.{prime, max_width}
-use Rattle.limits.proofs.Below.{below-replicate, below-take, below-drop, below_set}
+use Rattle.std.proofs.lemmas.List.{places}
+use Rattle.limits.specs.Numbers.{prime}
+use Rattle.limits.proofs.Below.{below-cons, cons-below, below-replicate, below-take, below-drop, below_set}
 use Rattle.baby_bear.specs.Field.{are_units, dot}
 use Rattle.baby_bear.proofs.Units.{units-at}
 use Rattle.permute.specs.Parameters.{rows_of}
 use Rattle.permute.specs.Columns.{strided, turned_rows, four, half}
-use Rattle.permute.specs.Walks.{MatrixAsked, Turned, ColumnAsked, ColumnPut, ProductAsked, FourAsked, SumsAsked, SumsAdded, NoSums, Summing, Summed}
+use Rattle.permute.specs.Walks.{MatrixAsked, Turned, ColumnAsked, ColumnPut, ProductAsked, FourAsked, SumsAsked, SumsAdded, Summing, Summed}
 
 -- ---- places
 -- an array before anything is put into it
 abbrev zeros : ℕ → List ℕ
 zeros n = replicate n 0
 
-zeros-at : (n i : ℕ) → get_or (zeros n) i 0 ≡ 0
-zeros-at zero i = refl
-zeros-at (suc n) zero = refl
-zeros-at (suc n) (suc i) = zeros-at n i
-
 pub zeros-units : (n : ℕ) → are_units (zeros n) ≡ true
 zeros-units n = below-replicate prime n 0 (lit< tt)
-
-pub no-sums : NoSums (zeros max_width) (zeros max_width)
-no-sums =
-    record { low-long = refl; high-long = refl; low-zero = zeros-at max_width; high_zero = zeros-at max_width }
 
 -- word k of row i, in a square of w words by w, and in m rows of w words
 row_room : (w m k i : ℕ) → k < w → i < m → k + i * w < m * w
@@ -47,86 +41,66 @@ row_room w m k i h l = omega (arith, mul-le-mul {n₁ = suc i} {m₁ = w} {n₂ 
 last-or-before : {A : Type 0} (i n : ℕ) → n < i + 1 → (n ≡ i → A) → (n < i → A) → A
 last-or-before i n h f g = let l : n ≤ i = omega arith in ⊎_elim f g (eq-or-lt_of_le l)
 
--- ---- one column of the matrix, put word by word
-pub record Putting (matrix : List ℕ) (w k at : ℕ) (first columns : List ℕ) (i from : ℕ) : Type 0 where
-  pub units : are_units columns ≡ true
-  pub earlier : (n : ℕ) → n < at → get_or columns n 0 ≡ get_or first n 0
-  pub written : (n : ℕ) → n < i → get_or columns (at + n) 0 ≡ get_or matrix (k + n * w) 0
-  pub place : from ≡ k + i * w
-  pub kept : length columns ≡ length first
-  pub within : i ≤ w
+-- ---- one column of the matrix, put word by word: the first i of the words at its place are
+pub record Putting (matrix : List ℕ) (w k : ℕ) (words : List ℕ) (i : ℕ) : Type 0 where
+  pub units : are_units words ≡ true
+  pub written : (n : ℕ) → n < i → get_or words n 0 ≡ get_or matrix (k + n * w) 0
+
+append-units : (x y : List ℕ) → are_units x ≡ true → are_units y ≡ true → are_units (x ++ y) ≡ true
+append-units [] y e f = f
+append-units (a ∷ x) y e f =
+    let p = below-cons prime a x e in
+    cons-below prime a (x ++ y) p.0 (append-units x y p.1 f)
 
 module _ {matrix : List ℕ} {w k at : ℕ} {first : List ℕ} (a : ColumnAsked matrix w k at first) where
-  pub putting-start : Putting matrix w k at first first 0 k
+  pub putting-start : Putting matrix w k (take (at + w - at) (drop at first)) 0
   putting-start =
-      record {
-        units = a.units;
-        earlier = λ n h. refl;
-        written = λ n h. absurd (omega arith);
-        place = omega arith;
-        kept = refl;
-        within = omega arith;
-      }
+      record { units = below-take prime (at + w - at) (drop at first) (below-drop prime at first a.units); written = λ n h. absurd (omega arith) }
 
-  module _ {columns : List ℕ} {i from : ℕ} (p : Putting matrix w k at first columns i from) where
-    pub putting-room : i < w → from < length matrix
-    putting-room h = omega (arith, row_room w w k i a.column h, p.place, a.square)
+  module _ {words : List ℕ} {i : ℕ} (p : Putting matrix w k words i) (l : length words ≡ length (take (at + w - at) (drop at first))) where
+    words-long : length words ≡ w
+    words-long = l ∙ simp (length-take, length-drop) (omega (arith, a.room))
 
-    pub putting-turn : i < w → Putting matrix w k at first (set columns (at + i) (get_or matrix from 0)) (i + 1) (from + w)
-    putting-turn h =
-        let v = get_or matrix from 0 in
+    -- every w-th word from the k-th on
+    pub putting-turn : i < length (take (at + w - at) (drop at first)) → (v : ℕ) → v ≡ get_or (take (length matrix - k) (drop k matrix)) (i * w) 0 → Putting matrix w k (set words i v) (i + 1)
+    putting-turn h v e =
         record {
-          units = below_set prime columns (at + i) v (units-at matrix a.matrix-units from) p.units;
-          earlier = λ n b. get_or-set_other columns (at + i) n v 0 (λ z. omega (arith, z)) ∙ p.earlier n b;
-          written = λ n b. last-or-before i n b (here n) (λ z. get_or-set_other columns (at + i) (at + n) v 0 (λ y. omega (arith, y)) ∙ p.written n z);
-          place = omega (arith, p.place);
-          kept = length-set columns (at + i) v ∙ p.kept;
-          within = omega arith;
+          units = below_set prime words i v (omega (arith, is, units-at matrix a.matrix-units (k + i * w))) p.units;
+          written = λ n b. last-or-before i n b (λ z. rw z (get_or-set_same words i v 0 (omega (arith, l)) ∙ is)) (λ z. get_or-set_other words i n v 0 (λ y. omega (arith, y)) ∙ p.written n z);
         }
       where
-        here : (n : ℕ) → n ≡ i → get_or (set columns (at + i) (get_or matrix from 0)) (at + n) 0 ≡ get_or matrix (k + n * w) 0
-        here n z =
-            rw z (get_or-set_same columns (at + i) (get_or matrix from 0) 0 (omega (arith, p.kept, a.room)) ∙ ap (λ (t : ℕ). get_or matrix t 0) p.place)
+        is : v ≡ get_or matrix (k + i * w) 0
+        is =
+            e ∙ get_or-take (length matrix - k) (drop k matrix) (i * w) 0 (omega (arith, row_room w w k i a.column (omega (arith, l, words-long)), a.square))
+            ∙ get_or-drop k matrix (i * w) 0
 
-    pub putting-done : w ≤ i → ColumnPut matrix w k at first columns
+    pub putting-done : length (take (at + w - at) (drop at first)) ≤ i → ColumnPut matrix w k at first (put_mid at (at + w - at) first words)
     putting-done h =
-        record { units = p.units; earlier = p.earlier; written = λ n b. p.written n (omega arith) }
+        record {
+          units = append-units (take at first) (words ++ after) (below-take prime at first a.units)
+              (append-units words after p.units (below-drop prime (at + w - at) (drop at first) (below-drop prime at first a.units)));
+          earlier = λ n b. search (rules, places);
+          written = λ n b. let z : n < length words = omega (arith, words-long) in search (rules, places) ∙ p.written n (omega (arith, l));
+        }
+      where
+        after : List ℕ
+        after = post_of at (at + w - at) first
 
--- ---- all columns: k of them are done, and the next one goes to `at`
-pub record Turning (matrix : List ℕ) (w : ℕ) (first columns : List ℕ) (k at : ℕ) : Type 0 where
+-- ---- all columns: k of them are done
+pub record Turning (matrix : List ℕ) (w : ℕ) (first columns : List ℕ) (k : ℕ) : Type 0 where
   pub units : are_units columns ≡ true
   pub cells : (m n : ℕ) → m < k → n < w → get_or columns (m * w + n) 0 ≡ get_or matrix (m + n * w) 0
-  pub place : at ≡ k * w
   pub kept : length columns ≡ length first
-  pub within : k ≤ w
 
 module _ {matrix : List ℕ} {w : ℕ} {first : List ℕ} (a : MatrixAsked matrix w first) where
-  pub turning-start : Turning matrix w first first 0 0
-  turning-start =
-      record { units = a.units; cells = λ m n h. absurd (omega arith); place = omega arith; kept = refl; within = omega arith }
-
-  module _ {columns : List ℕ} {k at : ℕ} (t : Turning matrix w first columns k at) where
-    pub column-asked : k < w → ColumnAsked matrix w k at columns
-    column-asked h =
-        record {
-          square = a.square;
-          matrix-units = a.matrix-units;
-          units = t.units;
-          column = h;
-          room = omega (arith, mul-le-mul {n₁ = suc k} {m₁ = w} {n₂ = w} {m₂ = w} h (omega arith), t.place, t.kept, a.room);
-          wide = a.wide;
-        }
-
-    pub turning-turn : k < w → {columns' : List ℕ} → length columns' ≡ length columns → ColumnPut matrix w k at columns columns'
-        → Turning matrix w first columns' (k + 1) (at + w)
-    turning-turn h l e =
+  module _ {columns : List ℕ} {k : ℕ} (t : Turning matrix w first columns k) where
+    pub turning-turn : {columns' : List ℕ} → length columns' ≡ length columns → ColumnPut matrix w k (k * w) columns columns'
+        → Turning matrix w first columns' (k + 1)
+    turning-turn l e =
         record {
           units = e.units;
-          cells = λ m n b d. last-or-before k m b (λ z. rw (z, sym t.place) (e.written n d))
-              (λ z. e.earlier (m * w + n) (omega (arith, row_room w k n m d z, t.place)) ∙ t.cells m n z d);
-          place = omega (arith, t.place);
+          cells = λ m n b d. last-or-before k m b (λ z. rw z (e.written n d)) (λ z. e.earlier (m * w + n) (omega (arith, row_room w k n m d z)) ∙ t.cells m n z d);
           kept = l ∙ t.kept;
-          within = omega arith;
         }
 
     turned-row : w ≤ k → (n i m : ℕ) → i < w → m + n ≡ w → strided w n (m * w + i) columns ≡ take n (drop (m + i * w) matrix)
@@ -161,9 +135,6 @@ pub record Added (f : ℕ → ℕ) (first sums : List ℕ) (i : ℕ) : Type 0 wh
   pub left : (n : ℕ) → i ≤ n → get_or sums n 0 ≡ get_or first n 0
   pub kept : length sums ≡ length first
 
-added-start : (f : ℕ → ℕ) (first : List ℕ) → Added f first first 0
-added-start f first = record { done = λ n h. absurd (omega arith); left = λ n h. refl; kept = refl }
-
 added-turn : (f : ℕ → ℕ) (first sums : List ℕ) (i v : ℕ) → Added f first sums i → v ≡ get_or sums i 0 + f i → i < length first
     → Added f first (set sums i v) (i + 1)
 added-turn f first sums i v a e h =
@@ -181,11 +152,6 @@ added-turn f first sums i v a e h =
 pub record Adding (u : ℕ → ℕ) (w : ℕ) (low₀ high₀ low high : List ℕ) (i : ℕ) : Type 0 where
   pub low_part : Added (λ n. u n % half) low₀ low i
   pub high_part : Added (λ n. u n / half) high₀ high i
-  pub within : i ≤ w
-
-pub adding-start : (u : ℕ → ℕ) (w : ℕ) (low high : List ℕ) → Adding u w low high low high 0
-adding-start u w low high =
-    record { low_part = added-start _ low; high_part = added-start _ high; within = omega arith }
 
 module _ {u : ℕ → ℕ} {w : ℕ} {low₀ high₀ low high : List ℕ} {i : ℕ} (a : Adding u w low₀ high₀ low high i) where
   pub adding-done : w ≤ i → SumsAdded u w low₀ high₀ low high
@@ -193,20 +159,12 @@ module _ {u : ℕ → ℕ} {w : ℕ} {low₀ high₀ low high : List ℕ} {i : �
       record { low-is = λ n b. a.low_part.done n (omega arith); high_is = λ n b. a.high_part.done n (omega arith) }
 
   module _ (s : SumsAsked w low₀ high₀) (h : i < w) where
-    -- the parts before i's turn
-    pub parts-most : (get_or low i 0 ≤ 9223372036854775808) × (get_or high i 0 ≤ 9223372036854775808)
-    parts-most = (
-      omega (arith, a.low_part.left i (omega arith), s.low-most i h),
-      omega (arith, a.high_part.left i (omega arith), s.high-most i h),
-    )
-
     pub adding-turn : (v : ℕ) → v ≡ u i
         → Adding u w low₀ high₀ (set low i (get_or low i 0 + v % half)) (set high i (get_or high i 0 + v / half)) (i + 1)
     adding-turn v e =
         record {
           low_part = added-turn _ _ low i _ a.low_part (ap (λ (t : ℕ). get_or low i 0 + t % half) e) (omega (arith, s.low-room));
           high_part = added-turn _ _ high i _ a.high_part (ap (λ (t : ℕ). get_or high i 0 + t / half) e) (omega (arith, s.high-room));
-          within = omega arith;
         }
 
 -- ---- four products
@@ -262,18 +220,6 @@ module _ {columns x : List ℕ} (p : ProductAsked columns x) where
   -- the width
   abbrev w : ℕ
   w = length x
-
-  pub summing_start : {low high : List ℕ} → NoSums low high → Summing columns x w low high 0 0
-  summing_start z =
-      record {
-        sums = λ n h. omega (arith, z.low-zero n, z.high_zero n);
-        low_fits = λ n h. omega (arith, z.low-zero n);
-        high_fits = λ n h. omega (arith, z.high_zero n);
-        place = omega arith;
-        within = omega arith;
-        low-kept = z.low-long;
-        high-kept = z.high-long;
-      }
 
   module _ {low high : List ℕ} {j at : ℕ} (s : Summing columns x w low high j at) where
     -- k columns more, which come to u

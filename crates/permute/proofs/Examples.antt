@@ -4,7 +4,7 @@ use mathlib.Core.Path.{◌≡◌, refl}
 use mathlib.Core.Bool.{true, false}
 use mathlib.Core.List.{List, [], ◌∷◌}
 use Rattle.limits.specs.Below.{all_below}
-use Rattle.limits.specs.Questions.{ask, ◌▸◌}
+use Rattle.limits.specs.Questions.{ask, first_of_two}
 use Rattle.words.specs.Pieces.{pieces}
 use Rattle.baby_bear.specs.Field.{add_unit, mul_unit, power_unit, seventh, dot_units}
 use Rattle.permute.specs.Permute.{pairwise, on_kind, times_matrix, run_round, run_rounds, permute}
@@ -21,7 +21,7 @@ pub worked : (sound_parameters 1 1 words ≡ true)
     × (is_evaluation 1 1 words (2 ∷ 5 ∷ []) ≡ true) × (is_evaluation 1 1 words (3 ∷ 640 ∷ []) ≡ true)
     × (is_evaluation 1 1 words (2 ∷ 6 ∷ []) ≡ false)
     × (leading (is_evaluation 1 1 words) (pieces 2 3 (2 ∷ 5 ∷ 2 ∷ 6 ∷ 3 ∷ 640 ∷ [])) ≡ 1)
-unfolding ask ◌▸◌ add_unit mul_unit power_unit seventh all_below dot_units pairwise on_kind times_matrix run_round run_rounds rounds_of rows_of sound_kinds unit_constants unit_rows sound_parameters permute_no same_words is_evaluation leading
+unfolding ask first_of_two add_unit mul_unit power_unit seventh all_below dot_units pairwise on_kind times_matrix run_round run_rounds rounds_of rows_of sound_kinds unit_constants unit_rows sound_parameters permute_no same_words is_evaluation leading
 worked = (refl, refl, refl, refl, refl, refl, refl)
 
 -- ---- w = 2, one round, constants 1 and 2, matrix rows 1 2 and 3 4, input 1 1: rows and columns are told apart, and

@@ -1,5 +1,6 @@
 pub mod Examples
 pub mod Fill
+pub mod Chunks
 pub mod Columns
 pub mod Times
 pub mod Mix

@@ -1,22 +1,31 @@
 -- Question 17: what it says of the words, and that the code's test of them is the definition's.
 --
 -- The code looks at all words at once, kinds too: a kind that is 0 or 1 is below p. Assumes nothing.
-use Prim.Native.Nat.{ℕ, zero, suc, ◌+◌, ◌-◌, ◌*◌, ◌≤◌, ◌<◌}
+use Prim.Native.Nat.{ℕ, zero, suc, ◌+◌, ◌*◌, ◌≤◌, ◌<◌}
 use mathlib.Core.Path.{◌≡◌, refl, sym, ap, ◌∙◌}
 use mathlib.Core.Bool.{Bool, true, false, ◌&&◌}
-use mathlib.Core.List.{List, [], ◌∷◌}
+use mathlib.Core.List.{List, [], ◌∷◌, ◌++◌}
 use native.Mathlib.Omega.{arith}
-use native.Mathlib.Nat.{mul-le-mul}
-use borrow.Author.Tests.{lt-ltb, ltb-true, leb-true, le-leb, le-ltb, eqb-true, eq-eqb, ne_eqb}
+use borrow.Author.Tests.{lt-ltb, ltb-true, leb-true, le-leb, eqb-true, eq-eqb}
 use lib.Dec.{ltb, leb, eqb}
 use lib.ListN.{length, get_or, take, drop, length-drop}
-use lib.Seq.{drop-drop, get_or-drop}
+use lib.Seq.{drop-drop, get_or-drop, take_at, drop_at}
+use denote.Ref.{Bor}
+use Rattle.std.specs.declared.iter.Take.{Take}
+use Rattle.std.specs.declared.slice.ChunksExact.{ChunksExact}
+use Rattle.std.specs.List.{list_all}
+use Rattle.std.specs.Iterator.Adapters.{take_source, take_count, take_steps}
+use Rattle.std.specs.Slice.Iter.{chunks_exact_rest, chunks_exact_size, chunks_exact_steps}
+use Rattle.std.proofs.Common.{Some, None}
+use Rattle.std.proofs.lemmas.Iterator.{YieldsList}
+use Rattle.std.proofs.lemmas.Iterator.Splits.{YieldsList-from_shown_while}
 use Rattle.limits.specs.Numbers.{prime}
 use Rattle.limits.specs.Below.{all_below}
 use Rattle.limits.proofs.Below.{both_true, true-both, below-take, below-drop, below_both}
 use Rattle.baby_bear.specs.Field.{are_units}
-use Rattle.permute.specs.Permute.{round_of}
+use Rattle.permute.specs.Permute.{Round, round_of}
 use Rattle.permute.specs.Parameters.{rounds_of, rows_of, sound_kinds, unit_constants, unit_rows, sound_parameters}
+use Rattle.permute.proofs.Chunks.{Chunk, chunk-room, no-chunk}
 
 kind-unit : (a : ℕ) → ltb a 2 ≡ true → ltb a prime ≡ true
 kind-unit a e = lt-ltb a prime (omega (arith, ltb-true a 2 e))
@@ -116,19 +125,6 @@ refused false f = refl
 pub never : (a : Bool) → a ≡ false → a ≡ true → ⊥
 never a e f = let z : ◌≡◌ {A = Bool} false true = cc in let y : ◌≡◌ {A = ℕ} 0 1 = cc in omega arith
 
--- the length, with the square taken away first
-pub too_short : (len square rest : ℕ) → len < square → false ≡ eqb len (rest + square)
-too_short len square rest h = sym (ne_eqb len (rest + square) (λ e. absurd (omega (arith, e))))
-
-pub square-away : (len square rest : ℕ) → square ≤ len → eqb (len - square) rest ≡ eqb len (rest + square)
-square-away len square rest h =
-    same-says _ _
-    (λ e. eq-eqb len (rest + square) (omega (arith, eqb-true (len - square) rest e)))
-    (λ e. eq-eqb (len - square) rest (omega (arith, eqb-true len (rest + square) e)))
-
-pub rounds-fit : (w rounds : ℕ) → w < 4294967296 → rounds ≤ 128 → rounds * (w + 1) ≤ 549755813888
-rounds-fit w rounds h l = mul-le-mul {n₁ = rounds} {m₁ = w + 1} {n₂ = 128} {m₂ = 4294967296} l (omega arith)
-
 module _ (w rounds : ℕ) (words : List ℕ) where
   pub too_many : 128 < rounds → false ≡ sound_parameters w rounds words
   too_many h = refused _ (λ e. absurd (omega (arith, (sound-is w rounds words e).few)))
@@ -158,26 +154,52 @@ round-at w n at words =
     let b : at + suc w ≡ at + (w + 1) = omega arith in
     rw (get_or-drop at words 0 0, a, drop-drop 1 at words, drop-drop (suc w) at words, b)
 
--- ---- kinds: the first of those left decides, or the next ones
-module _ (w left at : ℕ) (words : List ℕ) (whole : Bool) (e : sound_kinds (rounds_of w left (drop at words)) ≡ whole) where
-  kind-turn : (n : ℕ) → left ≡ suc n → (ltb (get_or words at 0) 2 && sound_kinds (rounds_of w n (drop (at + (w + 1)) words))) ≡ whole
-  unfolding rounds_of sound_kinds
-  kind-turn n l =
-      sym (ap (λ (k : ℕ). sound_kinds (rounds_of w k (drop at words))) l ∙ ap sound_kinds (round-at w n at words)) ∙ e
+-- the first of the rounds left, and those that come after it
+round-on : (w n : ℕ) (round left : List ℕ) → length round ≡ w + 1
+    → rounds_of w (suc n) (round ++ left) ≡ round_of (get_or round 0 0) (drop 1 round) ∷ rounds_of w n left
+unfolding rounds_of
+round-on w n [] left l = absurd (omega arith)
+round-on w n (kind ∷ constants) left l =
+    let k : length constants ≡ w = omega arith in
+    rw (take_at constants left w k, drop_at constants left w k)
 
-  pub kind-bad : 0 < left → 1 < get_or words at 0 → false ≡ whole
-  kind-bad h k = simp (le-ltb (get_or words at 0) 2 (omega arith)) at (kind-turn (left - 1) (omega arith))
+pub round-first : (w : ℕ) {n n' : ℕ} {left round left' : List ℕ} → Chunk (w + 1) n left round n' left'
+    → rounds_of w n left ≡ round_of (get_or round 0 0) (drop 1 round) ∷ rounds_of w n' left'
+round-first w {n} {n'} {left} {round} {left'} c =
+    let e : n ≡ suc n' = omega (arith, c.count) in
+    rw (e, c.parts) (round-on w n' round left' c.long)
 
-  pub kind-good : 0 < left → get_or words at 0 ≤ 1 → sound_kinds (rounds_of w (left - 1) (drop (at + (w + 1)) words)) ≡ whole
-  kind-good h k = simp (lt-ltb (get_or words at 0) 2 (omega arith)) at (kind-turn (left - 1) (omega arith))
+-- ---- chunks of w + 1 words, as many as there are rounds, are the rounds
+module _ (w : ℕ) where
+  -- the rounds left
+  abbrev left : Take (ChunksExact ℕ) → List Round
+  left s = rounds_of w (take_count s) (chunks_exact_rest (take_source s))
 
-  pub kinds-done : left ≤ 0 → true ≡ whole
-  unfolding rounds_of sound_kinds
-  kinds-done h = let z : left ≡ 0 = omega arith in rw z at e
+  -- chunks of that size, and words for all of them
+  abbrev Room : Take (ChunksExact ℕ) → Type 0
+  Room s = (chunks_exact_size (take_source s) ≡ w + 1) × (take_count s * (w + 1) ≤ length (chunks_exact_rest (take_source s)))
 
-  pub kind-room : left * (w + 1) + at ≤ length words → 0 < left
-      → (at < length words) × (at + (w + 1) ≤ length words) × ((left - 1) * (w + 1) + (at + (w + 1)) ≤ length words)
-  kind-room h k =
-      let n : left ≡ suc (left - 1) = omega arith in
-      let f = rw n at h in
-      (omega (arith, f), omega (arith, f), omega (arith, f))
+  none_left : (s t : Take (ChunksExact ℕ)) → Room s → take_steps chunks_exact_steps s None t → length (left s) ≡ 0
+  unfolding rounds_of
+  none_left s t r e =
+      let z : take_count s ≡ 0 = no-chunk (w + 1) (take_count s) (length (chunks_exact_rest (take_source s))) r.1 (λ h. omega (arith, (e h).1.0, r.0)) in
+      rw z
+
+  first_left : (s : Take (ChunksExact ℕ)) (x : Bor (List ℕ)) (t : Take (ChunksExact ℕ)) → Room s → take_steps chunks_exact_steps s (Some x) t
+      → Room t × (left s ≡ round_of (get_or x.now 0 0) (drop 1 x.now) ∷ left t)
+  first_left s x t r e =
+      let c : Chunk (w + 1) (take_count s) (chunks_exact_rest (take_source s)) x.now (take_count t) (chunks_exact_rest (take_source t)) =
+      record { parts = e.0.1.0; long = e.0.1.1 ∙ r.0; count = e.1 } in
+      ((e.0.0 ∙ r.0, chunk-room c r.1), round-first w c)
+
+  pub chunks_are : (s : Take (ChunksExact ℕ)) (n : ℕ) (words : List ℕ) → chunks_exact_size (take_source s) ≡ w + 1 → take_count s ≡ n
+      → chunks_exact_rest (take_source s) ≡ words → n * (w + 1) ≤ length words
+      → YieldsList (take_steps chunks_exact_steps) (λ x. round_of (get_or x.now 0 0) (drop 1 x.now)) s (rounds_of w n words)
+  chunks_are s n words z e f h =
+      rw (← e, ← f) (YieldsList-from_shown_while _ _ left Room none_left first_left s (z, rw (e, f) h))
+
+-- every kind, asked one after the other
+pub kinds_are : (rs : List Round) → list_all (λ r. ltb r.kind 2) rs ≡ sound_kinds rs
+unfolding sound_kinds
+kinds_are [] = refl
+kinds_are (r ∷ rs) = ap (λ (b : Bool). ltb r.kind 2 && b) (kinds_are rs)

@@ -1,8 +1,8 @@
 -- All rounds in place: one round, and one turn of the loop over the rounds.
 --
--- `Running` says that the rounds left come to the whole; that the next round's words lie at `at`, with the
--- matrix after the last one; and that the state is still w units. Assumes nothing.
-use Prim.Native.Nat.{ℕ, suc, ◌+◌, ◌-◌, ◌*◌, ◌≤◌, ◌<◌}
+-- `Running` says that the rounds left come to the whole; that the words left, which are units, have room for
+-- them; and that the state is still w units. Assumes nothing.
+use Prim.Native.Nat.{ℕ, ◌+◌, ◌-◌, ◌*◌, ◌≤◌, ◌<◌}
 use mathlib.Core.Path.{◌≡◌, refl, sym, ap, ◌∙◌}
 use mathlib.Core.Bool.{true}
 use mathlib.Core.List.{List}
@@ -19,7 +19,8 @@ use Rattle.permute.specs.Parameters.{rounds_of, rows_of, parameters_of}
 use Rattle.permute.specs.Columns.{turned_rows}
 use Rattle.permute.specs.Walks.{MatrixAsked, Turned, ProductAsked, MixAsked, Ready}
 use Rattle.permute.proofs.Keeps.{pairwise-length, pairwise-units, on_kind-length, on_kind-units, run_round-length, run_round-units, rows_of-length}
-use Rattle.permute.proofs.Parameters.{Sound, sound-is, round-at}
+use Rattle.permute.proofs.Chunks.{Chunk, chunk-room, chunk-units, no-chunk}
+use Rattle.permute.proofs.Parameters.{Sound, sound-is, round-first}
 
 -- ---- one round: what stands between its halves is as many units
 module _ (columns cs state mixed : List ℕ) (kind : ℕ) (e : mixed ≡ raise kind (add_constants cs state)) where
@@ -81,60 +82,50 @@ module _ {rounds : ℕ} {words state : List ℕ} (r : Ready rounds words state) 
       → Turned (matrix_of w rounds words) w columns
   matrix-turned t = record { units = t.units; rows = t.rows ∙ ap (rows_of w w) matrix-is }
 
--- the rounds left, from the state as it is, come to what all rounds make of the state at first
-pub record Running (words : List ℕ) (rounds : ℕ) (first state mixed : List ℕ) (i at : ℕ) : Type 0 where
-  pub rest : run_rounds (rows_of (length first) (length first) (matrix_of (length first) rounds words)) (rounds_of (length first) (rounds - i) (drop at words)) state
+-- the n rounds left, from the state as it is, come to what all rounds make of the state at first
+pub record Running (words : List ℕ) (rounds : ℕ) (first state mixed : List ℕ) (n : ℕ) (left : List ℕ) : Type 0 where
+  pub rest : run_rounds (rows_of (length first) (length first) (matrix_of (length first) rounds words)) (rounds_of (length first) n left) state
       ≡ permute (parameters_of (length first) rounds words) first
-  pub place : at + (rounds - i) * (length first + 1) + length first * length first ≡ length words
+  pub room : n * (length first + 1) ≤ length left
+  pub left-units : are_units left ≡ true
   pub kept : length state ≡ length first
   pub units : are_units state ≡ true
   pub mixed-long : length mixed ≡ max_width
-  pub within : i ≤ rounds
 
 module _ {rounds : ℕ} {words first : List ℕ} (r : Ready rounds words first) where
-  pub running-start : are_units first ≡ true → (mixed : List ℕ) → length mixed ≡ max_width → Running words rounds first first mixed 0 0
-  running-start u mixed l =
-      let z : rounds - 0 ≡ rounds = omega arith in
+  pub running-start : are_units first ≡ true → (mixed : List ℕ) → length mixed ≡ max_width
+      → {n : ℕ} {left : List ℕ} → n ≡ rounds → left ≡ words → Running words rounds first first mixed n left
+  running-start u mixed l e f =
       record {
-        rest = rw z;
-        place = rw z (omega (arith, (sound r).size));
+        rest = rw (e, f);
+        room = rw (e, f) (omega (arith, (sound r).size));
+        left-units = rw f (sound r).units;
         kept = refl;
         units = u;
         mixed-long = l;
-        within = omega arith;
       }
 
-  module _ {state mixed : List ℕ} {i at : ℕ} (s : Running words rounds first state mixed i at) where
-    pub running-done : rounds ≤ i → state ≡ permute (parameters_of (length first) rounds words) first
+  module _ {state mixed : List ℕ} {n : ℕ} {left : List ℕ} (s : Running words rounds first state mixed n left) where
+    pub running-done : (0 < n → length left < length first + 1) → state ≡ permute (parameters_of (length first) rounds words) first
     unfolding run_rounds rounds_of
-    running-done h = let z : rounds - i ≡ 0 = omega arith in rw z at s.rest
+    running-done h = let z : n ≡ 0 = no-chunk (length first + 1) n (length left) s.room h in rw z at s.rest
 
-    module _ (h : i < rounds) where
-      next : (k : ℕ) → k ≡ rounds - (i + 1)
-          → (rounds - i ≡ suc k) × (at + (length first + 1) + k * (length first + 1) + length first * length first ≡ length words)
-      next k e =
-          let q : rounds - i ≡ suc k = omega arith in
-          (q, omega (arith, rw q at s.place))
-
-      pub running-room : at + 1 + length first ≤ length words
-      running-room = omega (arith, (next (rounds - (i + 1)) refl).1)
-
+    module _ {round : List ℕ} {n' : ℕ} {left' : List ℕ} (c : Chunk (length first + 1) n left round n' left') where
       -- the constants as they are lent
       abbrev constants : List ℕ
-      constants = take (at + 1 + length first - (at + 1)) (drop (at + 1) words)
+      constants = take (length round - 1) (drop 1 round)
 
-      constants-are : constants ≡ take (length first) (drop (at + 1) words)
-      constants-are = let z : at + 1 + length first - (at + 1) ≡ length first = omega arith in rw z
+      constants-are : constants ≡ drop 1 round
+      constants-are = take_all (length round - 1) (drop 1 round) (simp length-drop (omega arith))
 
       pub round-asked : {columns : List ℕ} → length columns ≡ max_width * max_width → Turned (matrix_of (length first) rounds words) (length first) columns
           → MixAsked constants state (take (length first - 0) mixed) × ProductAsked columns state × (0 < length state)
       round-asked long turned =
-          let f = running-room in
           let k = s.kept in (
             record {
-              constant-units = below-take prime (at + 1 + length first - (at + 1)) (drop (at + 1) words) (below-drop prime (at + 1) words (sound r).units);
+              constant-units = below-take prime (length round - 1) (drop 1 round) (below-drop prime 1 round (chunk-units c s.left-units).0);
               units = s.units;
-              constants-long = simp (length-take, length-drop) (omega arith);
+              constants-long = simp (length-take, length-drop) (omega (arith, c.long));
               room = simp length-take (omega (arith, s.mixed-long, r.most));
             },
             record {
@@ -148,23 +139,21 @@ module _ {rounds : ℕ} {words first : List ℕ} (r : Ready rounds words first) 
 
       pub running-turn : {columns : List ℕ} → Turned (matrix_of (length first) rounds words) (length first) columns
           → {state' mixed' : List ℕ}
-          → state' ≡ run_round (turned_rows (length state) (length state) 0 columns) (round_of (get_or words at 0) constants) state
+          → state' ≡ run_round (turned_rows (length state) (length state) 0 columns) (round_of (get_or round 0 0) constants) state
           → length mixed' ≡ length mixed
-          → Running words rounds first state' mixed' (i + 1) (at + 1 + length first)
+          → Running words rounds first state' mixed' n' left'
       unfolding run_rounds
       running-turn {columns} turned e l =
-          let n = next (rounds - (i + 1)) refl in
-          let a : at + 1 + length first ≡ at + (length first + 1) = omega arith in
           let m : List (List ℕ) = rows_of (length first) (length first) (matrix_of (length first) rounds words) in
-          let q : Round = round_of (get_or words at 0) (take (length first) (drop (at + 1) words)) in
-          let f = e ∙ ap (λ (k : ℕ). run_round (turned_rows k k 0 columns) (round_of (get_or words at 0) constants) state) s.kept
-          ∙ ap (λ (c : List ℕ). run_round (turned_rows (length first) (length first) 0 columns) (round_of (get_or words at 0) c) state) constants-are
+          let q : Round = round_of (get_or round 0 0) (drop 1 round) in
+          let f = e ∙ ap (λ (k : ℕ). run_round (turned_rows k k 0 columns) (round_of (get_or round 0 0) constants) state) s.kept
+          ∙ ap (λ (c : List ℕ). run_round (turned_rows (length first) (length first) 0 columns) (round_of (get_or round 0 0) c) state) constants-are
           ∙ ap (λ (t : List (List ℕ)). run_round t q state) turned.rows in
           record {
-            rest = rw (a, f) (rw (n.0, round-at (length first) (rounds - (i + 1)) at words) at s.rest);
-            place = rw a n.1;
+            rest = rw f (rw (round-first (length first) c) at s.rest);
+            room = chunk-room c s.room;
+            left-units = (chunk-units c s.left-units).1;
             kept = ap length f ∙ run_round-length m q state ∙ rows_of-length (length first) (length first) _;
             units = ap are_units f ∙ run_round-units m q state;
             mixed-long = l ∙ s.mixed-long;
-            within = omega arith;
           }

@@ -8,7 +8,7 @@ use native.Mathlib.Omega.{arith}
 use native.Mathlib.Nat.{add-sub_cancel_left}
 use borrow.Rule.Slice.PartMut.{mid_len}
 use lib.ListN.{length, take, drop, length-take, length-drop}
-use lib.Seq.{take_all, drop-drop, length-take-le}
+use lib.Seq.{take_all, take_at, drop_at, drop-drop, length-take-le}
 use Rattle.limits.specs.Numbers.{max_width}
 use Rattle.limits.specs.Questions.{pick}
 use Rattle.words.specs.Pieces.{pieces}
@@ -17,6 +17,7 @@ use Rattle.baby_bear.specs.Field.{are_units}
 use Rattle.permute.specs.Permute.{permute}
 use Rattle.permute.specs.Parameters.{parameters_of, sound_parameters, permute_no, same_words, is_evaluation, leading}
 use Rattle.permute.specs.Walks.{Ready}
+use Rattle.permute.proofs.Chunks.{Chunk}
 use Rattle.permute.proofs.Parameters.{never, refused}
 use Rattle.permute.proofs.Words.{put-over}
 use Rattle.permute.proofs.Laws.{accepted-is, is-accepted, permute-length, evaluation-is, not-evaluation, evaluation-by}
@@ -101,6 +102,13 @@ lent-piece s at k = ap (λ (n : ℕ). take n (drop at s)) (add-sub_cancel_left a
 pub lent_length : (s : List ℕ) (at k : ℕ) → at + k ≤ length s → length (take (at + k - at) (drop at s)) ≡ k
 lent_length s at k h = mid_len at (at + k) s (omega arith) ∙ add-sub_cancel_left at k
 
+-- the first of the pieces left, and those that come after it
+pieces-chunk : {size n n' : ℕ} {left chunk left' : List ℕ} → Chunk size n left chunk n' left'
+    → pieces size n left ≡ chunk ∷ pieces size n' left'
+pieces-chunk {size} {n} {n'} {left} {chunk} {left'} c =
+    let e : n ≡ suc n' = omega (arith, c.count) in
+    rw (e, c.parts, take_at chunk left' size c.long, drop_at chunk left' size c.long)
+
 -- ---- the steps at the front
 -- of steps that all are none
 pub leading-none : (ev : List ℕ → Bool) → ((s : List ℕ) → ev s ≡ false) → (steps : List (List ℕ)) → 0 ≡ leading ev steps
@@ -108,21 +116,15 @@ unfolding leading
 leading-none ev h [] = refl
 leading-none ev h (s ∷ steps) = rw (h s)
 
--- i are found, and with those at the front of the steps left they come to the whole
-pub record Leading (rounds : ℕ) (words trace : List ℕ) (steps : ℕ) (room state : List ℕ) (i at : ℕ) : Type 0 where
-  pub found : i + leading (is_evaluation (length room) rounds words) (pieces (length room + length room) (steps - i) (drop at trace))
+-- `found` of them, and those at the front of the n steps left, come to the whole
+pub record Leading (rounds : ℕ) (words trace : List ℕ) (steps : ℕ) (room state : List ℕ) (found n : ℕ) (left : List ℕ) : Type 0 where
+  pub sum : found + leading (is_evaluation (length room) rounds words) (pieces (length room + length room) n left)
       ≡ leading (is_evaluation (length room) rounds words) (pieces (length room + length room) steps trace)
+  pub within : found + n ≡ steps
   pub kept : length state ≡ length room
-  pub place : at ≤ length trace
-  pub within : i ≤ steps
 
-pub leading-start : (rounds : ℕ) (words trace : List ℕ) (steps : ℕ) (room : List ℕ) → Leading rounds words trace steps room room 0 0
-leading-start rounds words trace steps room =
-    let z : steps - 0 ≡ steps = omega arith in
-    record { found = rw z (omega arith); kept = refl; place = omega arith; within = omega arith }
-
-module _ {rounds : ℕ} {words trace : List ℕ} {steps : ℕ} {room state : List ℕ} {i at : ℕ}
-    (l : Leading rounds words trace steps room state i at) where
+module _ {rounds : ℕ} {words trace : List ℕ} {steps : ℕ} {room state : List ℕ} {found n : ℕ} {left : List ℕ}
+    (l : Leading rounds words trace steps room state found n left) where
   -- the width
   abbrev v : ℕ
   v = length room
@@ -130,54 +132,40 @@ module _ {rounds : ℕ} {words trace : List ℕ} {steps : ℕ} {room state : Lis
   abbrev whole : ℕ
   whole = leading (is_evaluation v rounds words) (pieces (v + v) steps trace)
 
-  pub leading-done : steps ≤ i → i ≡ whole
+  -- no whole step is left
+  pub leading-done : (0 < n → length left < v + v) → found ≡ whole
   unfolding leading
-  leading-done h = let z : steps - i ≡ 0 = omega arith in omega (arith, rw z at l.found)
+  leading-done h = omega (arith, l.sum, none n h)
+    where
+      none : (n : ℕ) → (0 < n → length left < v + v) → leading (is_evaluation v rounds words) (pieces (v + v) n left) ≡ 0
+      none zero h = refl
+      none (suc n) h =
+          let s : length (take (v + v) left) < v + v = simp length-take (omega (arith, h (omega arith))) in
+          rw (too_few v rounds words (take (v + v) left) s)
 
-  module _ (h : i < steps) where
-    at-step : i + pick (is_evaluation v rounds words (take (v + v) (drop at trace)))
-        (suc (leading (is_evaluation v rounds words) (pieces (v + v) (steps - (i + 1)) (drop (at + (v + v)) trace)))) 0 ≡ whole
-    unfolding leading
-    at-step =
-        let z : steps - i - 1 ≡ steps - (i + 1) = omega arith in
-        rw (pieces-cons (v + v) trace at (steps - i) (omega arith), z) at l.found
+  module _ {step : List ℕ} {n' : ℕ} {left' : List ℕ} (c : Chunk (v + v) n left step n' left') where
+    pub evaluates-asked : Ready rounds words room → Ready rounds words state × (length state ≤ length step)
+    evaluates-asked r =
+        let m = l.kept in (
+          record { sound = rw m r.sound; some = rw m r.some; most = rw m r.most },
+          omega (arith, c.long),
+        )
 
-    -- fewer words are left than a step has
-    pub leading-short : length trace - at < v + v → i ≡ whole
-    leading-short f =
-        let s : length (take (v + v) (drop at trace)) < v + v = simp (length-take, length-drop) (omega arith) in
-        omega (arith, rw (too_few v rounds words (take (v + v) (drop at trace)) s) at at-step)
+    -- what was found of it
+    module _ {b : Bool} (e : b ≡ is_evaluation (length state) rounds words step) where
+      at-step : found + pick b (suc (leading (is_evaluation v rounds words) (pieces (v + v) n' left'))) 0 ≡ whole
+      unfolding leading
+      at-step =
+          let f : b ≡ is_evaluation v rounds words step = rw l.kept at e in
+          rw f (rw (pieces-chunk c) at l.sum)
 
-    module _ (f : v + v ≤ length trace - at) where
-      -- the step as it is lent
-      abbrev lent : List ℕ
-      lent = take (at + (v + v) - at) (drop at trace)
+      pub leading-stop : b ≡ false → found ≡ whole
+      leading-stop z = omega (arith, rw z at at-step)
 
-      pub evaluates-asked : Ready rounds words room → Ready rounds words state × (length state ≤ length lent)
-      evaluates-asked r =
-          let m = l.kept in
-          let k = lent_length trace at (v + v) (omega (arith, l.place)) in (
-            record { sound = rw m r.sound; some = rw m r.some; most = rw m r.most },
-            omega arith,
-          )
-
-      -- what was found of it
-      module _ {b : Bool} (e : b ≡ is_evaluation (length state) rounds words lent) where
-        is_found : b ≡ is_evaluation v rounds words (take (v + v) (drop at trace))
-        is_found = rw (l.kept, lent-piece trace at (v + v)) at e
-
-        pub leading-stop : b ≡ false → i ≡ whole
-        leading-stop n = omega (arith, rw (sym is_found ∙ n) at at-step)
-
-        pub leading-turn : b ≡ true → {state' : List ℕ} → length state' ≡ length state
-            → Leading rounds words trace steps room state' (i + 1) (at + (v + v))
-        leading-turn y k =
-            record {
-              found = omega (arith, rw (sym is_found ∙ y) at at-step);
-              kept = k ∙ l.kept;
-              place = omega (arith, l.place);
-              within = omega arith;
-            }
+      pub leading-turn : b ≡ true → {state' : List ℕ} → length state' ≡ length state
+          → Leading rounds words trace steps room state' (found + 1) n' left'
+      leading-turn z k =
+          record { sum = omega (arith, rw z at at-step); within = omega (arith, l.within, c.count); kept = k ∙ l.kept }
 
 -- ---- the room for the state, as it is lent
 module _ (w rounds : ℕ) (words room : List ℕ) (e : length room ≡ max_width) (some : 1 ≤ w) (most : w ≤ max_width) where

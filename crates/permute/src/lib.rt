@@ -5,54 +5,48 @@
 // each a kind and w constants, then the w·w words of the matrix, row by row. Every function answers on every
 // input; what it answers is a definition of specs/.
 
-#![tactic(auto)]
+#![tactic(auto, unfolding(limits::specs::Questions::ask, limits::specs::Questions::first_of_two, crate::specs::Parameters::permute_no))]
 
 ghost use Rattle.std.specs.Prelude.{◌≡◌, ◌+◌, ◌≤◌, length};
-ghost use Rattle.limits.specs.Questions.{◌▸◌, ask};
+ghost use Rattle.limits.specs.Questions.{ask};
+ghost use Rattle.limits.specs.Outcome.{outcome_of};
 ghost use Rattle.words.specs.Pieces.{pieces};
-ghost use Rattle.permute.specs.Parameters.{sound_parameters, permute_no, permuted, same_words, is_evaluation, leading};
+ghost use Rattle.permute.specs.Parameters.{sound_parameters, permute_no, permuted, is_evaluation, leading};
 ghost use Rattle.permute.specs.Walks.{Ready};
 
-use limits::{MAX_WIDTH, P, STATE_WORDS};
+use limits::{MAX_WIDTH, P, Refused, STATE_WORDS};
 
 mod matrix;
 mod rounds;
 mod sound;
 
-// Question 17, after the number answered so far; the parameters are not looked at where an earlier question
-// said no.
-pub fn parameters_no(no: u32, width: u32, rounds: u32, params: &[u32]) -> u32
-    ensures { result ≡ no ▸ ask 17 (sound_parameters width rounds params.now) }
+// Question 17.
+pub fn ask_parameters(width: u32, rounds: u32, params: &[u32]) -> Result<(), Refused>
+    ensures { result ≡ outcome_of (ask 17 (sound_parameters width rounds params.now)) }
 {
-    if no != 0 {
-        return no;
-    }
-    limits::asked(0, sound::sound_parameters(width, rounds, params), 17)
+    limits::ask(17, sound::sound_parameters(width, rounds, params))
 }
 
 // The questions of `permute`: 1, 2, 9, 4 and 17.
-fn permute_no(width: u32, rounds: u32, params: &[u32], state: &[u32]) -> u32
-    ensures { result ≡ permute_no width rounds params.now state.now }
+fn ask_permute(width: u32, rounds: u32, params: &[u32], state: &[u32]) -> Result<(), Refused>
+    ensures { result ≡ outcome_of (permute_no width rounds params.now state.now) }
 {
-    let a = limits::asked_width(0, width);
-    let b = limits::asked_store(a, params.len());
-    let c = limits::asked_store(b, state.len());
-    let d = limits::asked(c, state.len() == width as usize, 9);
-    let e = words::asked_below(d, state, P, 4);
-    parameters_no(e, width, rounds, params)
+    limits::ask_width(width)?;
+    limits::ask_store(params.len())?;
+    limits::ask_store(state.len())?;
+    limits::ask(9, state.len() == width as usize)?;
+    words::ask_below(state, P, 4)?;
+    ask_parameters(width, rounds, params)
 }
 
 // The state's units turned by the permutation, in place (the source's `Permutation::permute`).
-pub fn permute(width: u32, rounds: u32, params: &[u32], state: &mut [u32]) -> u32
-    ensures { (result ≡ permute_no width rounds params.now state.old)
+pub fn permute(width: u32, rounds: u32, params: &[u32], state: &mut [u32]) -> Result<(), Refused>
+    ensures { (result ≡ outcome_of (permute_no width rounds params.now state.old))
         × (state.new ≡ permuted width rounds params.now state.old) }
 {
-    let no = permute_no(width, rounds, params, state);
-    if no != 0 {
-        return no;
-    }
+    ask_permute(width, rounds, params, state)?;
     rounds::run_rounds(rounds as usize, params, state);
-    0
+    Ok(())
 }
 
 // How many of the trace's first steps are evaluations, one after the other, up to the first that is none? A
@@ -86,20 +80,14 @@ fn leading(rounds: usize, params: &[u32], trace: &[u32], steps: u32, state: &mut
         (pieces (length state.old + length state.old) steps trace.now) }
 {
     let size = state.len() + state.len();
-    let mut i = 0;
-    let mut at = 0;
-    while i < steps {
-        if trace.len() - at < size {
-            return i;
+    let mut found = 0;
+    for step in trace.chunks_exact(size).take(steps as usize) {
+        if !evaluates(rounds, params, step, &mut *state) {
+            return found;
         }
-        let end = at + size;
-        if !evaluates(rounds, params, &trace[at..end], &mut *state) {
-            return i;
-        }
-        at = end;
-        i += 1;
+        found += 1;
     }
-    i
+    found
 }
 
 // Does the permutation turn the step's first w units into its last w? They are turned in the room for the
@@ -115,22 +103,5 @@ fn evaluates(rounds: usize, params: &[u32], step: &[u32], state: &mut [u32]) -> 
     }
     words::put(&mut *state, 0, first);
     rounds::run_rounds(rounds, params, &mut *state);
-    same_words(state, &step[w..])
-}
-
-// Have two lists the same words?
-fn same_words(a: &[u32], b: &[u32]) -> bool
-    ensures { result ≡ same_words a.now b.now }
-{
-    if a.len() != b.len() {
-        return false;
-    }
-    let mut i = 0;
-    while i < a.len() {
-        if a[i] != b[i] {
-            return false;
-        }
-        i += 1;
-    }
-    true
+    &*state == &step[w..]
 }

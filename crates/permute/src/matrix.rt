@@ -18,12 +18,9 @@ fn put_column(matrix: &[u32], w: usize, k: usize, at: usize, columns: &mut [u64]
     requires { ColumnAsked matrix.now w k at columns.old }
     ensures { ColumnPut matrix.now w k at columns.old columns.new }
 {
-    let mut i = 0;
-    let mut from = k;
-    while i < w {
-        columns[at + i] = matrix[from] as u64;
-        from += w;
-        i += 1;
+    let column = &matrix[k..];
+    for (i, word) in columns[at..at + w].iter_mut().enumerate() {
+        *word = u64::from(column[i * w]);
     }
 }
 
@@ -32,12 +29,8 @@ pub(crate) fn turn_matrix(matrix: &[u32], w: usize, columns: &mut [u64])
     requires { MatrixAsked matrix.now w columns.old }
     ensures { Turned matrix.now w columns.new }
 {
-    let mut k = 0;
-    let mut at = 0;
-    while k < w {
-        put_column(matrix, w, k, at, &mut *columns);
-        at += w;
-        k += 1;
+    for k in 0..w {
+        put_column(matrix, w, k, k * w, &mut *columns);
     }
 }
 
@@ -83,12 +76,10 @@ fn add_columns(
     ensures { SumsAdded (four columns.now step a b c d) w low.old high.old
         low.new high.new }
 {
-    let mut i = 0;
-    while i < w {
+    for i in 0..w {
         let u = four(columns, step, a, b, c, d, i);
-        low[i] = low[i] + u % HALF;
-        high[i] = high[i] + u / HALF;
-        i += 1;
+        low[i] += u % HALF;
+        high[i] += u / HALF;
     }
 }
 
@@ -99,13 +90,12 @@ fn add_fours(columns: &[u64], x: &[u32], low: &mut [u64], high: &mut [u64]) -> u
         result (result * length x.now) }
 {
     let w = x.len();
-    let mut j = 0;
-    let mut at = 0;
-    while j + 4 <= w {
-        let end = at + 4 * w;
+    let fours = w - w % 4;
+    for j in (0..fours).step_by(4) {
+        let at = j * w;
         add_columns(
             w,
-            &columns[at..end],
+            &columns[at..at + 4 * w],
             w,
             x[j],
             x[j + 1],
@@ -114,10 +104,8 @@ fn add_fours(columns: &[u64], x: &[u32], low: &mut [u64], high: &mut [u64]) -> u
             &mut *low,
             &mut *high,
         );
-        at = end;
-        j += 4;
     }
-    j
+    fours
 }
 
 // The columns from the one of that number on, each by itself.
@@ -127,13 +115,11 @@ fn add_rest(columns: &[u64], x: &[u32], first: usize, low: &mut [u64], high: &mu
     ensures { Summed columns.now x.now (length x.now) low.new high.new }
 {
     let w = x.len();
-    let mut j = first;
-    let mut at = first * w;
-    while j < w {
-        let end = at + w;
+    for j in first..w {
+        let at = j * w;
         add_columns(
             w,
-            &columns[at..end],
+            &columns[at..at + w],
             0,
             x[j],
             0,
@@ -142,8 +128,6 @@ fn add_rest(columns: &[u64], x: &[u32], first: usize, low: &mut [u64], high: &mu
             &mut *low,
             &mut *high,
         );
-        at = end;
-        j += 1;
     }
 }
 
@@ -156,9 +140,7 @@ pub(crate) fn times_matrix(columns: &[u64], x: &[u32], out: &mut [u32])
     let mut high = [0u64; STATE_WORDS];
     let first = add_fours(columns, x, &mut low, &mut high);
     add_rest(columns, x, first, &mut low, &mut high);
-    let mut i = 0;
-    while i < x.len() {
-        out[i] = reduced(low[i], high[i]);
-        i += 1;
+    for (i, sum) in out.iter_mut().enumerate() {
+        *sum = reduced(low[i], high[i]);
     }
 }

@@ -28,10 +28,8 @@ fn add_constants(constants: &[u32], x: &[u32], out: &mut [u32])
     requires { MixAsked constants.now x.now out.old }
     ensures { out.new ≡ add_constants constants.now x.now }
 {
-    let mut i = 0;
-    while i < x.len() {
-        out[i] = add_units(x[i], constants[i]);
-        i += 1;
+    for (i, sum) in out.iter_mut().enumerate() {
+        *sum = add_units(x[i], constants[i]);
     }
 }
 
@@ -39,10 +37,8 @@ fn add_constants(constants: &[u32], x: &[u32], out: &mut [u32])
 fn raise_all(x: &mut [u32])
     ensures { x.new ≡ map seventh x.old }
 {
-    let mut i = 0;
-    while i < x.len() {
-        x[i] = baby_bear::seventh(BabyBearUnit(x[i])).0;
-        i += 1;
+    for a in x.iter_mut() {
+        *a = baby_bear::seventh(BabyBearUnit(*a)).0;
     }
 }
 
@@ -77,20 +73,14 @@ fn run_turned(rounds: usize, params: &[u32], columns: &[u64], state: &mut [u32])
 {
     let w = state.len();
     let mut mixed = [0u32; STATE_WORDS];
-    let mut i = 0;
-    let mut at = 0;
-    while i < rounds {
-        let first = at + 1;
-        let end = first + w;
+    for round in params.chunks_exact(w + 1).take(rounds) {
         run_round(
-            params[at],
-            &params[first..end],
+            round[0],
+            &round[1..],
             columns,
             &mut *state,
             &mut mixed[0..w],
         );
-        at = end;
-        i += 1;
     }
 }
 

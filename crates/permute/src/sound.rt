@@ -24,17 +24,10 @@ fn sound_kinds(width: u32, rounds: u32, params: &[u32]) -> bool
     requires { rounds * (width + 1) ≤ length params.now }
     ensures { result ≡ sound_kinds (rounds_of width rounds params.now) }
 {
-    let step = width as usize + 1;
-    let mut left = rounds;
-    let mut at = 0;
-    while 0 < left {
-        if 1 < params[at] {
-            return false;
-        }
-        at += step;
-        left -= 1;
-    }
-    true
+    params
+        .chunks_exact(width as usize + 1)
+        .take(rounds as usize)
+        .all(|round| round[0] < 2)
 }
 
 // 17: R at most 128, as many words as R and the width say, kinds 0 or 1, units below p?

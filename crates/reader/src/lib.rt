@@ -10,7 +10,7 @@ ghost use Rattle.std.specs.Prelude.{◌≡◌};
 ghost use Rattle.narg.specs.Cursor.{cursor, read_u32};
 ghost use Rattle.reader.specs.At.{part_at, place_at};
 
-use narg::{Cursor, Word};
+use narg::Cursor;
 
 // The input, and how far it is read.
 #[derive(Clone, Copy)]
@@ -56,8 +56,8 @@ pub fn moved<'a>(r: NargReader<'a>, at: Cursor) -> NargReader<'a>
     NargReader { bytes: r.bytes, at }
 }
 
-// The word at the place; Short where the bytes end before it.
-pub fn read_u32<'a>(r: NargReader<'a>) -> Word
+// The word at the place, with the cursor past it; None where the bytes end before it.
+pub fn read_u32<'a>(r: NargReader<'a>) -> Option<(u32, Cursor)>
     ensures { result ≡ read_u32 r.entry.bytes.now r.entry.at.at }
 {
     narg::read_u32(r.bytes, r.at)

@@ -3,7 +3,7 @@
 use Prim.Native.Nat.{ℕ}
 use mathlib.Core.Path.{◌≡◌, refl}
 use mathlib.Core.List.{List, [], ◌∷◌}
-use Rattle.limits.specs.Questions.{ask, ◌▸◌, first_no}
+use Rattle.limits.specs.Questions.{ask, first_of_two, first_no}
 use Rattle.words.specs.Store.{all_below}
 use Rattle.uses.specs.Uses.{times, strays, uses_after, all_fit}
 use Rattle.permutation.specs.Sharing.{alone}
@@ -47,7 +47,7 @@ pub record Examples : Type 0 where
   pub refused : add_permutation_uses (rel 3 1) 3 (9 ∷ 9 ∷ []) none (1 ∷ []) (2 ∷ []) ≡ none
 
 pub examples : Examples
-unfolding ask ◌▸◌ add_permutation_no allocate_permutation_no all_below times strays uses_after all_fit
+unfolding ask first_of_two add_permutation_no allocate_permutation_no all_below times strays uses_after all_fit
 examples =
     record {
       slots-large = refl;

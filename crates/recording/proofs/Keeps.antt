@@ -12,6 +12,7 @@ use native.Mathlib.Nat.{not-suc-le-zero}
 use native.Mathlib.Omega.{arith}
 use lib.Dec.{eqb}
 use lib.ListN.{length, set, take, replicate, length-set, length-append}
+use Rattle.std.specs.Prelude.{Ok}
 use Rattle.limits.specs.Numbers.{max_count}
 use Rattle.limits.specs.Questions.{ask, ◌▸◌, on_yes}
 use Rattle.words.specs.Pieces.{flat, words_of}
@@ -31,7 +32,6 @@ use Rattle.recording.specs.Answers.{one_query, one_equation, queries_with, add_p
 use Rattle.permutation.specs.State.{HoldsSlots}
 use Rattle.recording.specs.State.{HoldsQueries, Holds}
 use Rattle.permutation.specs.declared.PermutationRelation.{PermutationRelation}
-use Rattle.permutation.specs.declared.First.TheVariants.{Var}
 use Rattle.permutation.proofs.Accepted.{New, new-yes, allocate_vars-yes, set_var-yes}
 use Rattle.recording.proofs.Accepted.{add_permutation-yes, allocate_permutation-yes, add_equation-yes}
 use Rattle.recording.proofs.Minted.{up_from-length}
@@ -80,8 +80,8 @@ module _ (width : ℕ) (rel : PermutationRelation) (slots queries equations uses
       (query-below input output a b) m (rw o.width_is at r) o.in_queries)
 
   -- the first new wire is the book's number as it was before
-  first-is : (k : ℕ) → first_number (first_of k rel.vars) ≡ 0 → first_of k rel.vars ≡ Var n
-  first-is zero z = ap Var o.count
+  first-is : (k : ℕ) → first_number (first_of k rel.vars) ≡ 0 → first_of k rel.vars ≡ Ok n
+  first-is zero z = ap Ok o.count
   first-is (suc k) z = absurd (omega arith)
 
   -- ---- allocate
@@ -109,7 +109,7 @@ module _ (width : ℕ) (rel : PermutationRelation) (slots queries equations uses
       go zero f = f refl
       go (suc k) f = o
 
-  pub allocate_vars-first : (a : ℕ) → first_number (allocate_vars rel slots a).first ≡ 0 → (allocate_vars rel slots a).first ≡ Var n
+  pub allocate_vars-first : (a : ℕ) → first_number (allocate_vars rel slots a).first ≡ 0 → (allocate_vars rel slots a).first ≡ Ok n
   allocate_vars-first a = first-is (allocate_vars_no rel (length slots) a)
 
   -- only the slots and the sets change
@@ -246,7 +246,7 @@ module _ (width : ℕ) (rel : PermutationRelation) (slots queries equations uses
       go (suc k) f = o
 
   pub allocate_permutation-first : (input : List ℕ) → first_number (allocate_permutation rel slots queries uses input).first ≡ 0
-      → (allocate_permutation rel slots queries uses input).first ≡ Var n
+      → (allocate_permutation rel slots queries uses input).first ≡ Ok n
   allocate_permutation-first input = first-is (allocate_permutation_no rel (length slots) (length queries) uses input)
 
   -- ---- equation

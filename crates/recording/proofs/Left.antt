@@ -8,8 +8,11 @@ use native.Mathlib.Omega.{arith}
 use borrow.Author.Tests.{le-leb, leb-true, leb-false, eq-eqb, eqb-true}
 use lib.Dec.{T, eqb, ltb, leb}
 use lib.ListN.{length, length-append}
+use Rattle.limits.specs.Outcome.{refusal}
+use Rattle.std.specs.Prelude.{Err, Ok}
+use Rattle.allocator.specs.VarValue.{VarValue}
 use Rattle.limits.specs.Numbers.{prime, max_count, max_width}
-use Rattle.limits.specs.Questions.{pick, ask, ◌▸◌, Question, question, first_no, on_yes}
+use Rattle.limits.specs.Questions.{ask, first_of_two, ◌▸◌, Question, question, first_no, on_yes}
 use Rattle.limits.specs.Asks.{store_asks}
 use Rattle.limits.proofs.Questions.{goes_on, ask-yes, ▸-zero, first_no-append, puts, puts-yes}
 use Rattle.words.specs.Store.{all_below}
@@ -32,9 +35,6 @@ use Rattle.recording.specs.State.{Holds}
 use Rattle.permutation.specs.Left.{allocate_vars_left, set_var_left, pairs_left, pairs_set, lists_left, set_vars_left, set_vars_set, value_left, is_allocated_left}
 use Rattle.recording.specs.Left.{join_left, add_permutation_left, allocate_permutation_left, add_equation_left}
 use Rattle.permutation.specs.declared.PermutationRelation.{PermutationRelation}
-use Rattle.allocator.specs.declared.VarValue.{VarValue}
-use Rattle.allocator.specs.declared.VarValue.TheVariants as var_value
-use Rattle.permutation.specs.declared.IsAllocated.TheVariants as allocated
 use Rattle.recording.proofs.Minted.{up_from-length}
 use Rattle.permutation.proofs.Left.{pair_left_lem, RunLeft, after-left, pairs-left, slot-given}
 
@@ -49,7 +49,7 @@ not-asked j k true t e = absurd (omega arith)
 not-asked j k false t e = absurd (subst (λ (b : Bool). T (not b)) (eq-eqb j (suc k) e) t)
 
 either : (a b k : ℕ) → (a ≡ suc k → ⊥) → a ▸ b ≡ suc k → (a ≡ 0) × (b ≡ suc k)
-unfolding ◌▸◌
+unfolding first_of_two
 either zero b k h e = (refl, e)
 either (suc a) b k h e = absurd (h e)
 
@@ -269,7 +269,7 @@ module _ (width : ℕ) (rel : PermutationRelation) (slots queries equations uses
 
   pub value-left : (x : ℕ) → value_of rel slots x ≡ value_left sets x
   value-left x =
-      ap₂ (λ (k : ℕ) (v : VarValue). on_yes k v (var_value.Refused k)) (value-asks x) (slot-given rel.vars slots sets o.in_slots x)
+      ap₂ (λ (k : ℕ) (v : VarValue). on_yes k v (Err (refusal k))) (value-asks x) (slot-given rel.vars slots sets o.in_slots x)
 
   allocated-asks : (x : ℕ) → is_allocated_no rel x ≡ ask 3 (ltb x max_count)
   unfolding is_allocated_no
@@ -277,4 +277,4 @@ module _ (width : ℕ) (rel : PermutationRelation) (slots queries equations uses
 
   pub is_allocated-left : (x : ℕ) → is_allocated rel x ≡ is_allocated_left n x
   is_allocated-left x =
-      ap₂ (λ (k m : ℕ). on_yes k (pick (ltb x m) allocated.Yes allocated.No) (allocated.Refused k)) (allocated-asks x) o.count
+      ap₂ (λ (k m : ℕ). on_yes k (Ok (ltb x m)) (Err (refusal k))) (allocated-asks x) o.count

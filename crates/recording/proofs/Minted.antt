@@ -1,12 +1,11 @@
--- The wires of a mint: their number, the first of them, and how the loop that lists them comes to the whole.
+-- The wires of a mint: their number, the first of them, and what they are place by place.
 -- Assumes nothing.
 use Prim.Native.Nat.{ℕ, zero, suc, ◌+◌, ◌-◌, ◌≤◌, ◌<◌}
-use mathlib.Core.Path.{◌≡◌, refl, ap, ◌∙◌}
-use mathlib.Core.List.{List, ◌∷◌, ◌++◌, append-nil}
+use mathlib.Core.Path.{◌≡◌, refl, ap, ap₂, ◌∙◌}
+use mathlib.Core.List.{List, [], ◌∷◌}
 use native.Mathlib.Omega.{arith}
-use lib.ListN.{length, set, take, drop_of_length-le}
+use lib.ListN.{length, get_or, set, take}
 use lib.Seq.{sets}
-use Rattle.words.proofs.Written.{sets-put}
 use Rattle.recording.specs.Relation.{up_from}
 
 pub up_from-length : (n k : ℕ) → length (up_from n k) ≡ k
@@ -18,20 +17,19 @@ up_from-take first zero n h = refl
 up_from-take first (suc k) zero h = absurd (omega arith)
 up_from-take first (suc k) (suc n) h = ap (λ (l : List ℕ). first ∷ l) (up_from-take (suc first) k n (omega arith))
 
+-- the list with the wire n + i at each place i is that of the wires from n on
+pub up_from-each : (n k : ℕ) (ys : List ℕ) → length ys ≡ k → ((i : ℕ) → i < k → get_or ys i 0 ≡ n + i) → ys ≡ up_from n k
+up_from-each n zero [] l f = refl
+up_from-each n zero (y ∷ ys) l f = absurd (omega arith)
+up_from-each n (suc k) [] l f = absurd (omega arith)
+up_from-each n (suc k) (y ∷ ys) l f =
+    let e : y ≡ n = f 0 (omega arith) ∙ omega arith in
+    let r = up_from-each (suc n) k ys (omega arith) (λ i h. f (suc i) (omega arith) ∙ omega arith) in
+    ap₂ (λ (a : ℕ) (l : List ℕ). a ∷ l) e r
+
 -- ---- what is left to write: n - i wires, from first + i on, at place i
 unfoldable pub left : List ℕ → (first n i : ℕ) → List ℕ
 left out first n i = sets out i (up_from (first + i) (n - i))
-
-pub left-all : (out : List ℕ) (first n : ℕ) → length out ≡ n → left out first n 0 ≡ up_from first n
-unfolding left
-left-all out first n l =
-    let f : first + 0 ≡ first = omega arith in
-    let k : n - 0 ≡ n = omega arith in
-    let u = up_from-length first n in
-    rw (f, k)
-    (sets-put 0 (up_from first n) out (omega arith)
-    ∙ ap (λ (r : List ℕ). up_from first n ++ r) (drop_of_length-le out {i = 0 + length (up_from first n)} (omega arith))
-    ∙ append-nil (up_from first n))
 
 pub left_one : (out : List ℕ) (first n i : ℕ) → i < n → left (set out i (first + i)) first n (i + 1) ≡ left out first n i
 unfolding left
@@ -40,7 +38,3 @@ left_one out first n i h =
     let f : first + (i + 1) ≡ suc (first + i) = omega arith in
     let k : n - i ≡ suc (n - (i + 1)) = omega arith in
     rw (f, k, a)
-
-pub left-none : (out : List ℕ) (first n i : ℕ) → n ≤ i → left out first n i ≡ out
-unfolding left
-left-none out first n i h = let e : n - i ≡ 0 = omega arith in rw e

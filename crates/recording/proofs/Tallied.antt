@@ -5,6 +5,13 @@ use mathlib.Core.Path.{◌≡◌, refl, sym, ap, ◌∙◌}
 use mathlib.Core.Bool.{false}
 use mathlib.Core.List.{List, ◌++◌, append_assoc}
 use lib.ListN.{length}
+use Rattle.std.specs.Prelude.{Err}
+use Rattle.limits.specs.Outcome.{Outcome, as_is}
+use Rattle.limits.specs.declared.Refused.{Refused}
+use Rattle.limits.proofs.Answered.{store-refused}
+use Rattle.permutation.specs.Records.{First, recorded, allocated}
+use Rattle.permutation.proofs.Answered.{recorded-refused, allocated-refused}
+use Rattle.recording.specs.Effects.{AddsPermutation, AllocatesPermutation}
 use Rattle.limits.specs.Questions.{◌▸◌, Question, first_no}
 use Rattle.limits.proofs.Questions.{goes_on, stays, zero-▸, first_no-append}
 use Rattle.uses.specs.Uses.{uses_asks}
@@ -73,3 +80,37 @@ module _ (rel : PermutationRelation) (slots len : ℕ) (uses input : List ℕ) (
   mint-late =
       late (allocate_permutation_front alone rel slots len (length uses) input) (room_asks rel.vars slots rel.width) rel slots len uses
       (mint_cells rel input) (allocate_permutation_no rel slots len uses input) k refl e
+
+-- ---- counted, and refused
+-- the number of a call whose questions before the counts say yes, with what the counts and the room answer
+module _ (rel : PermutationRelation) (slots len : ℕ) (uses input output : List ℕ)
+    (z : first_no (add_permutation_front alone rel slots len (length uses) input output ++ record_asks rel input output) ≡ 0) where
+  pub record-counted : first_no (uses_asks false slots uses rel.stray (input ++ output)) ▸ first_no (query_room rel len)
+      ≡ add_permutation_no rel slots len uses input output
+  record-counted = record-late rel slots len uses input output 0 (sym z) refl _ _ (sym (zero-▸ _)) refl
+
+module _ (rel : PermutationRelation) (slots len : ℕ) (uses input : List ℕ)
+    (z : first_no (allocate_permutation_front alone rel slots len (length uses) input ++ room_asks rel.vars slots rel.width) ≡ 0) where
+  pub mint-counted : first_no (uses_asks false slots uses rel.stray (mint_cells rel input)) ▸ first_no (query_room rel len)
+      ≡ allocate_permutation_no rel slots len uses input
+  mint-counted = mint-late rel slots len uses input 0 (sym z) refl _ _ (sym (zero-▸ _)) refl
+
+-- e: what was answered; everything stays
+pub record-refused : (rel : PermutationRelation) (slots queries uses input output : List ℕ) {o : Outcome} {e : Refused} → o ≡ Err e
+    → e.0 ≡ add_permutation_no rel (length slots) (length queries) uses input output → (e.0 ≡ 0 → ⊥)
+    → AddsPermutation as_is rel slots queries uses input output (recorded o rel) queries uses
+record-refused rel slots queries uses input output {e = e} is n h = record {
+  answer = ap (λ (o : Outcome). recorded o rel) is ∙ recorded-refused _ e.0 n _ rel h;
+  queries = store-refused _ e.0 n _ queries h;
+  uses = store-refused _ e.0 n _ uses h;
+}
+
+pub mint-refused : (rel : PermutationRelation) (slots queries uses input : List ℕ) {o : First} {e : Refused} → o ≡ Err e
+    → e.0 ≡ allocate_permutation_no rel (length slots) (length queries) uses input → (e.0 ≡ 0 → ⊥)
+    → AllocatesPermutation as_is rel slots queries uses input (allocated o rel) slots queries uses
+mint-refused rel slots queries uses input {e = e} is n h = record {
+  answer = ap (λ (o : First). allocated o rel) is ∙ allocated-refused _ e.0 n _ rel _ h;
+  slots = store-refused _ e.0 n _ slots h;
+  queries = store-refused _ e.0 n _ queries h;
+  uses = store-refused _ e.0 n _ uses h;
+}

@@ -1,5 +1,6 @@
 -- What each call that records answers, and what it leaves of record and stores: by its number, which is 0 where it is
 -- accepted. Assumes nothing.
+use Rattle.permutation.specs.Records.{Recorded, Allocated}
 use Rattle.std.specs.Prelude.{ℕ, ◌+◌, ◌<◌, false, List, ◌++◌, length}
 use Rattle.limits.specs.Numbers.{word_end}
 use Rattle.limits.specs.Questions.{on_yes}
@@ -11,8 +12,6 @@ use Rattle.expr.specs.Equation.{Term, equation, equation_words, equation_size}
 use Rattle.recording.specs.Relation.{mint_cells}
 use Rattle.recording.specs.Numbers.{add_permutation_no, allocate_permutation_no, add_equation_no}
 use Rattle.permutation.specs.declared.PermutationRelation.{PermutationRelation}
-use Rattle.permutation.specs.declared.Recorded.{Recorded}
-use Rattle.permutation.specs.declared.Allocated.{Allocated}
 use Rattle.permutation.specs.Answers.{allocated_of, more_vars, recorded_of, relation}
 
 -- ---- records

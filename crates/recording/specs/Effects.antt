@@ -1,12 +1,11 @@
 -- What each call that records does, its parts by name: the answer, told as the caller has it (`as_is` or, for C, as a
 -- struct), and each lent store. A store's ₀ is what it held before the call, its ₁ what it holds after it.
 -- Assumes nothing.
+use Rattle.permutation.specs.Records.{Recorded, Allocated}
 use Rattle.std.specs.Prelude.{ℕ, ◌≡◌, List, length}
 use Rattle.expr.specs.Equation.{Term}
 use Rattle.recording.specs.Answers.{add_permutation, add_permutation_queries, add_permutation_uses, allocate_permutation, allocate_permutation_slots, allocate_permutation_queries, allocate_permutation_uses, add_equation, add_equation_equations}
 use Rattle.permutation.specs.declared.PermutationRelation.{PermutationRelation}
-use Rattle.permutation.specs.declared.Recorded.{Recorded}
-use Rattle.permutation.specs.declared.Allocated.{Allocated}
 
 -- record: the slots are only looked at
 pub record AddsPermutation {A : Type 0} (told : Recorded → A) (rel : PermutationRelation) (slots queries₀ uses₀ input output : List ℕ)

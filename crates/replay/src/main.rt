@@ -32,8 +32,10 @@
 ghost use Rattle.std.specs.Prelude.{◌≤◌, IfOk, length};
 
 mod answer;
+mod given;
 mod instances;
 mod leaves;
+mod operation;
 mod relation;
 mod sample;
 mod shared;
@@ -41,9 +43,9 @@ mod tally;
 mod terms;
 mod traces;
 
-use answer::SIZE;
-use narg::{Cursor, Word};
-use sample::{lent, list, low, same, text, word};
+use answer::Answer;
+use operation::Operation;
+use sample::{Case, Cases};
 use std::io;
 use std::io::Read;
 use tally::Tally;
@@ -56,90 +58,94 @@ const WORDS: usize = 262144;
 
 // What the call of an operation answers. The store that it may write is lent; a call that is lent more of them compares
 // these itself.
-fn call(op: u32, case: &[u32], raw: &[u8], first: &mut [u32]) -> [u32; SIZE] {
-    let given = list(case, sample::GIVEN);
-    let text = text(case, raw, sample::TEXT);
-    match op {
-        1..=9 => leaves::call(op, given, text, first),
-        10..=20 | 27 | 28 => relation::call(op, given, case, text, first),
-        21..=29 => traces::call(op, given, case, text, first),
-        30 => shared::call(given, case, text, first),
-        _ => instances::call(op, given, case, text, raw, first),
+fn call(operation: Operation, case: &Case, first: &mut [u32]) -> Answer {
+    match operation {
+        Operation::AddUnit => leaves::add_unit(case),
+        Operation::MulUnit => leaves::mul_unit(case),
+        Operation::IsUtf8 => leaves::is_utf8(case),
+        Operation::ReadU32 => leaves::read_u32(case),
+        Operation::ReadUnits => leaves::read_units(case, first),
+        Operation::ReadVars => leaves::read_vars(case, first),
+        Operation::ScanUtf8 => leaves::scan_utf8(case),
+        Operation::SetTickets => relation::set_tickets(case, first),
+        Operation::NewRelation => relation::new_relation(case, first),
+        Operation::AllocateVars => relation::allocate_vars(case, first),
+        Operation::SetVar => relation::set_var(case, first),
+        Operation::SetVars => relation::set_vars(case, first),
+        Operation::AddPermutation => relation::add_permutation(case, first),
+        Operation::AllocatePermutation => relation::allocate_permutation(case, first),
+        Operation::AddEquation | Operation::AddScaled => terms::add_equation(case, first),
+        Operation::ValueOf => relation::value_of(case),
+        Operation::IsAllocated => relation::is_allocated(case),
+        Operation::EvaluateStep => traces::evaluate_step(case, first),
+        Operation::AppendStep => traces::append_step(case, first),
+        Operation::WitnessToBytes => traces::witness_to_bytes(case),
+        Operation::WitnessFromBytes => traces::witness_from_bytes(case, first),
+        Operation::Permute => traces::permute(case, first),
+        Operation::PermuteInverse => traces::permute_inverse(case, first),
+        Operation::WithdrawQuery => relation::withdraw_query(case, first),
+        Operation::WithdrawEquation => relation::withdraw_equation(case, first),
+        Operation::OnAllocator => shared::call(case, first),
+        Operation::Compile => instances::compile(case, first),
+        Operation::InstanceToBytes => instances::instance_to_bytes(case),
+        Operation::InstanceFromBytes => instances::instance_from_bytes(case, first),
+        Operation::PublicValue => instances::public_value(case),
+        Operation::Heading => instances::heading(case),
+        Operation::IsWitnessValid => instances::is_witness_valid(case, first),
+        Operation::StrictInstanceFromBytes => { instances::strict_instance_from_bytes(case, first) }
     }
 }
 
 // Does the case agree?
-fn agrees(op: u32, case: &[u32], raw: &[u8]) -> bool {
-    let mut buffer = [0u32; sample::WORDS];
-    let first = lent(&mut buffer, list(case, sample::FIRST));
-    let answer = call(op, case, raw, first);
-    same(list(case, sample::ANSWER), &answer) & same(list(case, sample::FIRST_AFTER), first)
+fn agrees(case: &Case) -> bool {
+    let mut buffer = [0; sample::WORDS];
+    let store = case.first();
+    let first = store.lend(&mut buffer);
+    let answer = call(case.operation(), case, first);
+    case.answer() == Some(answer) && store.is_left(first)
 }
 
-// Replays the case at a word, with its bytes, and counts it.
-fn step(case: &[u32], bytes: &[u8], at: u32, tally: Tally) -> Tally {
-    let from = 4 * at as usize;
-    let raw = sample::bytes_between(bytes, from, from + 4 * low(case.len()) as usize);
-    let op = word(case, 0) % sample::LISTS;
-    tally::counted(tally, op, at, agrees(op, case, raw))
-}
-
-// The word after n words.
-fn after(at: u32, n: usize) -> u32 {
-    low(at as usize + low(n) as usize)
-}
-
-// The end mark is to be the one word after the last case; else the sample is at fault, which counts as a case.
-fn ended(len: usize, at: u32, tally: Tally) -> Tally {
-    if after(at, 1) as usize == len {
-        return tally;
-    }
-    tally::counted(tally, 0, at, false)
-}
-
-// Every case in order from the one at a word on. Each has a word at least, so there are no more cases than words.
-fn replay(words: &[u32], bytes: &[u8], first: u32) -> Tally {
-    let mut tally = tally::nothing();
-    let mut at = first;
-    let mut i = 0;
-    while i < words.len() {
-        let case = sample::case_at(words, at);
-        let n = case.len();
-        if n == 0 {
-            break;
+// Every case in order, and the end mark behind the last: where it is not there, the sample is at fault, which counts as a case
+// that differs.
+fn replay(mut cases: Cases) -> Tally {
+    let mut tally = Tally::new();
+    for case in &mut cases {
+        if agrees(&case) {
+            tally.agrees(case.number());
+        } else {
+            tally.differs(case.place);
         }
-        tally = step(case, bytes, at, tally);
-        at = after(at, n);
-        i += 1;
     }
-    ended(words.len(), at, tally)
+    if !cases.is_at_end() {
+        tally.differs(cases.place());
+    }
+    tally
 }
 
-// The words that the bytes hold, at the front of a buffer; answers how many.
-fn take_words(bytes: &[u8], out: &mut [u32]) -> usize {
-    let mut next = Cursor { at: 0 };
-    let mut i = 0;
-    while i < out.len() {
-        let Word::Read(word, after) = narg::read_u32(bytes, next) else {
-            return i;
-        };
-        out[i] = word;
-        next = after;
-        i += 1;
+// The words that the bytes hold, at the front of a store.
+fn take_words<'a>(bytes: &[u8], store: &'a mut [u32]) -> &'a [u32] {
+    let (chunks, _) = bytes.as_chunks::<4>();
+    for (word, chunk) in store.iter_mut().zip(chunks) {
+        *word = u32::from_le_bytes(*chunk);
     }
-    i
+    &store[..chunks.len().min(store.len())]
 }
 
 // Replays the sample, which begins with the names of its operations, and prints what came of it.
 fn run(rt: &impl Print, words: &[u32], bytes: &[u8]) -> io::Result<()> {
-    let names = sample::case_at(words, 0);
-    tally::print(rt, replay(words, bytes, low(names.len())), names, bytes)
+    let mut cases = Cases::new(words, bytes);
+    match cases.names() {
+        Some(names) => replay(cases).print(rt, &names),
+        None => Ok(()),
+    }
 }
 
-// Reads until the buffer is full or the input ends; answers how many bytes stand at its front.
+// Reads until the buffer is full or the input ends; answers how many bytes stand at its front. (sfrlist has it too: a crate
+// for a loop of two programs would be no plainer.)
 fn read_full<R: Read>(from: &mut R, buffer: &mut [u8]) -> io::Result<usize>
     ensures { IfOk result (λ n. n ≤ length buffer.new) }
 {
+    // By hand: each turn goes on by as many bytes as the read gave, which is known only then.
     let mut done = 0;
     while done < buffer.len() {
         let n = from.read(&mut buffer[done..])?;
@@ -151,17 +157,17 @@ fn read_full<R: Read>(from: &mut R, buffer: &mut [u8]) -> io::Result<usize>
     Ok(done)
 }
 
-// Takes the sample from standard input.
+// Takes the sample from standard input. The bytes of a name go on behind it, where they are 0.
 fn start(
     rt: &(impl Input + Print),
-    bytes: &mut [u8; BYTES],
-    words: &mut [u32; WORDS],
+    buffer: &mut [u8; BYTES],
+    store: &mut [u32; WORDS],
 ) -> io::Result<()> {
-    let n = read_full(&mut rt.reader(), bytes)?;
-    let m = take_words(sample::bytes_between(bytes, 0, n), words);
-    run(rt, sample::between(words, 0, m), bytes)
+    let n = read_full(&mut rt.reader(), buffer)?;
+    run(rt, take_words(&buffer[..n], store), buffer)
 }
 
+// The stores are lent from here: of an array of a million bytes that stands in `start` itself the check finds no proof.
 fn main(rt: HostRuntime) -> io::Result<()> {
     start(&rt, &mut [0; BYTES], &mut [0; WORDS])
 }

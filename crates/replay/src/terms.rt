@@ -4,53 +4,38 @@
 
 ghost use Rattle.std.specs.Prelude.{◌≡◌, ◌≤◌, drop};
 ghost use Rattle.expr.specs.Weighted.{terms_of, scale, scale_terms};
+ghost use Rattle.permutation.specs.Records.{recorded};
 ghost use Rattle.recording.specs.Answers.{add_equation, add_equation_equations};
 
-use crate::answer::{SIZE, number, recorded, relation};
-use crate::sample::{at_most, word};
+use crate::answer::Answer;
+use crate::sample::{Case, word};
 use allocator::FieldVar;
 use baby_bear::BabyBearUnit;
 use expr::Weighted;
-use limits::Outcome;
-use permutation::{PermutationRelation, Recorded};
+use limits::Refused;
+use permutation::PermutationRelation;
 
 // How many terms a case has.
 const TERMS: usize = 8;
 
-// Term i of a list.
-fn term_at(list: &[u32], i: u32) -> Weighted {
-    let at = 2 * i as usize;
-    Weighted {
-        var: FieldVar(word(list, at)),
-        weight: BabyBearUnit(word(list, at + 1)),
-    }
-}
-
 // The terms of a list.
 fn take_terms(list: &[u32]) -> [Weighted; TERMS] {
-    [
-        term_at(list, 0),
-        term_at(list, 1),
-        term_at(list, 2),
-        term_at(list, 3),
-        term_at(list, 4),
-        term_at(list, 5),
-        term_at(list, 6),
-        term_at(list, 7),
-    ]
+    std::array::from_fn(|i| Weighted {
+        var: FieldVar(word(list, 2 * i)),
+        weight: BabyBearUnit(word(list, 2 * i + 1)),
+    })
 }
 
 // What the two calls on a list of terms answer.
 #[derive(Clone, Copy)]
 struct Equated {
-    scaled: Outcome,
-    recorded: Recorded,
+    scaled: Result<(), Refused>,
+    recorded: Result<(), Refused>,
 }
 
-// The terms scaled, and those from place `from` on put as an equation. The array is handed in by value, and lent from
-// here.
+// The terms scaled, and those from place `from` on put as an equation.
 fn equate(
-    rel: PermutationRelation,
+    rel: &mut PermutationRelation,
     equations: &mut [u32],
     terms: [Weighted; TERMS],
     from: usize,
@@ -59,8 +44,8 @@ fn equate(
 ) -> Equated
     requires { from ≤ 8 }
     ensures { (result.scaled ≡ scale terms factor.0)
-        × (result.recorded ≡ add_equation rel equations.old (terms_of (drop from (scale_terms terms factor.0))) image.0)
-        × (equations.new ≡ add_equation_equations rel equations.old (terms_of (drop from (scale_terms terms factor.0))) image.0) }
+        × (recorded result.recorded rel.new ≡ add_equation rel.old equations.old (terms_of (drop from (scale_terms terms factor.0))) image.0)
+        × (equations.new ≡ add_equation_equations rel.old equations.old (terms_of (drop from (scale_terms terms factor.0))) image.0) }
 {
     let mut list = terms;
     let scaled = expr::scale(&mut list, factor);
@@ -70,24 +55,18 @@ fn equate(
 
 // 17, 20: how many terms are not the equation's, image, record, factor, equations, terms; the equation's number, that of
 // the scaling, the record, the equations.
-pub(crate) fn add_equation(
-    given: &[u32],
-    equations: &mut [u32],
-    list: &[u32],
-    from: u32,
-    image: u32,
-) -> [u32; SIZE] {
-    let from = at_most(from as usize, TERMS);
-    let terms = take_terms(list);
-    let factor = word(given, 8);
-    let answer = equate(
-        relation(given),
+pub(crate) fn add_equation(case: &Case, equations: &mut [u32]) -> Answer {
+    let given = case.given();
+    let mut relation = given.relation();
+    let equated = equate(
+        &mut relation,
         equations,
-        terms,
-        from,
-        BabyBearUnit(factor),
-        BabyBearUnit(image),
+        take_terms(case.one()),
+        TERMS.min(given.x() as usize),
+        BabyBearUnit(given.factor()),
+        BabyBearUnit(given.y()),
     );
-    let scaled = answer.scaled;
-    recorded(answer.recorded, number(scaled), true)
+    Answer::from(equated.recorded)
+        .with_value(limits::number(&equated.scaled))
+        .with_relation(&relation)
 }

@@ -4,7 +4,7 @@ use Prim.Native.Nat.{ℕ}
 use mathlib.Core.Path.{◌≡◌, refl}
 use mathlib.Core.List.{List, [], ◌∷◌, ◌++◌}
 use lib.ListN.{length, take}
-use Rattle.limits.specs.Questions.{ask, ◌▸◌}
+use Rattle.limits.specs.Questions.{ask, first_of_two}
 use Rattle.words.specs.Store.{all_below}
 use Rattle.utf8.specs.Utf8.{rows, follow, is_utf8}
 use Rattle.narg.specs.Bytes.{u32_bytes}
@@ -58,5 +58,5 @@ outcomes =
 pub examples : (length (bytes_of [] instance_a) ≡ 73)
     × (reading (bytes_of [] instance_a) ≡ got (file [] instance_a) [])
     × (outcomes ≡ 20 ∷ 28 ∷ 27 ∷ 25 ∷ 25 ∷ 0 ∷ [])
-unfolding instance_bytes header_bytes u32_bytes read_instance read_file read_header read_magic read_label read_parts read_publics read_queries read_equations word part below is_utf8 follow rows gate_no all_below ask ◌▸◌
+unfolding instance_bytes header_bytes u32_bytes read_instance read_file read_header read_magic read_label read_parts read_publics read_queries read_equations word part below is_utf8 follow rows gate_no all_below ask first_of_two
 examples = (refl, refl, refl)

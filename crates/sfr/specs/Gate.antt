@@ -2,7 +2,7 @@
 -- is. Assumes nothing.
 use Rattle.std.specs.Prelude.{ℕ, true, false}
 use Rattle.instance.specs.Looks.{heading}
-use Rattle.compile.specs.declared.Compiled.{Compiled}
+use Rattle.compile.specs.Records.{Compiled}
 use Rattle.limits.specs.Outcome.{outcome_number}
 use Rattle.sfr.specs.declared.gate.SfrInstanceAnswer.{SfrInstanceAnswer}
 use Rattle.sfr.specs.declared.gate.SfrHeading.{SfrHeading}

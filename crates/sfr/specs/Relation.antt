@@ -1,18 +1,15 @@
 -- The answers of calls on a relation as structs for C: the documents' number, and the values of each case.
 -- Assumes nothing.
-use Rattle.std.specs.Prelude.{true, false}
+use Rattle.std.specs.Prelude.{true, false, Some, None, Result, Ok, Err}
 use Rattle.limits.specs.Outcome.{outcome_number}
+use Rattle.limits.specs.declared.Refused.{Refused}
+use Rattle.allocator.specs.VarValue.{VarValue}
+use Rattle.permutation.specs.Records.{IsAllocated, Recorded, Allocated}
 use Rattle.permutation.specs.Answers.{first_number, first_var}
-use Rattle.permutation.specs.declared.Recorded.{Recorded}
-use Rattle.permutation.specs.declared.Allocated.{Allocated}
 use Rattle.permutation.specs.declared.SetVars.{SetVars}
 use Rattle.tickets.specs.declared.SetTickets.{SetTickets}
 use Rattle.allocator.specs.declared.Set.{Set}
 use Rattle.allocator.specs.declared.Set.TheVariants as set_is
-use Rattle.allocator.specs.declared.VarValue.{VarValue}
-use Rattle.allocator.specs.declared.VarValue.TheVariants as var_value
-use Rattle.permutation.specs.declared.IsAllocated.{IsAllocated}
-use Rattle.permutation.specs.declared.IsAllocated.TheVariants as allocated
 use Rattle.sfr.specs.declared.relation.SfrRelationAnswer.{SfrRelationAnswer}
 use Rattle.sfr.specs.declared.relation.SfrSetAnswer.{SfrSetAnswer}
 use Rattle.sfr.specs.declared.relation.SfrTally.{SfrTally}
@@ -29,10 +26,10 @@ abbrev pub allocated_answer : Allocated → SfrRelationAnswer
 allocated_answer r = record { number = first_number r.first; first = first_var r.first; relation = r.relation }
 
 -- a set: its number, and whether it is fresh, no after a refusal
-abbrev pub set_answer : Set → SfrSetAnswer
-set_answer set_is.Fresh = record { number = 0; fresh = true }
-set_answer set_is.Repeated = record { number = 0; fresh = false }
-set_answer (set_is.Refused k) = record { number = k; fresh = false }
+abbrev pub set_answer : Result Set Refused → SfrSetAnswer
+set_answer (Ok set_is.Fresh) = record { number = 0; fresh = true }
+set_answer (Ok set_is.Repeated) = record { number = 0; fresh = false }
+set_answer (Err e) = record { number = e.0; fresh = false }
 
 -- a set list: its number, how many of its first pairs were accepted, and how many of those were fresh
 abbrev pub tally_of : SetVars → SfrTally
@@ -44,12 +41,12 @@ ticket_tally_of r = record { number = outcome_number r.outcome; accepted = r.acc
 
 -- a look at a value: its number, whether there is one, and the value or 0
 abbrev pub value_answer : VarValue → SfrValue
-value_answer (var_value.Value v) = record { number = 0; some = true; value = v }
-value_answer var_value.Nothing = record { number = 0; some = false; value = 0 }
-value_answer (var_value.Refused k) = record { number = k; some = false; value = 0 }
+value_answer (Ok (Some v)) = record { number = 0; some = true; value = v }
+value_answer (Ok None) = record { number = 0; some = false; value = 0 }
+value_answer (Err e) = record { number = e.0; some = false; value = 0 }
 
 -- a look whether a wire is allocated: its number and yes or no, no after a refusal
 abbrev pub flag_of : IsAllocated → SfrFlag
-flag_of allocated.Yes = record { number = 0; yes = true }
-flag_of allocated.No = record { number = 0; yes = false }
-flag_of (allocated.Refused k) = record { number = k; yes = false }
+flag_of (Ok true) = record { number = 0; yes = true }
+flag_of (Ok false) = record { number = 0; yes = false }
+flag_of (Err e) = record { number = e.0; yes = false }

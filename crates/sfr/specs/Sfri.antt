@@ -5,7 +5,7 @@ use Rattle.limits.specs.Outcome.{outcome_number}
 use Rattle.narg.specs.Reader.{Got}
 use Rattle.decoding.specs.Read.{File}
 use Rattle.decoding.specs.Answers.{instance_answer}
-use Rattle.decoding.specs.declared.InstanceRead.{InstanceRead}
+use Rattle.decoding.specs.Records.{InstanceRead}
 use Rattle.sfr.specs.declared.sfri.SfrInstanceRead.{SfrInstanceRead}
 
 -- the three, taken from what the read answers

@@ -3,9 +3,7 @@
 use Rattle.limits.specs.Outcome.{outcome_number}
 use Rattle.permutation.specs.Answers.{first_number, first_var}
 use Rattle.sharing.specs.declared.VarAllocator.{VarAllocator}
-use Rattle.sharing.specs.declared.Opened.{Opened}
-use Rattle.sharing.specs.declared.AllocatedOn.{AllocatedOn}
-use Rattle.sharing.specs.declared.RecordedOn.{RecordedOn}
+use Rattle.sharing.specs.Records.{Opened, AllocatedOn, RecordedOn}
 use Rattle.sfr.specs.declared.shared.SfrSharedAnswer.{SfrSharedAnswer}
 
 -- an opening: its number, the relation's number, or 0 after a refusal, and the records

@@ -1,13 +1,11 @@
 -- The answers of calls on a trace as structs for C: document 01's number, and the values of each case.
 -- Assumes nothing.
-use Rattle.std.specs.Prelude.{ℕ}
-use Rattle.limits.specs.declared.Outcome.{Outcome}
-use Rattle.limits.specs.declared.Outcome.TheVariants as outcome
+use Rattle.std.specs.Prelude.{ℕ, Ok, Err}
+use Rattle.limits.specs.Outcome.{outcome_number, Outcome}
 use Rattle.witness.specs.declared.PermutationWitness.{PermutationWitness}
-use Rattle.witness.specs.declared.Traced.{Traced}
-use Rattle.encoding.specs.declared.Written.{Written}
-use Rattle.decoding.specs.declared.WitnessRead.{WitnessRead}
-use Rattle.limits.specs.Outcome.{outcome_number}
+use Rattle.witness.specs.Trace.{Traced}
+use Rattle.encoding.specs.Answers.{Written}
+use Rattle.decoding.specs.Records.{WitnessRead}
 use Rattle.sfr.specs.declared.trace.SfrTraceAnswer.{SfrTraceAnswer}
 use Rattle.sfr.specs.declared.trace.SfrWritten.{SfrWritten}
 
@@ -21,8 +19,8 @@ written_answer w = record { number = outcome_number w.outcome; len = w.len }
 
 -- a trace that was read has the width that it was read at; after a refusal the record is zeros
 abbrev pub read_record : ℕ → Outcome → ℕ → PermutationWitness
-read_record width outcome.Accepted steps = record { width = width; steps = steps }
-read_record width (outcome.Refused k) steps = record { width = 0; steps = 0 }
+read_record width (Ok tt) steps = record { width = width; steps = steps }
+read_record width (Err e) steps = record { width = 0; steps = 0 }
 
 -- a trace's read: its number and that record
 abbrev pub trace_read : ℕ → WitnessRead → SfrTraceAnswer

@@ -4,7 +4,6 @@ ghost use Rattle.std.specs.Prelude.{◌≡◌, length, replicate};
 ghost use Rattle.validity.specs.Valid.{is_witness_valid};
 ghost use Rattle.limits.specs.Outcome.{outcome_number};
 
-use crate::relation::outcome_no;
 use instance::PermutationInstance;
 
 // Is the trace valid for the instance, by the permutation of these parameters? 0 is yes.
@@ -25,7 +24,7 @@ pub extern "C" fn sfr_is_witness_valid(
         equations.now steps trace.now rounds params.now (length scratch.old)))
         × (scratch.new ≡ replicate (length scratch.old) 0) }
 {
-    outcome_no(validity::is_witness_valid(
+    limits::number(&validity::is_witness_valid(
         ins, label, publics, queries, equations, steps, trace, rounds, params, scratch,
     ))
 }

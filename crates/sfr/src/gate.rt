@@ -2,13 +2,15 @@
 
 ghost use Rattle.std.specs.Prelude.{◌≡◌, length};
 ghost use Rattle.instance.specs.Looks.{public_value};
+ghost use Rattle.compile.specs.Records.{gated};
 ghost use Rattle.compile.specs.Gate.{gate_lent, Compiles};
 ghost use Rattle.sfr.specs.Relation.{value_answer};
 ghost use Rattle.sfr.specs.Gate.{compiled_answer, heading_answer};
 
-use crate::relation::{SfrValue, outcome_no, value_answer};
+use crate::relation::{SfrValue, value_answer};
 use allocator::FieldVar;
 use instance::PermutationInstance;
+use limits::Refused;
 use permutation::PermutationRelation;
 
 // The gate's number with the instance's record, of zeros after a refusal.
@@ -17,6 +19,26 @@ use permutation::PermutationRelation;
 pub struct SfrInstanceAnswer {
     pub number: u32,
     pub instance: PermutationInstance,
+}
+
+// The record of zeros that stands where no instance was made or read.
+pub(crate) const NO_INSTANCE: PermutationInstance = PermutationInstance {
+    width: 0,
+    vars: 0,
+    queries: 0,
+    equations: 0,
+    words: 0,
+    publics: 0,
+};
+
+// What the gate answers, for C.
+pub(crate) fn compiled_answer(made: Result<PermutationInstance, Refused>) -> SfrInstanceAnswer
+    ensures { result ≡ compiled_answer (gated made) }
+{
+    SfrInstanceAnswer {
+        number: limits::number(&made),
+        instance: made.unwrap_or(NO_INSTANCE),
+    }
 }
 
 // The gate: the relation becomes an instance, and its publics are written.
@@ -34,15 +56,9 @@ pub extern "C" fn sfr_compile(
     ensures { Compiles compiled_answer (gate_lent rel label.now slots.now queries.now equations.now
         uses.now (length publics.old) (length scratch.old)) result publics.new scratch.new }
 {
-    let made = compile::compile(
-        rel, label, slots, queries, equations, uses, publics, scratch,
-    );
-    let o = made.outcome;
-    let instance = made.instance;
-    SfrInstanceAnswer {
-        number: outcome_no(o),
-        instance,
-    }
+    compiled_answer(compile::compile(
+        &rel, label, slots, queries, equations, uses, publics, scratch,
+    ))
 }
 
 // The value of a wire in an instance: that of the last public pair that lists it.
@@ -50,7 +66,7 @@ pub extern "C" fn sfr_compile(
 pub extern "C" fn sfr_public_value(ins: PermutationInstance, publics: &[u32], var: u32) -> SfrValue
     ensures { result ≡ value_answer (public_value ins publics.now var) }
 {
-    value_answer(instance::public_value(ins, publics, FieldVar(var)))
+    value_answer(instance::public_value(&ins, publics, FieldVar(var)))
 }
 
 // The heading: the name where `named`, else the label, and its length.

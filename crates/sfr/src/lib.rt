@@ -14,7 +14,8 @@ ghost use Rattle.narg.specs.Cursor.{read_u32, put_u32, put_u32_out, read_units, 
 ghost use Rattle.sfr.specs.Leaves.{utf8_scanned, word_read, place_written, place_read};
 
 use baby_bear::BabyBearUnit;
-use narg::{Cursor, Item, Put, Word};
+use limits::Refused;
+use narg::Cursor;
 
 mod check;
 mod gate;
@@ -92,12 +93,12 @@ pub extern "C" fn sfr_read_u32(bytes: &[u8], at: usize) -> SfrWord
     ensures { result ≡ word_read at (read_u32 bytes.now at) }
 {
     match narg::read_u32(bytes, Cursor { at }) {
-        Word::Read(value, c) => SfrWord {
+        Some((value, c)) => SfrWord {
             number: 0,
             value,
             next: c.at,
         },
-        Word::Short => SfrWord {
+        None => SfrWord {
             number: 20,
             value: 0,
             next: at,
@@ -111,11 +112,11 @@ pub extern "C" fn sfr_put_u32(out: &mut [u8], at: usize, value: u32) -> SfrPlace
     ensures { (result ≡ place_written at (put_u32 out.old at value)) × (out.new ≡ put_u32_out out.old at value) }
 {
     match narg::put_u32(out, Cursor { at }, value) {
-        Put::Written(c) => SfrPlace {
+        Some(c) => SfrPlace {
             number: 0,
             next: c.at,
         },
-        Put::Full => SfrPlace {
+        None => SfrPlace {
             number: 10,
             next: at,
         },
@@ -123,18 +124,12 @@ pub extern "C" fn sfr_put_u32(out: &mut [u8], at: usize, value: u32) -> SfrPlace
 }
 
 // What an item came to, for C.
-fn place_read(at: usize, item: Item) -> SfrPlace
+fn place_read(at: usize, item: Result<Cursor, Refused>) -> SfrPlace
     ensures { result ≡ place_read at item }
 {
-    match item {
-        Item::Read(c) => SfrPlace {
-            number: 0,
-            next: c.at,
-        },
-        Item::Refused(k) => SfrPlace {
-            number: k,
-            next: at,
-        },
+    SfrPlace {
+        number: limits::number(&item),
+        next: item.map_or(at, |c| c.at),
     }
 }
 

@@ -1,9 +1,11 @@
-// Calls on a relation, for C. The record is handed in and back by value; a refused call gives it back as it was.
+// Calls on a relation, for C. The record is handed in and back by value; a refused call gives it back as it was. What a
+// call answers becomes a struct here: the documents' number, and after a refusal zeros for the value that there is not.
 
 ghost use Rattle.std.specs.Prelude.{◌≡◌};
 ghost use Rattle.allocator.specs.Slots.{pair};
 ghost use Rattle.expr.specs.Weighted.{terms_of, scale, scale_terms};
 ghost use Rattle.limits.specs.Outcome.{outcome_number};
+ghost use Rattle.permutation.specs.Records.{made, recorded, allocated};
 ghost use Rattle.permutation.specs.Answers.{value_of, is_allocated};
 ghost use Rattle.permutation.specs.Effects.{MakesRelation, AllocatesVars, SetsVar, SetsVars};
 ghost use Rattle.recording.specs.Effects.{AddsPermutation, AllocatesPermutation, AddsEquation};
@@ -11,11 +13,11 @@ ghost use Rattle.withdraw.specs.Effects.{WithdrawsEquation, WithdrawsQuery};
 ghost use Rattle.tickets.specs.Tickets.{SetsTickets};
 ghost use Rattle.sfr.specs.Relation.{recorded_answer, allocated_answer, set_answer, tally_of, ticket_tally_of, value_answer, flag_of};
 
-use allocator::{FieldVar, Set, VarValue};
+use allocator::{FieldVar, Set};
 use baby_bear::BabyBearUnit;
 use expr::Weighted;
-use limits::Outcome;
-use permutation::{Allocated, First, IsAllocated, PermutationRelation, Recorded, SetVars};
+use limits::Refused;
+use permutation::{PermutationRelation, SetVars};
 use tickets::SetTickets;
 
 // A call's number with the record beside it; `first` is the first wire that an allocation answers, else 0.
@@ -70,46 +72,50 @@ pub struct SfrFlag {
     pub yes: bool,
 }
 
-// The documents' number of an outcome.
-pub(crate) fn outcome_no(o: Outcome) -> u32
-    ensures { result ≡ outcome_number o }
+// What a call answers that makes a relation, for C.
+fn made_answer(rel: Result<PermutationRelation, Refused>) -> SfrRelationAnswer
+    ensures { result ≡ recorded_answer (made rel) }
 {
-    match o {
-        Outcome::Accepted => 0,
-        Outcome::Refused(k) => k,
+    match rel {
+        Ok(relation) => SfrRelationAnswer {
+            number: 0,
+            first: 0,
+            relation,
+        },
+        Err(refused) => SfrRelationAnswer {
+            number: refused.0,
+            first: 0,
+            relation: PermutationRelation {
+                width: 0,
+                vars: 0,
+                queries: 0,
+                equations: 0,
+                words: 0,
+                stray: 0,
+            },
+        },
     }
 }
 
 // What a call answers that has no value to give, for C.
-fn recorded_answer(r: Recorded) -> SfrRelationAnswer
-    ensures { result ≡ recorded_answer r }
+fn recorded_answer(outcome: Result<(), Refused>, relation: PermutationRelation) -> SfrRelationAnswer
+    ensures { result ≡ recorded_answer (recorded outcome relation) }
 {
-    let o = r.outcome;
-    let relation = r.relation;
     SfrRelationAnswer {
-        number: outcome_no(o),
+        number: limits::number(&outcome),
         first: 0,
         relation,
     }
 }
 
 // What an allocation answers, for C.
-fn allocated_answer(r: Allocated) -> SfrRelationAnswer
-    ensures { result ≡ allocated_answer r }
+fn allocated_answer(first: Result<u32, Refused>, relation: PermutationRelation) -> SfrRelationAnswer
+    ensures { result ≡ allocated_answer (allocated first relation) }
 {
-    let first = r.first;
-    let relation = r.relation;
-    match first {
-        First::Var(x) => SfrRelationAnswer {
-            number: 0,
-            first: x,
-            relation,
-        },
-        First::Refused(k) => SfrRelationAnswer {
-            number: k,
-            first: 0,
-            relation,
-        },
+    SfrRelationAnswer {
+        number: limits::number(&first),
+        first: first.unwrap_or(0),
+        relation,
     }
 }
 
@@ -122,7 +128,7 @@ pub extern "C" fn sfr_new_relation(
 ) -> SfrRelationAnswer
     ensures { MakesRelation recorded_answer width slots.old uses.old result slots.new uses.new }
 {
-    recorded_answer(permutation::new_relation(width, slots, uses))
+    made_answer(permutation::new_relation(width, slots, uses))
 }
 
 // The next n wires, unassigned.
@@ -134,26 +140,18 @@ pub extern "C" fn sfr_allocate_vars(
 ) -> SfrRelationAnswer
     ensures { AllocatesVars allocated_answer rel slots.old n result slots.new }
 {
-    allocated_answer(permutation::allocate_vars(rel, slots, n))
+    let mut rel = rel;
+    let first = permutation::allocate_vars(&mut rel, slots, n);
+    allocated_answer(first, rel)
 }
 
 // What a set answers, for C.
-pub(crate) fn set_answer(s: Set) -> SfrSetAnswer
-    ensures { result ≡ set_answer s }
+pub(crate) fn set_answer(set: Result<Set, Refused>) -> SfrSetAnswer
+    ensures { result ≡ set_answer set }
 {
-    match s {
-        Set::Fresh => SfrSetAnswer {
-            number: 0,
-            fresh: true,
-        },
-        Set::Repeated => SfrSetAnswer {
-            number: 0,
-            fresh: false,
-        },
-        Set::Refused(k) => SfrSetAnswer {
-            number: k,
-            fresh: false,
-        },
+    SfrSetAnswer {
+        number: limits::number(&set),
+        fresh: matches!(set, Ok(Set::Fresh)),
     }
 }
 
@@ -167,20 +165,17 @@ pub extern "C" fn sfr_set_var(
 ) -> SfrSetAnswer
     ensures { SetsVar set_answer rel slots.old (pair var value) result slots.new }
 {
-    set_answer(permutation::set_var(rel, slots, FieldVar(var), BabyBearUnit(value)))
+    set_answer(permutation::set_var(&rel, slots, FieldVar(var), BabyBearUnit(value)))
 }
 
 // What a set list answers, for C.
-pub(crate) fn tally_of(r: SetVars) -> SfrTally
-    ensures { result ≡ tally_of r }
+pub(crate) fn tally_of(run: SetVars) -> SfrTally
+    ensures { result ≡ tally_of run }
 {
-    let o = r.outcome;
-    let accepted = r.accepted;
-    let fresh = r.fresh;
     SfrTally {
-        number: outcome_no(o),
-        accepted,
-        fresh,
+        number: limits::number(&run.outcome),
+        accepted: run.accepted,
+        fresh: run.fresh,
     }
 }
 
@@ -194,20 +189,17 @@ pub extern "C" fn sfr_set_vars(
 ) -> SfrTally
     ensures { SetsVars tally_of rel slots.old vars.now values.now result slots.new }
 {
-    tally_of(permutation::set_vars(rel, slots, vars, values))
+    tally_of(permutation::set_vars(&rel, slots, vars, values))
 }
 
 // What a ticket text answers, for C.
-pub(crate) fn ticket_tally_of(r: SetTickets) -> SfrTicketTally
-    ensures { result ≡ ticket_tally_of r }
+pub(crate) fn ticket_tally_of(run: SetTickets) -> SfrTicketTally
+    ensures { result ≡ ticket_tally_of run }
 {
-    let o = r.outcome;
-    let accepted = r.accepted;
-    let fresh = r.fresh;
     SfrTicketTally {
-        number: outcome_no(o),
-        accepted,
-        fresh,
+        number: limits::number(&run.outcome),
+        accepted: run.accepted,
+        fresh: run.fresh,
     }
 }
 
@@ -220,7 +212,7 @@ pub extern "C" fn sfr_set_tickets(
 ) -> SfrTicketTally
     ensures { SetsTickets ticket_tally_of rel slots.old text.now result slots.new }
 {
-    ticket_tally_of(tickets::set_tickets(rel, slots, text))
+    ticket_tally_of(tickets::set_tickets(&rel, slots, text))
 }
 
 // A query from input to output wires.
@@ -236,7 +228,9 @@ pub extern "C" fn sfr_add_permutation(
     ensures { AddsPermutation recorded_answer rel slots.now queries.old uses.old input.now output.now
         result queries.new uses.new }
 {
-    recorded_answer(recording::add_permutation(rel, slots, queries, uses, input, output))
+    let mut rel = rel;
+    let outcome = recording::add_permutation(&mut rel, slots, queries, uses, input, output);
+    recorded_answer(outcome, rel)
 }
 
 // A query from input wires to as many new ones.
@@ -251,7 +245,9 @@ pub extern "C" fn sfr_allocate_permutation(
     ensures { AllocatesPermutation allocated_answer rel slots.old queries.old uses.old input.now
         result slots.new queries.new uses.new }
 {
-    allocated_answer(recording::allocate_permutation(rel, slots, queries, uses, input))
+    let mut rel = rel;
+    let first = recording::allocate_permutation(&mut rel, slots, queries, uses, input);
+    allocated_answer(first, rel)
 }
 
 // Query i withdrawn: later ones move down.
@@ -266,7 +262,9 @@ pub extern "C" fn sfr_withdraw_query(
     ensures { WithdrawsQuery recorded_answer rel slots.now queries.old uses.old i
         result queries.new uses.new }
 {
-    recorded_answer(withdraw::withdraw_query(rel, slots, queries, uses, i))
+    let mut rel = rel;
+    let outcome = withdraw::withdraw_query(&mut rel, slots, queries, uses, i);
+    recorded_answer(outcome, rel)
 }
 
 // An equation: the sum of the terms is the image.
@@ -279,7 +277,9 @@ pub extern "C" fn sfr_add_equation(
 ) -> SfrRelationAnswer
     ensures { AddsEquation recorded_answer rel equations.old (terms_of terms.now) image result equations.new }
 {
-    recorded_answer(recording::add_equation(rel, equations, terms, BabyBearUnit(image)))
+    let mut rel = rel;
+    let outcome = recording::add_equation(&mut rel, equations, terms, BabyBearUnit(image));
+    recorded_answer(outcome, rel)
 }
 
 // Equation i withdrawn: later ones move down.
@@ -291,7 +291,9 @@ pub extern "C" fn sfr_withdraw_equation(
 ) -> SfrRelationAnswer
     ensures { WithdrawsEquation recorded_answer rel equations.old i result equations.new }
 {
-    recorded_answer(withdraw::withdraw_equation(rel, equations, i))
+    let mut rel = rel;
+    let outcome = withdraw::withdraw_equation(&mut rel, equations, i);
+    recorded_answer(outcome, rel)
 }
 
 // Every weight of the list times the factor, or the list as it was.
@@ -299,29 +301,18 @@ pub extern "C" fn sfr_withdraw_equation(
 pub extern "C" fn sfr_scale(terms: &mut [Weighted], factor: u32) -> u32
     ensures { (result ≡ outcome_number (scale terms.old factor)) × (terms.new ≡ scale_terms terms.old factor) }
 {
-    outcome_no(expr::scale(terms, BabyBearUnit(factor)))
+    limits::number(&expr::scale(terms, BabyBearUnit(factor)))
 }
 
 // What a look at a value answers, for C.
-pub(crate) fn value_answer(v: VarValue) -> SfrValue
-    ensures { result ≡ value_answer v }
+pub(crate) fn value_answer(value: Result<Option<u32>, Refused>) -> SfrValue
+    ensures { result ≡ value_answer value }
 {
-    match v {
-        VarValue::Value(value) => SfrValue {
-            number: 0,
-            some: true,
-            value,
-        },
-        VarValue::Nothing => SfrValue {
-            number: 0,
-            some: false,
-            value: 0,
-        },
-        VarValue::Refused(k) => SfrValue {
-            number: k,
-            some: false,
-            value: 0,
-        },
+    let held = value.unwrap_or(None);
+    SfrValue {
+        number: limits::number(&value),
+        some: held.is_some(),
+        value: held.unwrap_or(0),
     }
 }
 
@@ -330,26 +321,16 @@ pub(crate) fn value_answer(v: VarValue) -> SfrValue
 pub extern "C" fn sfr_value_of(rel: PermutationRelation, slots: &[u32], var: u32) -> SfrValue
     ensures { result ≡ value_answer (value_of rel slots.now var) }
 {
-    value_answer(permutation::value_of(rel, slots, FieldVar(var)))
+    value_answer(permutation::value_of(&rel, slots, FieldVar(var)))
 }
 
 // What a look whether a wire is allocated answers, for C.
-pub(crate) fn flag_of(a: IsAllocated) -> SfrFlag
-    ensures { result ≡ flag_of a }
+pub(crate) fn flag_of(yes: Result<bool, Refused>) -> SfrFlag
+    ensures { result ≡ flag_of yes }
 {
-    match a {
-        IsAllocated::Yes => SfrFlag {
-            number: 0,
-            yes: true,
-        },
-        IsAllocated::No => SfrFlag {
-            number: 0,
-            yes: false,
-        },
-        IsAllocated::Refused(k) => SfrFlag {
-            number: k,
-            yes: false,
-        },
+    SfrFlag {
+        number: limits::number(&yes),
+        yes: yes.unwrap_or(false),
     }
 }
 
@@ -358,5 +339,5 @@ pub(crate) fn flag_of(a: IsAllocated) -> SfrFlag
 pub extern "C" fn sfr_is_allocated(rel: PermutationRelation, var: u32) -> SfrFlag
     ensures { result ≡ flag_of (is_allocated rel var) }
 {
-    flag_of(permutation::is_allocated(rel, FieldVar(var)))
+    flag_of(permutation::is_allocated(&rel, FieldVar(var)))
 }

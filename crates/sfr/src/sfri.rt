@@ -3,16 +3,18 @@
 ghost use Rattle.std.specs.Prelude.{◌≡◌};
 ghost use Rattle.encoding.specs.Answers.{InstanceWrites};
 ghost use Rattle.decoding.specs.Read.{plain_rule, strict_rule};
+ghost use Rattle.decoding.specs.Records.{told_instance};
 ghost use Rattle.decoding.specs.Answers.{stores, InstanceReads};
 ghost use Rattle.sfr.specs.Trace.{written_answer};
 ghost use Rattle.sfr.specs.Sfri.{read_of, read_answer};
 
-use crate::relation::outcome_no;
+use crate::gate::NO_INSTANCE;
 use crate::trace::{SfrWritten, written_answer};
 use decoding::{InstanceRead, Span};
 use instance::PermutationInstance;
+use limits::Refused;
 
-// What was read: the record, and where in the input the label lies.
+// What was read: the record, and where in the input the label lies; zeros after a refusal.
 #[repr(C)]
 #[derive(Clone, Copy)]
 pub struct SfrInstanceRead {
@@ -37,17 +39,21 @@ pub extern "C" fn sfr_instance_to_bytes(
     written_answer(encoding::instance_to_bytes(ins, label, publics, queries, equations, out))
 }
 
-// What a read answers, as a struct.
-fn read_answer(read: InstanceRead) -> SfrInstanceRead
-    ensures { result ≡ read_of read }
+// What a read answers, for C.
+fn read_answer(read: Result<InstanceRead, Refused>) -> SfrInstanceRead
+    ensures { result ≡ read_of (told_instance read) }
 {
-    let o = read.outcome;
-    let instance = read.instance;
-    let label = read.label;
-    SfrInstanceRead {
-        number: outcome_no(o),
-        instance,
-        label,
+    match read {
+        Ok(read) => SfrInstanceRead {
+            number: 0,
+            instance: read.instance,
+            label: read.label,
+        },
+        Err(refused) => SfrInstanceRead {
+            number: refused.0,
+            instance: NO_INSTANCE,
+            label: Span { at: 0, len: 0 },
+        },
     }
 }
 

@@ -9,7 +9,8 @@ ghost use Rattle.permutation.specs.Answers.{set_vars_of};
 ghost use Rattle.tickets.specs.Tickets.{set_tickets_of};
 ghost use Rattle.compile.specs.Gate.{gate_lent};
 ghost use Rattle.sharing.specs.Shares.{on_allocator, shares};
-ghost use Rattle.sharing.specs.Opening.{with_allocator, with_allocator_slots, with_allocator_uses};
+ghost use Rattle.sharing.specs.Records.{first_on, outcome_on};
+ghost use Rattle.sharing.specs.Opening.{opened_on, with_allocator, with_allocator_slots, with_allocator_uses};
 ghost use Rattle.sharing.specs.Answers.{Does, DoesBoth, DoesAll};
 ghost use Rattle.shared_vars.specs.Answers.{allocate_vars_on, allocate_vars_on_slots, set_var_on, set_var_on_slots, set_vars_on_run, set_tickets_on_run, value_of_on, is_allocated_on};
 ghost use Rattle.shared_recording.specs.Answers.{add_permutation_on, add_permutation_on_queries, add_permutation_on_uses, allocate_permutation_on, allocate_permutation_on_slots, allocate_permutation_on_queries, allocate_permutation_on_uses, add_equation_on, add_equation_on_equations};
@@ -19,16 +20,16 @@ ghost use Rattle.sfr.specs.Relation.{set_answer, tally_of, ticket_tally_of, valu
 ghost use Rattle.sfr.specs.Gate.{compiled_answer};
 ghost use Rattle.sfr.specs.Shared.{opened_answer, allocated_on_answer, recorded_on_answer};
 
-use crate::gate::SfrInstanceAnswer;
+use crate::gate::{SfrInstanceAnswer, compiled_answer};
 use crate::relation::{
-    SfrFlag, SfrSetAnswer, SfrTally, SfrTicketTally, SfrValue, flag_of, outcome_no, set_answer,
-    tally_of, ticket_tally_of, value_answer,
+    SfrFlag, SfrSetAnswer, SfrTally, SfrTicketTally, SfrValue, flag_of, set_answer, tally_of,
+    ticket_tally_of, value_answer,
 };
 use allocator::FieldVar;
 use baby_bear::BabyBearUnit;
 use expr::Weighted;
-use permutation::First;
-use sharing::{AllocatedOn, Opened, RecordedOn, SharedRelation, VarAllocator};
+use limits::Refused;
+use sharing::{SharedRelation, VarAllocator};
 
 // A call's number with the records beside it; `first` is the relation's number for an opening, the first wire that an
 // allocation answers, else 0.
@@ -42,52 +43,62 @@ pub struct SfrSharedAnswer {
 }
 
 // What an opening answers, for C.
-fn opened_answer(o: Opened) -> SfrSharedAnswer
-    ensures { result ≡ opened_answer o }
+fn opened_answer(
+    opened: Result<(u32, SharedRelation), Refused>,
+    allocator: VarAllocator,
+) -> SfrSharedAnswer
+    ensures { result ≡ opened_answer (opened_on opened allocator) }
 {
-    let outcome = o.outcome;
-    let first = o.index;
-    let allocator = o.allocator;
-    let relation = o.relation;
+    match opened {
+        Ok((index, relation)) => SfrSharedAnswer {
+            number: 0,
+            first: index,
+            allocator,
+            relation,
+        },
+        Err(refused) => SfrSharedAnswer {
+            number: refused.0,
+            first: 0,
+            allocator,
+            relation: SharedRelation {
+                width: 0,
+                queries: 0,
+                equations: 0,
+                words: 0,
+                stray: 0,
+                quota: 0,
+                obtained: 0,
+            },
+        },
+    }
+}
+
+// What an allocation answers, for C.
+fn allocated_on_answer(
+    first: Result<u32, Refused>,
+    allocator: VarAllocator,
+    relation: SharedRelation,
+) -> SfrSharedAnswer
+    ensures { result ≡ allocated_on_answer (first_on first allocator relation) }
+{
     SfrSharedAnswer {
-        number: outcome_no(outcome),
-        first,
+        number: limits::number(&first),
+        first: first.unwrap_or(0),
         allocator,
         relation,
     }
 }
 
-// What an allocation answers, for C.
-fn allocated_on_answer(done: AllocatedOn) -> SfrSharedAnswer
-    ensures { result ≡ allocated_on_answer done }
-{
-    let first = done.first;
-    let allocator = done.allocator;
-    let relation = done.relation;
-    match first {
-        First::Var(x) => SfrSharedAnswer {
-            number: 0,
-            first: x,
-            allocator,
-            relation,
-        },
-        First::Refused(k) => SfrSharedAnswer {
-            number: k,
-            first: 0,
-            allocator,
-            relation,
-        },
-    }
-}
-
 // What a call answers that records, for C.
-fn recorded_on_answer(allocator: VarAllocator, done: RecordedOn) -> SfrSharedAnswer
-    ensures { result ≡ recorded_on_answer allocator done }
+fn recorded_on_answer(
+    outcome: Result<(), Refused>,
+    allocator: VarAllocator,
+    relation: SharedRelation,
+) -> SfrSharedAnswer
+    ensures { result ≡ recorded_on_answer allocator (outcome_on outcome relation) }
 {
-    let outcome = done.outcome;
-    let relation = done.relation;
     SfrSharedAnswer {
-        number: outcome_no(outcome),
+        number: limits::number(&outcome),
         first: 0,
         allocator,
         relation,
@@ -107,7 +118,9 @@ pub extern "C" fn sfr_with_allocator(
         (with_allocator_slots allocator width slots.old uses.old)
         (with_allocator_uses allocator width slots.old uses.old) result slots.new uses.new }
 {
-    opened_answer(sharing::with_allocator(allocator, width, quota, slots, uses))
+    let mut allocator = allocator;
+    let opened = sharing::with_allocator(&mut allocator, width, quota, slots, uses);
+    opened_answer(opened, allocator)
 }
 
 // The next n wires for the relation, unassigned.
@@ -121,7 +134,10 @@ pub extern "C" fn sfr_allocate_vars_on(
 ) -> SfrSharedAnswer
     ensures { Does allocated_on_answer (allocate_vars_on allocator index rel slots.old n) (allocate_vars_on_slots allocator index rel slots.old n) result slots.new }
 {
-    allocated_on_answer(shared_vars::allocate_vars_on(allocator, index, rel, slots, n))
+    let mut allocator = allocator;
+    let mut rel = rel;
+    let first = shared_vars::allocate_vars_on(&mut allocator, index, &mut rel, slots, n);
+    allocated_on_answer(first, allocator, rel)
 }
 
 // A wire is assigned its value.
@@ -137,9 +153,9 @@ pub extern "C" fn sfr_set_var_on(
     ensures { Does set_answer (set_var_on allocator index rel slots.old (pair var value)) (set_var_on_slots allocator index rel slots.old (pair var value)) result slots.new }
 {
     set_answer(shared_vars::set_var_on(
-        allocator,
+        &allocator,
         index,
-        rel,
+        &rel,
         slots,
         FieldVar(var),
         BabyBearUnit(value),
@@ -158,7 +174,7 @@ pub extern "C" fn sfr_set_vars_on(
 ) -> SfrTally
     ensures { Runs (λ run. tally_of (set_vars_of run)) (set_vars_on_run allocator index rel slots.old vars.now values.now) result slots.new }
 {
-    tally_of(shared_vars::set_vars_on(allocator, index, rel, slots, vars, values))
+    tally_of(shared_vars::set_vars_on(&allocator, index, &rel, slots, vars, values))
 }
 
 // Wires are assigned the steps of ticket lines, up to the first line that is refused.
@@ -172,7 +188,7 @@ pub extern "C" fn sfr_set_tickets_on(
 ) -> SfrTicketTally
     ensures { Runs (λ run. ticket_tally_of (set_tickets_of run)) (set_tickets_on_run allocator index rel slots.old text.now) result slots.new }
 {
-    ticket_tally_of(shared_vars::set_tickets_on(allocator, index, rel, slots, text))
+    ticket_tally_of(shared_vars::set_tickets_on(&allocator, index, &rel, slots, text))
 }
 
 // A query of the relation from input to output wires.
@@ -193,10 +209,11 @@ pub extern "C" fn sfr_add_permutation_on(
         (add_permutation_on_uses allocator index rel (length slots.now) queries.old uses.old input.now output.now)
         result queries.new uses.new }
 {
-    let done = shared_recording::add_permutation_on(
-        allocator, index, rel, slots, queries, uses, input, output,
+    let mut rel = rel;
+    let outcome = shared_recording::add_permutation_on(
+        &allocator, index, &mut rel, slots, queries, uses, input, output,
     );
-    recorded_on_answer(allocator, done)
+    recorded_on_answer(outcome, allocator, rel)
 }
 
 // A query of the relation from input wires to as many new ones.
@@ -216,9 +233,18 @@ pub extern "C" fn sfr_allocate_permutation_on(
         (allocate_permutation_on_uses allocator index rel slots.old queries.old uses.old input.now)
         result slots.new queries.new uses.new }
 {
-    allocated_on_answer(shared_recording::allocate_permutation_on(
-        allocator, index, rel, slots, queries, uses, input,
-    ))
+    let mut allocator = allocator;
+    let mut rel = rel;
+    let first = shared_recording::allocate_permutation_on(
+        &mut allocator,
+        index,
+        &mut rel,
+        slots,
+        queries,
+        uses,
+        input,
+    );
+    allocated_on_answer(first, allocator, rel)
 }
 
 // Query i of the relation withdrawn: later ones move down.
@@ -237,8 +263,11 @@ pub extern "C" fn sfr_withdraw_query_on(
         (withdraw_query_on_uses allocator index rel (length slots.now) queries.old uses.old i)
         result queries.new uses.new }
 {
-    let done = shared_withdraw::withdraw_query_on(allocator, index, rel, slots, queries, uses, i);
-    recorded_on_answer(allocator, done)
+    let mut rel = rel;
+    let outcome = shared_withdraw::withdraw_query_on(
+        &allocator, index, &mut rel, slots, queries, uses, i,
+    );
+    recorded_on_answer(outcome, allocator, rel)
 }
 
 // An equation of the relation: the sum of the terms is the image.
@@ -254,15 +283,16 @@ pub extern "C" fn sfr_add_equation_on(
     ensures { Does (recorded_on_answer allocator) (add_equation_on allocator index rel equations.old (terms_of terms.now) image)
         (add_equation_on_equations allocator index rel equations.old (terms_of terms.now) image) result equations.new }
 {
-    let done = shared_recording::add_equation_on(
-        allocator,
+    let mut rel = rel;
+    let outcome = shared_recording::add_equation_on(
+        &allocator,
         index,
-        rel,
+        &mut rel,
         equations,
         terms,
         BabyBearUnit(image),
     );
-    recorded_on_answer(allocator, done)
+    recorded_on_answer(outcome, allocator, rel)
 }
 
 // Equation i of the relation withdrawn: later ones move down.
@@ -277,8 +307,9 @@ pub extern "C" fn sfr_withdraw_equation_on(
     ensures { Does (recorded_on_answer allocator) (withdraw_equation_on allocator index rel equations.old i)
         (withdraw_equation_on_equations allocator index rel equations.old i) result equations.new }
 {
-    let done = shared_withdraw::withdraw_equation_on(allocator, index, rel, equations, i);
-    recorded_on_answer(allocator, done)
+    let mut rel = rel;
+    let outcome = shared_withdraw::withdraw_equation_on(&allocator, index, &mut rel, equations, i);
+    recorded_on_answer(outcome, allocator, rel)
 }
 
 // The value of a wire, if it has one.
@@ -292,7 +323,7 @@ pub extern "C" fn sfr_value_of_on(
 ) -> SfrValue
     ensures { result ≡ value_answer (value_of_on allocator index rel slots.now var) }
 {
-    value_answer(shared_vars::value_of_on(allocator, index, rel, slots, FieldVar(var)))
+    value_answer(shared_vars::value_of_on(&allocator, index, &rel, slots, FieldVar(var)))
 }
 
 // Is the wire allocated, by any relation?
@@ -305,7 +336,7 @@ pub extern "C" fn sfr_is_allocated_on(
 ) -> SfrFlag
     ensures { result ≡ flag_of (is_allocated_on allocator index rel var) }
 {
-    flag_of(shared_vars::is_allocated_on(allocator, index, rel, FieldVar(var)))
+    flag_of(shared_vars::is_allocated_on(&allocator, index, &rel, FieldVar(var)))
 }
 
 // The gate: the relation becomes an instance, and its publics are written.
@@ -326,13 +357,7 @@ pub extern "C" fn sfr_compile_on(
         (gate_lent (on_allocator allocator rel) label.now slots.now queries.now equations.now
         uses.now (length publics.old) (length scratch.old)) result publics.new scratch.new }
 {
-    let made = shared_compile::compile_on(
-        allocator, index, rel, label, slots, queries, equations, uses, publics, scratch,
-    );
-    let o = made.outcome;
-    let instance = made.instance;
-    SfrInstanceAnswer {
-        number: outcome_no(o),
-        instance,
-    }
+    compiled_answer(shared_compile::compile_on(
+        &allocator, index, &rel, label, slots, queries, equations, uses, publics, scratch,
+    ))
 }

@@ -1,17 +1,17 @@
 // The permutation by its parameters and traces of it, for C. A trace's record is handed in and back by value.
 
 ghost use Rattle.std.specs.Prelude.{◌≡◌, length};
+ghost use Rattle.limits.specs.Outcome.{outcome_of};
 ghost use Rattle.permute.specs.Parameters.{permute_no, permuted};
 ghost use Rattle.inverse.specs.Answers.{permute_inverse_no, permute_inverted, StateBehind};
-ghost use Rattle.witness.specs.Trace.{AppendsStep, EvaluatesStep};
-ghost use Rattle.encoding.specs.Answers.{WitnessWrites};
+ghost use Rattle.witness.specs.Trace.{traced, AppendsStep, EvaluatesStep};
+ghost use Rattle.encoding.specs.Answers.{written, WitnessWrites};
+ghost use Rattle.decoding.specs.Records.{told_steps};
 ghost use Rattle.decoding.specs.Answers.{witness_from_bytes, witness_answer, trace_after};
 ghost use Rattle.sfr.specs.Trace.{traced_answer, written_answer, trace_read};
 
-use crate::relation::outcome_no;
-use encoding::Written;
-use limits::Outcome;
-use witness::{PermutationWitness, Traced};
+use limits::Refused;
+use witness::PermutationWitness;
 
 // A call's number with the trace's record beside it.
 #[repr(C)]
@@ -34,7 +34,7 @@ pub struct SfrWritten {
 pub extern "C" fn sfr_permute(width: u32, rounds: u32, params: &[u32], state: &mut [u32]) -> u32
     ensures { (result ≡ permute_no width rounds params.now state.old) × (state.new ≡ permuted width rounds params.now state.old) }
 {
-    permute::permute(width, rounds, params, state)
+    limits::number(&permute::permute(width, rounds, params, state))
 }
 
 // The input that the permutation of these parameters turns into the output, put into a list of its own.
@@ -48,19 +48,17 @@ pub extern "C" fn sfr_permute_inverse(
 ) -> u32
     ensures { (result ≡ permute_inverse_no width rounds params.now output.now input.old)
         × (input.new ≡ permute_inverted width rounds params.now output.now input.old)
-        × StateBehind width rounds params.now output.now result input.new }
+        × StateBehind width rounds params.now output.now (outcome_of result) input.new }
 {
-    inverse::permute_inverse(width, rounds, params, output, input)
+    limits::number(&inverse::permute_inverse(width, rounds, params, output, input))
 }
 
 // What a builder's call answers, for C.
-fn traced_answer(t: Traced) -> SfrTraceAnswer
-    ensures { result ≡ traced_answer t }
+fn traced_answer(outcome: Result<(), Refused>, trace: PermutationWitness) -> SfrTraceAnswer
+    ensures { result ≡ traced_answer (traced outcome trace) }
 {
-    let o = t.outcome;
-    let trace = t.witness;
     SfrTraceAnswer {
-        number: outcome_no(o),
+        number: limits::number(&outcome),
         trace,
     }
 }
@@ -75,7 +73,9 @@ pub extern "C" fn sfr_append_step(
 ) -> SfrTraceAnswer
     ensures { AppendsStep traced_answer rec trace.old input.now output.now result trace.new }
 {
-    traced_answer(witness::append_step(rec, trace, input, output))
+    let mut rec = rec;
+    let outcome = witness::append_step(&mut rec, trace, input, output);
+    traced_answer(outcome, rec)
 }
 
 // A step from these inputs, evaluated and appended.
@@ -89,17 +89,18 @@ pub extern "C" fn sfr_evaluate_step(
 ) -> SfrTraceAnswer
     ensures { EvaluatesStep traced_answer rec trace.old input.now rounds params.now result trace.new }
 {
-    traced_answer(witness::evaluate_step(rec, trace, input, rounds, params))
+    let mut rec = rec;
+    let outcome = witness::evaluate_step(&mut rec, trace, input, rounds, params);
+    traced_answer(outcome, rec)
 }
 
 // What writing answers, for C.
-pub(crate) fn written_answer(w: Written) -> SfrWritten
-    ensures { result ≡ written_answer w }
+pub(crate) fn written_answer(len: Result<usize, Refused>) -> SfrWritten
+    ensures { result ≡ written_answer (written len) }
 {
-    let o = w.outcome;
     SfrWritten {
-        number: outcome_no(o),
-        len: w.len,
+        number: limits::number(&len),
+        len: len.unwrap_or(0),
     }
 }
 
@@ -115,6 +116,22 @@ pub extern "C" fn sfr_witness_to_bytes(
     written_answer(encoding::witness_to_bytes(rec.width, rec.steps, trace, out))
 }
 
+// What a read of a trace answers, for C.
+fn trace_read(width: u32, steps: Result<u32, Refused>) -> SfrTraceAnswer
+    ensures { result ≡ trace_read width (told_steps steps) }
+{
+    match steps {
+        Ok(steps) => SfrTraceAnswer {
+            number: 0,
+            trace: PermutationWitness { width, steps },
+        },
+        Err(refused) => SfrTraceAnswer {
+            number: refused.0,
+            trace: PermutationWitness { width: 0, steps: 0 },
+        },
+    }
+}
+
 // The trace that the bytes hold, for this width, into the store.
 #[unsafe(no_mangle)]
 pub extern "C" fn sfr_witness_from_bytes(
@@ -125,19 +142,5 @@ pub extern "C" fn sfr_witness_from_bytes(
     ensures { (result ≡ trace_read width (witness_answer (witness_from_bytes width bytes.now (length trace.old))))
         × (trace.new ≡ trace_after (length trace.old) (witness_from_bytes width bytes.now (length trace.old))) }
 {
-    let read = decoding::witness_from_bytes(width, bytes, trace);
-    let o = read.outcome;
-    match o {
-        Outcome::Accepted => SfrTraceAnswer {
-            number: 0,
-            trace: PermutationWitness {
-                width,
-                steps: read.steps,
-            },
-        },
-        Outcome::Refused(k) => SfrTraceAnswer {
-            number: k,
-            trace: PermutationWitness { width: 0, steps: 0 },
-        },
-    }
+    trace_read(width, decoding::witness_from_bytes(width, bytes, trace))
 }

@@ -12,8 +12,8 @@ ghost use Rattle.std.specs.Prelude.{◌≤◌, IfOk, length};
 
 use decoding::InstanceRead;
 use instance::PermutationInstance;
-use limits::Outcome;
-use narg::{Cursor, Word};
+use limits::Refused;
+use narg::Cursor;
 use std::io;
 use std::io::Read;
 
@@ -32,14 +32,11 @@ fn line(rt: &impl Print, n: u32, word: &str) -> io::Result<()> {
 
 // The width that the file names, or 1 where it has too few bytes.
 fn width_of(file: &[u8]) -> u32 {
-    let Word::Read(width, _) = narg::read_u32(file, Cursor { at: 5 }) else {
-        return 1;
-    };
-    width
+    narg::read_u32(file, Cursor { at: 5 }).map_or(1, |(width, _)| width)
 }
 
 // A line for each count of the record.
-fn print_counts(rt: &impl Print, ins: PermutationInstance) -> io::Result<()> {
+fn print_counts(rt: &impl Print, ins: &PermutationInstance) -> io::Result<()> {
     line(rt, ins.width, "width")?;
     line(rt, ins.vars, "wires")?;
     line(rt, ins.publics, "public")?;
@@ -48,22 +45,20 @@ fn print_counts(rt: &impl Print, ins: PermutationInstance) -> io::Result<()> {
 }
 
 // The answer, and after a yes the counts.
-fn print_read(rt: &impl Print, read: InstanceRead) -> io::Result<()> {
-    let outcome = read.outcome;
-    let instance = read.instance;
-    match outcome {
-        Outcome::Accepted => {
-            line(rt, 0, "answer")?;
-            print_counts(rt, instance)
-        }
-        Outcome::Refused(k) => line(rt, k, "answer"),
+fn print_read(rt: &impl Print, read: Result<InstanceRead, Refused>) -> io::Result<()> {
+    line(rt, limits::number(&read), "answer")?;
+    match read {
+        Ok(read) => print_counts(rt, &read.instance),
+        Err(_) => Ok(()),
     }
 }
 
-// Reads until the buffer is full or the input ends; answers how many bytes stand at its front.
+// Reads until the buffer is full or the input ends; answers how many bytes stand at its front. (replay has it too: a crate
+// for a loop of two programs would be no plainer.)
 fn read_full<R: Read>(from: &mut R, buffer: &mut [u8]) -> io::Result<usize>
     ensures { IfOk result (λ n. n ≤ length buffer.new) }
 {
+    // By hand: each turn goes on by as many bytes as the read gave, which is known only then.
     let mut done = 0;
     while done < buffer.len() {
         let n = from.read(&mut buffer[done..])?;
@@ -75,41 +70,35 @@ fn read_full<R: Read>(from: &mut R, buffer: &mut [u8]) -> io::Result<usize>
     Ok(done)
 }
 
-// Reads the file into the buffer and lists it.
-fn run(
-    rt: &(impl Input + Print),
-    buffer: &mut [u8; BUFFER],
-    publics: &mut [u32; ROOM],
-    queries: &mut [u32; ROOM],
-    equations: &mut [u32; ROOM],
-    scratch: &mut [u32; ROOM],
-) -> io::Result<()> {
-    let n = read_full(&mut rt.reader(), buffer)?;
-    if LONGEST < n {
-        return line(rt, 10, "answer");
-    }
-    let all: &[u8] = buffer;
-    let file = &all[..n];
-    print_read(
-        rt,
-        decoding::strict_instance_from_bytes_at(
-            width_of(file),
-            file,
-            publics,
-            queries,
-            equations,
-            scratch,
-        ),
+// The strict read of a file that is not too long.
+fn read_file(
+    file: &[u8],
+    publics: &mut [u32],
+    queries: &mut [u32],
+    equations: &mut [u32],
+    scratch: &mut [u32],
+) -> Result<InstanceRead, Refused> {
+    limits::ask(10, file.len() <= LONGEST)?;
+    decoding::strict_instance_from_bytes_at(
+        width_of(file),
+        file,
+        publics,
+        queries,
+        equations,
+        scratch,
     )
 }
 
+// Reads the file and lists it.
 fn main(rt: HostRuntime) -> io::Result<()> {
-    run(
-        &rt,
-        &mut [0; BUFFER],
+    let mut buffer = [0; BUFFER];
+    let n = read_full(&mut rt.reader(), &mut buffer)?;
+    let read = read_file(
+        &buffer[..n],
         &mut [0; ROOM],
         &mut [0; ROOM],
         &mut [0; ROOM],
         &mut [0; ROOM],
-    )
+    );
+    print_read(&rt, read)
 }

@@ -5,10 +5,11 @@ use mathlib.Core.Path.{◌≡◌, refl, sym, ap, ◌∙◌}
 use mathlib.Core.List.{List, [], ◌∷◌, ◌++◌}
 use native.Mathlib.Omega.{arith}
 use lib.ListN.{length, set}
+use Rattle.std.specs.Prelude.{Result, Ok, Err}
+use Rattle.limits.specs.declared.Refused.{Refused}
+use Rattle.permutation.specs.Records.{Recorded}
 use Rattle.limits.specs.Questions.{pick, on_yes}
-use Rattle.limits.specs.Outcome.{outcome_of, is_accepted}
-use Rattle.limits.specs.declared.Outcome.{Outcome}
-use Rattle.limits.specs.declared.Outcome.TheVariants as outcome
+use Rattle.limits.specs.Outcome.{outcome_of, is_accepted, Outcome, refusal}
 use Rattle.allocator.specs.Slots.{Pair, run_after}
 use Rattle.allocator.specs.declared.Set as declared
 use Rattle.allocator.specs.declared.Set.TheVariants as variants
@@ -17,7 +18,6 @@ use Rattle.expr.specs.declared.Weighted.{Weighted}
 use Rattle.permutation.specs.Numbers.{allocate_vars_no}
 use Rattle.permutation.specs.Answers.{first_of, allocate_vars, allocate_vars_slots, set_var, set_var_slots, set_vars_run, set_vars_of, set_vars}
 use Rattle.permutation.specs.declared.PermutationRelation.{PermutationRelation}
-use Rattle.permutation.specs.declared.Recorded.{Recorded}
 use Rattle.permutation.specs.declared.SetVars.{SetVars}
 use Rattle.recording.specs.Numbers.{add_permutation_no, allocate_permutation_no, add_equation_no}
 use Rattle.recording.specs.Answers.{one_query, one_equation, add_permutation, add_permutation_queries, add_permutation_uses, allocate_permutation, allocate_permutation_slots, allocate_permutation_queries, allocate_permutation_uses, add_equation, add_equation_equations}
@@ -30,9 +30,7 @@ use Rattle.sharing.specs.Opening.{with_allocator_no, with_allocator, with_alloca
 use Rattle.sharing.specs.Answers.{off_allocator, with_vars, obtained_after, allocated_on, allocated_not, recorded_on, recorded_not}
 use Rattle.sharing.specs.declared.VarAllocator.{VarAllocator}
 use Rattle.sharing.specs.declared.SharedRelation.{SharedRelation}
-use Rattle.sharing.specs.declared.Opened.{Opened}
-use Rattle.sharing.specs.declared.AllocatedOn.{AllocatedOn}
-use Rattle.sharing.specs.declared.RecordedOn.{RecordedOn}
+use Rattle.sharing.specs.Records.{Opened, AllocatedOn, RecordedOn}
 use Rattle.shared_vars.specs.Answers.{relation_on_no, allocate_vars_on_no, set_vars_on_no, allocate_vars_on, allocate_vars_on_slots, set_var_on, set_var_on_slots, set_vars_on_run, set_tickets_on_run}
 use Rattle.shared_recording.specs.Answers.{add_permutation_on_no, allocate_permutation_on_no, add_equation_on_no, add_permutation_on, add_permutation_on_queries, add_permutation_on_uses, allocate_permutation_on, allocate_permutation_on_slots, allocate_permutation_on_queries, allocate_permutation_on_uses, add_equation_on, add_equation_on_equations}
 use Rattle.shared_withdraw.specs.Answers.{withdraw_equation_on, withdraw_equation_on_equations, withdraw_query_on_no, withdraw_query_on, withdraw_query_on_queries, withdraw_query_on_uses}
@@ -111,8 +109,8 @@ module _ (r : ℕ) (c : Call) (a : VarAllocator) (m : SharedRelation) (slots que
 -- ---- wires obtained
 -- of a call that asks for none
 none-taken : (o : Outcome) (b : ℕ) → b + pick (is_accepted o) 0 0 ≡ b
-none-taken outcome.Accepted b = omega arith
-none-taken (outcome.Refused k) b = omega arith
+none-taken (Ok tt) b = omega arith
+none-taken (Err e) b = omega arith
 
 -- of one that does, by the number of the call alone
 taken_is : (k v b n : ℕ) → b + pick (is_accepted (first_outcome (first_of k v))) n 0 ≡ obtained_after (first_of k v) (b + n) b
@@ -158,14 +156,14 @@ module _ (a : VarAllocator) (r : ℕ) (m : SharedRelation) where
           }
       go (suc k) = refused-parts r (Allocate n) a m slots queries equations uses k
 
-  pub set_is : (slots : List ℕ) (p : Pair) (x : declared.Set) (slots' : List ℕ)
+  pub set_is : (slots : List ℕ) (p : Pair) (x : Result declared.Set Refused) (slots' : List ℕ)
       → x ≡ set_var_on a r m slots p → slots' ≡ set_var_on_slots a r m slots p → (queries equations uses : List ℕ)
       → OnRelation r (Set p) (of_set x) a m slots queries equations uses a m slots' queries equations uses
   unfolding answer after front_no front_asks relation_on_no
   set_is slots p x slots' e h queries equations uses =
       performs r (Set p) a m slots queries equations uses (go (relation_on_no a r m (length slots))) (ap of_set (sym e)) refl refl (sym h) refl refl refl
     where
-      go : (k : ℕ) → Parts r (Set p) a m slots queries equations uses k (of_set (on_yes k (set_var rel slots p) (variants.Refused k))) a m
+      go : (k : ℕ) → Parts r (Set p) a m slots queries equations uses k (of_set (on_yes k (set_var rel slots p) (Err (refusal k)))) a m
           (on_yes k (set_var_slots rel slots p) slots) queries equations uses
       go zero =
           record {

@@ -3,7 +3,7 @@
 use Prim.Native.Nat.{ℕ}
 use mathlib.Core.Path.{◌≡◌, ap, ◌∙◌}
 use mathlib.Core.List.{List}
-use Rattle.limits.specs.declared.Outcome.TheVariants.{Accepted}
+use Rattle.std.specs.Prelude.{Err, Ok}
 use Rattle.history.proofs.Along.{log_is, final-is}
 use Rattle.shared_history.specs.Calls.{SharedState, shared_answer, shared_after, SharedEntry, shared_log, shared_final, shared_ledger_of}
 use Rattle.shared_history.specs.Whole.{none_opened, opening, begin_ledger}
@@ -14,7 +14,7 @@ use Rattle.shared_calls.specs.Performs.{SharedPerforms, SharedPerformed, shared_
 -- after a first opening that was accepted
 pub run_is : (vars : ℕ) (slots : List ℕ) (width quota : ℕ) (queries equations uses : List ℕ) (x : Answer) (p q : SharedState) (es : List SharedEntry)
     → SharedPerforms (none_opened vars slots width quota queries equations uses (shared_calls_of es)) (opening vars slots width quota queries equations uses (shared_calls_of es)) x p
-    → x.outcome ≡ Accepted → SharedPerformed p es q → SharedRun vars slots width quota queries equations uses es q
+    → x.outcome ≡ Ok tt → SharedPerformed p es q → SharedRun vars slots width quota queries equations uses es q
 run_is vars slots width quota queries equations uses x p q es f a t =
     let begun = f.leaves in
     record {

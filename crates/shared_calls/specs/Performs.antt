@@ -5,7 +5,7 @@ use Rattle.limits.specs.Questions.{pick}
 use Rattle.limits.specs.Outcome.{is_accepted}
 use Rattle.sharing.specs.declared.VarAllocator.{VarAllocator}
 use Rattle.sharing.specs.declared.SharedRelation.{SharedRelation}
-use Rattle.sharing.specs.declared.Opened.{Opened}
+use Rattle.sharing.specs.Records.{Opened}
 use Rattle.history.specs.Along.{PerformsBy, PerformedBy, called_in}
 use Rattle.history.specs.Calls.{Call, Answer}
 use Rattle.shared_history.specs.Calls.{OwnState, SharedState, SharedCall, Open, On, shared_answer, shared_after, SharedEntry, shared_ledger_of}

@@ -5,13 +5,13 @@ use mathlib.Core.Path.{◌≡◌, refl, ap}
 use mathlib.Core.Bool.{true}
 use mathlib.Core.List.{◌++◌}
 use lib.Dec.{ltb}
+use Rattle.std.specs.Prelude.{Err}
 use Rattle.limits.specs.Questions.{first_no}
-use Rattle.limits.specs.Outcome.{outcome_of}
-use Rattle.limits.specs.declared.Outcome.TheVariants.{Refused}
+use Rattle.limits.specs.Outcome.{outcome_of, refusal}
 use Rattle.limits.proofs.Questions.{Puts}
 use Rattle.permutation.specs.Sharing.{Sharing, alone}
 use Rattle.compile.specs.Gate.{GateLent, compile_front, lent_sound_asks, made_asks, compile_asks_with, compile_no, refused_by, compile}
-use Rattle.compile.specs.declared.Compiled.{Compiled}
+use Rattle.compile.specs.Records.{Compiled}
 use Rattle.sharing.specs.Shares.{shares}
 use Rattle.sharing.specs.declared.VarAllocator.{VarAllocator}
 use Rattle.sharing.specs.declared.SharedRelation.{SharedRelation}
@@ -31,4 +31,4 @@ module _ (a : VarAllocator) (r : ℕ) (m : SharedRelation) (l : GateLent) where
   compile_on-outcome =
       shown-on a r m (λ (g : Sharing). compile_front g l) gate-asked gate-inserted
       (λ (q : Compiled). q.outcome) outcome_of (lent_sound_asks l ++ made_asks l) (compile l) (refused_by (first_no (compile_front (shares a r m) l))) refl
-      (λ j e. ap Refused e)
+      (λ j e. ap (λ (k : ℕ). Err (refusal k)) e)

@@ -3,7 +3,7 @@
 use Rattle.std.specs.Prelude.{ℕ, ◌≡◌, List, replicate}
 use Rattle.limits.specs.Questions.{first_no, on_yes}
 use Rattle.compile.specs.Gate.{GateLent, compile_front, refused_by, compile, compile_publics}
-use Rattle.compile.specs.declared.Compiled.{Compiled}
+use Rattle.compile.specs.Records.{Compiled}
 use Rattle.permutation.specs.Sharing.{Sharing}
 
 -- `h` is what sharing puts in, `l` what the gate is lent, with the relation on its allocator

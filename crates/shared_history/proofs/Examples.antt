@@ -8,8 +8,9 @@ use mathlib.Core.Path.{◌≡◌, refl, ap}
 use mathlib.Core.List.{List, [], ◌∷◌, ◌++◌, map}
 use native.Mathlib.Omega.{arith}
 use lib.ListN.{replicate}
-use Rattle.limits.specs.Questions.{ask, ◌▸◌}
-use Rattle.limits.specs.declared.Outcome.TheVariants.{Accepted, Refused}
+use Rattle.limits.specs.Outcome.{refusal}
+use Rattle.std.specs.Prelude.{Err, Ok}
+use Rattle.limits.specs.Questions.{ask, first_of_two}
 use Rattle.words.specs.Store.{all_below}
 use Rattle.uses.specs.Uses.{times, strays, uses_after, all_fit}
 use Rattle.utf8.specs.Utf8.{follow, is_utf8}
@@ -30,7 +31,7 @@ use Rattle.instance.specs.Parts.{parts_of}
 use Rattle.held.specs.Held.{equations_sound, publics_sound, slots_sound}
 use Rattle.validated.specs.Validated.{validated_no, gate_no}
 use Rattle.compile.specs.Gate.{publics_of, compiled_parts, instance_of, compile_no, compile, compile_publics}
-use Rattle.compile.specs.declared.Compiled.{Compiled}
+use Rattle.compile.specs.Records.{Compiled}
 use Rattle.validity.specs.Check.{check_no}
 use Rattle.validity.specs.Valid.{is_witness_valid_no}
 use Rattle.narg.specs.Bytes.{u32_bytes}
@@ -109,23 +110,23 @@ calls =
     ∷ On 0 (handed 1) (Equate (weighted 3 2 ∷ []) 14)
     ∷ []
 
-first-accepted : (shared_answer (none_opened 77 slots 1 3 queries equations uses calls) (opening 77 slots 1 3 queries equations uses calls)).outcome ≡ Accepted
-unfolding ask ◌▸◌ with_allocator_no shared_answer
+first-accepted : (shared_answer (none_opened 77 slots 1 3 queries equations uses calls) (opening 77 slots 1 3 queries equations uses calls)).outcome ≡ Ok tt
+unfolding ask first_of_two with_allocator_no shared_answer
 first-accepted = refl
 
 -- 1 before 42; 42 before 5 and before a ticket's 40; 1 of an opening; 5 before 43; 43 before 6; 8 by another's ticket; a set list whose first pair stays;
 -- 9 before 43; 43 of a mint; 0 wires with the quota used up; a mint that 10 refuses takes nothing, so one wire more is within
 -- the quota, and then none
 outcomes : map (λ (e : SharedEntry). e.answered.outcome) (shared_log (shared_begin 77 slots 1 3 queries equations uses calls) calls)
-    ≡ Refused 1 ∷ Refused 42 ∷ Refused 42 ∷ Refused 1 ∷ Accepted ∷ Refused 5 ∷ Refused 43 ∷ Accepted ∷ Accepted ∷ Refused 8 ∷ Accepted ∷ Refused 8 ∷ Refused 9
-    ∷ Refused 43 ∷ Accepted ∷ Accepted ∷ Refused 10 ∷ Accepted ∷ Refused 43 ∷ Accepted ∷ []
-unfolding ask ◌▸◌ with_allocator_no front_asks front_no allocate_vars_no set_var_no set_vars_no add_permutation_no allocate_permutation_no add_equation_no times strays all_fit uses_after pair_no set_items set_vars_run ticket_line grams_to_steps read_line lines_of line_no set_tickets_run all_below answer after shared_answer shared_after
+    ≡ Err (refusal 1) ∷ Err (refusal 42) ∷ Err (refusal 42) ∷ Err (refusal 1) ∷ Ok tt ∷ Err (refusal 5) ∷ Err (refusal 43) ∷ Ok tt ∷ Ok tt ∷ Err (refusal 8) ∷ Ok tt ∷ Err (refusal 8) ∷ Err (refusal 9)
+    ∷ Err (refusal 43) ∷ Ok tt ∷ Ok tt ∷ Err (refusal 10) ∷ Ok tt ∷ Err (refusal 43) ∷ Ok tt ∷ []
+unfolding ask first_of_two with_allocator_no front_asks front_no allocate_vars_no set_var_no set_vars_no add_permutation_no allocate_permutation_no add_equation_no times strays all_fit uses_after pair_no set_items set_vars_run ticket_line grams_to_steps read_line lines_of line_no set_tickets_run all_below answer after shared_answer shared_after
 outcomes = refl
 
 -- the relation's number, and first wires of one count for all
 firsts : map (λ (e : SharedEntry). e.answered.first) (shared_log (shared_begin 77 slots 1 3 queries equations uses calls) calls)
     ≡ 0 ∷ 0 ∷ 0 ∷ 0 ∷ 1 ∷ 0 ∷ 0 ∷ 1 ∷ 0 ∷ 0 ∷ 3 ∷ 0 ∷ 0 ∷ 0 ∷ 5 ∷ 0 ∷ 0 ∷ 5 ∷ 0 ∷ 0 ∷ []
-unfolding ask ◌▸◌ with_allocator_no front_asks front_no allocate_vars_no set_var_no set_vars_no add_permutation_no allocate_permutation_no add_equation_no times strays all_fit uses_after pair_no set_items set_vars_run ticket_line grams_to_steps read_line lines_of line_no set_tickets_run all_below answer after shared_answer shared_after
+unfolding ask first_of_two with_allocator_no front_asks front_no allocate_vars_no set_var_no set_vars_no add_permutation_no allocate_permutation_no add_equation_no times strays all_fit uses_after pair_no set_items set_vars_run ticket_line grams_to_steps read_line lines_of line_no set_tickets_run all_below answer after shared_answer shared_after
 firsts = refl
 
 -- one count and one list of sets; queries of 2 and of 4 cells
@@ -138,13 +139,13 @@ ledger-is : shared_ledger 77 slots 1 3 queries equations uses calls
           ∷ record { width = 2; quota = 2; obtained = 2; queries = (1 ∷ 2 ∷ 3 ∷ 4 ∷ []) ∷ []; equations = [] }
           ∷ [];
     }
-unfolding ask ◌▸◌ with_allocator_no front_asks front_no allocate_vars_no set_var_no set_vars_no add_permutation_no allocate_permutation_no add_equation_no times strays all_fit uses_after pair_no set_items set_vars_run ticket_line grams_to_steps read_line lines_of line_no set_tickets_run all_below answer after noted shared_answer shared_after shared_noted
+unfolding ask first_of_two with_allocator_no front_asks front_no allocate_vars_no set_var_no set_vars_no add_permutation_no allocate_permutation_no add_equation_no times strays all_fit uses_after pair_no set_items set_vars_run ticket_line grams_to_steps read_line lines_of line_no set_tickets_run all_below answer after noted shared_answer shared_after shared_noted
 ledger-is = refl
 
 -- a ninth opening
 ninth : map (λ (e : SharedEntry). e.answered.outcome) (shared_log (none_opened 0 slots 1 0 [] [] uses []) (replicate 9 (Open 1 0 [] [] uses)))
-    ≡ Accepted ∷ Accepted ∷ Accepted ∷ Accepted ∷ Accepted ∷ Accepted ∷ Accepted ∷ Accepted ∷ Refused 42 ∷ []
-unfolding ask ◌▸◌ with_allocator_no shared_answer shared_after
+    ≡ Ok tt ∷ Ok tt ∷ Ok tt ∷ Ok tt ∷ Ok tt ∷ Ok tt ∷ Ok tt ∷ Ok tt ∷ Err (refusal 42) ∷ []
+unfolding ask first_of_two with_allocator_no shared_answer shared_after
 ninth = refl
 
 -- ---- the theorem at relation 0
@@ -152,15 +153,15 @@ abbrev at-gate : SharedState
 at-gate = shared_last 77 slots 1 3 queries equations uses calls
 
 two-opened : at-gate.allocator.opened ≡ 2
-unfolding ask ◌▸◌ with_allocator_no front_asks front_no allocate_vars_no set_var_no set_vars_no add_permutation_no allocate_permutation_no add_equation_no times strays all_fit uses_after pair_no set_items set_vars_run ticket_line grams_to_steps read_line lines_of line_no set_tickets_run all_below answer after shared_answer shared_after
+unfolding ask first_of_two with_allocator_no front_asks front_no allocate_vars_no set_var_no set_vars_no add_permutation_no allocate_permutation_no add_equation_no times strays all_fit uses_after pair_no set_items set_vars_run ticket_line grams_to_steps read_line lines_of line_no set_tickets_run all_below answer after shared_answer shared_after
 two-opened = refl
 
 -- six wires, three publics, one query, one equation of four words
-gate-0 : (gate_on at-gate 0 (own_at at-gate 0 (handed 1)) [] publics scratch).answer ≡ record { outcome = Accepted; instance = instance_of (relation 1 6 1 1 4 0) 3 }
-unfolding ask ◌▸◌ with_allocator_no front_asks front_no allocate_vars_no set_var_no set_vars_no add_permutation_no allocate_permutation_no add_equation_no times strays all_fit uses_after pair_no set_items set_vars_run ticket_line grams_to_steps read_line lines_of line_no set_tickets_run all_below answer after shared_answer shared_after compiled_parts publics_of equation_at size_at equations_sound slots_sound follow is_utf8 compile_no compile validated_no gate_no compile_on_no compile_on
+gate-0 : (gate_on at-gate 0 (own_at at-gate 0 (handed 1)) [] publics scratch).answer ≡ record { outcome = Ok tt; instance = instance_of (relation 1 6 1 1 4 0) 3 }
+unfolding ask first_of_two with_allocator_no front_asks front_no allocate_vars_no set_var_no set_vars_no add_permutation_no allocate_permutation_no add_equation_no times strays all_fit uses_after pair_no set_items set_vars_run ticket_line grams_to_steps read_line lines_of line_no set_tickets_run all_below answer after shared_answer shared_after compiled_parts publics_of equation_at size_at equations_sound slots_sound follow is_utf8 compile_no compile validated_no gate_no compile_on_no compile_on
 gate-0 = refl
 
-gate-accepted : (gate_on at-gate 0 (own_at at-gate 0 (handed 1)) [] publics scratch).answer.outcome ≡ Accepted
+gate-accepted : (gate_on at-gate 0 (own_at at-gate 0 (handed 1)) [] publics scratch).answer.outcome ≡ Ok tt
 gate-accepted = ap (λ (c : Compiled). c.outcome) gate-0
 
 -- between the gate and the write: relation 1 sets another wire, and a third is opened
@@ -186,7 +187,7 @@ Sat0 trace = Sat (Evaluates 1 (parameters_of 1 1 params)) (judged_on ledger-at (
 -- everybody's sets with relation 0's query and equation are satisfied by the trace (2, 5): the equation's wire has no value
 -- but the one that relation 1 gave it
 pub satisfied : Sat0 ((2 ∷ 5 ∷ []) ∷ [])
-unfolding ask ◌▸◌ with_allocator_no front_asks front_no allocate_vars_no set_var_no set_vars_no add_permutation_no allocate_permutation_no add_equation_no times strays all_fit uses_after pair_no set_items set_vars_run ticket_line grams_to_steps read_line lines_of line_no set_tickets_run all_below answer after shared_answer shared_after shared_noted noted compiled_parts publics_of equation_at size_at equations_sound slots_sound follow is_utf8 compile_no compile validated_no gate_no compile_on_no compile_on compile_publics_on compile_publics publics_sound parts_of check_no is_witness_valid_no is_evaluation permute_no sound_parameters rounds_of rows_of sound_kinds unit_constants unit_rows same_words run_rounds run_round pairwise on_kind times_matrix add_unit mul_unit power_unit seventh dot_units instance_to_bytes_no instance_bytes header_bytes u32_bytes instance_from_bytes read_instance read_file read_header read_magic read_label read_parts read_publics read_queries read_equations word part below witness_to_bytes_no witness_bytes witness_from_bytes read_witness read_steps
+unfolding ask first_of_two with_allocator_no front_asks front_no allocate_vars_no set_var_no set_vars_no add_permutation_no allocate_permutation_no add_equation_no times strays all_fit uses_after pair_no set_items set_vars_run ticket_line grams_to_steps read_line lines_of line_no set_tickets_run all_below answer after shared_answer shared_after shared_noted noted compiled_parts publics_of equation_at size_at equations_sound slots_sound follow is_utf8 compile_no compile validated_no gate_no compile_on_no compile_on compile_publics_on compile_publics publics_sound parts_of check_no is_witness_valid_no is_evaluation permute_no sound_parameters rounds_of rows_of sound_kinds unit_constants unit_rows same_words run_rounds run_round pairwise on_kind times_matrix add_unit mul_unit power_unit seventh dot_units instance_to_bytes_no instance_bytes header_bytes u32_bytes instance_from_bytes read_instance read_file read_header read_magic read_label read_parts read_publics read_queries read_equations word part below witness_to_bytes_no witness_bytes witness_from_bytes read_witness read_steps
 satisfied =
     (((((shared-whole 77 slots 1 3 queries equations uses calls first-accepted).judged 0 (omega (arith, two-opened)) (handed 1) going_on ((λ e. absurd (omega (arith, e))), (tt, tt))
     ).gated [] publics scratch gate-accepted).files lent_file
@@ -195,7 +196,7 @@ satisfied =
 
 -- and not by (3, 640), whose check is 33: relation 1 set wire 2 to 5, and nothing else is against it
 pub unsatisfied : Sat0 ((3 ∷ 640 ∷ []) ∷ []) → ⊥
-unfolding ask ◌▸◌ with_allocator_no front_asks front_no allocate_vars_no set_var_no set_vars_no add_permutation_no allocate_permutation_no add_equation_no times strays all_fit uses_after pair_no set_items set_vars_run ticket_line grams_to_steps read_line lines_of line_no set_tickets_run all_below answer after shared_answer shared_after shared_noted noted compiled_parts publics_of equation_at size_at equations_sound slots_sound follow is_utf8 compile_no compile validated_no gate_no compile_on_no compile_on compile_publics_on compile_publics publics_sound parts_of check_no is_witness_valid_no is_evaluation permute_no sound_parameters rounds_of rows_of sound_kinds unit_constants unit_rows same_words run_rounds run_round pairwise on_kind times_matrix add_unit mul_unit power_unit seventh dot_units instance_to_bytes_no instance_bytes header_bytes u32_bytes instance_from_bytes read_instance read_file read_header read_magic read_label read_parts read_publics read_queries read_equations word part below witness_to_bytes_no witness_bytes witness_from_bytes read_witness read_steps
+unfolding ask first_of_two with_allocator_no front_asks front_no allocate_vars_no set_var_no set_vars_no add_permutation_no allocate_permutation_no add_equation_no times strays all_fit uses_after pair_no set_items set_vars_run ticket_line grams_to_steps read_line lines_of line_no set_tickets_run all_below answer after shared_answer shared_after shared_noted noted compiled_parts publics_of equation_at size_at equations_sound slots_sound follow is_utf8 compile_no compile validated_no gate_no compile_on_no compile_on compile_publics_on compile_publics publics_sound parts_of check_no is_witness_valid_no is_evaluation permute_no sound_parameters rounds_of rows_of sound_kinds unit_constants unit_rows same_words run_rounds run_round pairwise on_kind times_matrix add_unit mul_unit power_unit seventh dot_units instance_to_bytes_no instance_bytes header_bytes u32_bytes instance_from_bytes read_instance read_file read_header read_magic read_label read_parts read_publics read_queries read_equations word part below witness_to_bytes_no witness_bytes witness_from_bytes read_witness read_steps
 unsatisfied s =
     let z : ◌≡◌ {A = ℕ} 33 0 = accepted-no 33
     ((((((shared-whole 77 slots 1 3 queries equations uses calls first-accepted).judged 0 (omega (arith, two-opened)) (handed 1) going_on ((λ e. absurd (omega (arith, e))), (tt, tt))
@@ -213,22 +214,22 @@ begun = shared_begin 77 slots 1 3 queries equations uses taking
 
 -- the second relation has number 1
 pub numbered : (shared_answer begun (Open 2 2 [] [] uses)).first ≡ 1
-unfolding ask ◌▸◌ with_allocator_no shared_answer shared_after shared_noted
+unfolding ask first_of_two with_allocator_no shared_answer shared_after shared_noted
 numbered = (shared-whole 77 slots 1 3 queries equations uses taking first-accepted).told.0.first refl
 
 -- and its first wire comes after those of the first
 pub allocated : (shared_answer (shared_final begun (Open 2 2 [] [] uses ∷ On 0 (handed 1) (Allocate 2) ∷ [])) (On 1 (handed 1) (Allocate 2))).first ≡ 3
-unfolding ask ◌▸◌ with_allocator_no front_asks front_no allocate_vars_no answer after noted shared_answer shared_after shared_noted
+unfolding ask first_of_two with_allocator_no front_asks front_no allocate_vars_no answer after noted shared_answer shared_after shared_noted
 allocated = (shared-whole 77 slots 1 3 queries equations uses taking first-accepted).told.1.1.0.first refl refl
 
 -- the wires of both and wire 0
 pub counted : (shared_last 77 slots 1 3 queries equations uses taking).allocator.vars ≡ 5
-unfolding ask ◌▸◌ with_allocator_no front_asks front_no allocate_vars_no answer after shared_answer shared_after
+unfolding ask first_of_two with_allocator_no front_asks front_no allocate_vars_no answer after shared_answer shared_after
 counted = (shared-whole 77 slots 1 3 queries equations uses taking first-accepted).counts.vars
 
 -- the gate of a third
-pub not-opened-42 : (gate_on at-gate 2 (handed 1) [] publics scratch).answer.outcome ≡ Refused 42
-unfolding ask ◌▸◌ with_allocator_no front_asks front_no allocate_vars_no set_var_no set_vars_no add_permutation_no allocate_permutation_no add_equation_no times strays all_fit uses_after pair_no set_items set_vars_run ticket_line grams_to_steps read_line lines_of line_no set_tickets_run all_below answer after noted shared_answer shared_after shared_noted
+pub not-opened-42 : (gate_on at-gate 2 (handed 1) [] publics scratch).answer.outcome ≡ Err (refusal 42)
+unfolding ask first_of_two with_allocator_no front_asks front_no allocate_vars_no set_var_no set_vars_no add_permutation_no allocate_permutation_no add_equation_no times strays all_fit uses_after pair_no set_items set_vars_run ticket_line grams_to_steps read_line lines_of line_no set_tickets_run all_below answer after noted shared_answer shared_after shared_noted
 not-opened-42 =
     ((shared-whole 77 slots 1 3 queries equations uses calls first-accepted).not_opened 2 (omega (arith, two-opened)) (handed 1) [] publics scratch).number refl
 
@@ -248,5 +249,5 @@ setting =
 
 pub tallied : map (λ (e : SharedEntry). tally e.answered) (shared_log (shared_begin 77 slots 1 3 queries equations uses setting) setting)
     ≡ (0, 0) ∷ (0, 0) ∷ (1, 1) ∷ (1, 0) ∷ (2, 1) ∷ (2, 1) ∷ (1, 0) ∷ (0, 0) ∷ []
-unfolding ask ◌▸◌ with_allocator_no front_asks front_no allocate_vars_no set_var_no set_vars_no pair_no set_items set_vars_run ticket_line grams_to_steps read_line lines_of line_no set_tickets_run answer after noted shared_answer shared_after shared_noted shared_set_by set_by
+unfolding ask first_of_two with_allocator_no front_asks front_no allocate_vars_no set_var_no set_vars_no pair_no set_items set_vars_run ticket_line grams_to_steps read_line lines_of line_no set_tickets_run answer after noted shared_answer shared_after shared_noted shared_set_by set_by
 tallied = shared-tallied _ _ setting (shared-whole 77 slots 1 3 queries equations uses setting first-accepted).told

@@ -11,8 +11,7 @@ use borrow.Author.Tests.{lt-ltb, ltb-false}
 use lib.Dec.{ltb}
 use lib.ListN.{length}
 use Rattle.limits.specs.Questions.{first_no, pick}
-use Rattle.limits.specs.Outcome.{outcome_of, is_accepted}
-use Rattle.limits.specs.declared.Outcome.{Outcome}
+use Rattle.limits.specs.Outcome.{outcome_of, is_accepted, Outcome}
 use Rattle.allocator.specs.Slots.{Pair}
 use Rattle.allocator.specs.Values.{joins}
 use Rattle.permutation.specs.Left.{pair_left, pairs_set}

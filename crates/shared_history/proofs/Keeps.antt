@@ -8,11 +8,10 @@ use mathlib.Core.List.{List, [], ◌∷◌, ◌++◌}
 use native.Mathlib.Omega.{arith}
 use borrow.Author.Tests.{leb-true, lt-ltb}
 use lib.ListN.{length, set, length-set, length-append}
+use Rattle.std.specs.Prelude.{Err, Ok}
 use Rattle.limits.specs.Questions.{first_no, pick, on_yes}
-use Rattle.limits.specs.Outcome.{outcome_of, outcome_number, is_accepted}
+use Rattle.limits.specs.Outcome.{outcome_of, outcome_number, is_accepted, Outcome, refusal}
 use Rattle.limits.specs.Asks.{width_asks, store_asks}
-use Rattle.limits.specs.declared.Outcome.{Outcome}
-use Rattle.limits.specs.declared.Outcome.TheVariants as outcome
 use Rattle.limits.proofs.Questions.{accepted-says}
 use Rattle.allocator.specs.Slots.{pair}
 use Rattle.permutation.specs.Numbers.{new_relation_no}
@@ -37,12 +36,12 @@ use Rattle.shared_history.proofs.Stands.{Own, Stands, own-at, agrees, obtained-s
 -- ---- the ledger
 -- by an outcome: n more, or none
 by-outcome : (o : Outcome) (x l : Ledger) (n : ℕ) → x.count ≡ l.count + n → (pick (is_accepted o) x l).count ≡ l.count + pick (is_accepted o) n 0
-by-outcome outcome.Accepted x l n e = e
-by-outcome (outcome.Refused k) x l n e = omega arith
+by-outcome (Ok tt) x l n e = e
+by-outcome (Err refused) x l n e = omega arith
 
 no_more : (o : Outcome) (a : ℕ) → a ≡ a + pick (is_accepted o) 0 0
-no_more outcome.Accepted a = omega arith
-no_more (outcome.Refused k) a = omega arith
+no_more (Ok tt) a = omega arith
+no_more (Err e) a = omega arith
 
 -- what a relation's call adds to the count
 count-more : (w : ℕ) (l : Ledger) (c : Call) (a : Answer) → (noted w l c a).count ≡ l.count + taken w c a
@@ -118,8 +117,8 @@ module _ (p : SharedState) (l : SharedLedger) (st : Stands p l) (r : ℕ) (hande
 
   taken-within : (o : Outcome) → front_no p r m c ≡ 0 → m.relation.obtained ≤ m.relation.quota
       → m.relation.obtained + pick (is_accepted o) (wires_of m.relation.width c) 0 ≤ m.relation.quota
-  taken-within outcome.Accepted z h = stays_within p r m c z h
-  taken-within (outcome.Refused k) z h = omega arith
+  taken-within (Ok tt) z h = stays_within p r m c z h
+  taken-within (Err e) z h = omega arith
 
   acted-stands : front_no p r m c ≡ 0 → Stands (acted_on p r m c) (shared_noted l (On r handed c) a)
   unfolding shared_noted

@@ -5,9 +5,9 @@ use Prim.Native.Nat.{ℕ, ◌<◌}
 use mathlib.Core.Path.{◌≡◌, refl}
 use mathlib.Core.List.{List, [], ◌∷◌, ◌++◌, map}
 use native.Mathlib.Omega.{arith}
-use Rattle.limits.specs.Questions.{ask, ◌▸◌}
-use Rattle.limits.specs.declared.Outcome.{Outcome}
-use Rattle.limits.specs.declared.Outcome.TheVariants.{Accepted, Refused}
+use Rattle.std.specs.Prelude.{Err, Ok}
+use Rattle.limits.specs.Outcome.{Outcome, refusal}
+use Rattle.limits.specs.Questions.{ask, first_of_two}
 use Rattle.words.specs.Store.{all_below}
 use Rattle.uses.specs.Uses.{times, strays, uses_of, uses_after, all_fit}
 use Rattle.utf8.specs.Utf8.{follow, is_utf8}
@@ -59,26 +59,26 @@ abbrev struck : List SharedCall
 struck = grown ++ (On 0 handed (WithdrawQuery 0) ∷ [])
 
 first-accepted : (cs : List SharedCall)
-    → (shared_answer (none_opened 77 slots 1 0 queries [] uses cs) (opening 77 slots 1 0 queries [] uses cs)).outcome ≡ Accepted
-unfolding ask ◌▸◌ with_allocator_no shared_answer
+    → (shared_answer (none_opened 77 slots 1 0 queries [] uses cs) (opening 77 slots 1 0 queries [] uses cs)).outcome ≡ Ok tt
+unfolding ask first_of_two with_allocator_no shared_answer
 first-accepted cs = refl
 
 outcomes : map (λ (e : SharedEntry). e.answered.outcome) (shared_log (shared_begin 77 slots 1 0 queries [] uses struck) struck)
-    ≡ Accepted ∷ Refused 10 ∷ Accepted ∷ Refused 45 ∷ Refused 42 ∷ Accepted ∷ Accepted ∷ []
-unfolding ask ◌▸◌ with_allocator_no front_asks front_no allocate_vars_no add_permutation_no withdraw_query_no times strays all_fit uses_after all_below answer after shared_answer shared_after
+    ≡ Ok tt ∷ Err (refusal 10) ∷ Ok tt ∷ Err (refusal 45) ∷ Err (refusal 42) ∷ Ok tt ∷ Ok tt ∷ []
+unfolding ask first_of_two with_allocator_no front_asks front_no allocate_vars_no add_permutation_no withdraw_query_no times strays all_fit uses_after all_below answer after shared_answer shared_after
 outcomes = refl
 
 opened : ((shared_last 77 slots 1 0 queries [] uses recorded).allocator.opened ≡ 2)
     × ((shared_last 77 slots 1 0 queries [] uses grown).allocator.opened ≡ 2)
     × ((shared_last 77 slots 1 0 queries [] uses struck).allocator.opened ≡ 2)
-unfolding ask ◌▸◌ with_allocator_no front_asks front_no allocate_vars_no add_permutation_no withdraw_query_no times strays all_fit uses_after all_below answer after shared_answer shared_after
+unfolding ask first_of_two with_allocator_no front_asks front_no allocate_vars_no add_permutation_no withdraw_query_no times strays all_fit uses_after all_below answer after shared_answer shared_after
 opened = (refl, refl, refl)
 
 -- ---- the use counts
 -- relation 0's stay as they are when relation 1 is opened, whose own are all 0
 pub own-cleared : ((own_at (shared_last 77 slots 1 0 queries [] uses recorded) 0 handed).uses ≡ 1 ∷ 0 ∷ 0 ∷ 1 ∷ [])
     × ((own_at (shared_last 77 slots 1 0 queries [] uses recorded) 1 handed).uses ≡ 0 ∷ 0 ∷ 0 ∷ 0 ∷ [])
-unfolding ask ◌▸◌ with_allocator_no front_asks front_no allocate_vars_no add_permutation_no withdraw_query_no times strays uses_of all_fit uses_after all_below answer after noted shared_answer shared_after shared_noted
+unfolding ask first_of_two with_allocator_no front_asks front_no allocate_vars_no add_permutation_no withdraw_query_no times strays uses_of all_fit uses_after all_below answer after noted shared_answer shared_after shared_noted
 own-cleared =
     let w = shared-whole 77 slots 1 0 queries [] uses recorded (first-accepted recorded) in
     ((w.used 0 (omega (arith, opened.0)) handed).counts.uses-are, (w.used 1 (omega (arith, opened.0)) handed).counts.uses-are)
@@ -92,14 +92,14 @@ withdrawn = strayed ++ (On 0 handed (WithdrawQuery 0) ∷ [])
 
 both-opened : ((shared_last 77 slots 1 0 queries [] uses strayed).allocator.opened ≡ 2)
     × ((shared_last 77 slots 1 0 queries [] uses withdrawn).allocator.opened ≡ 2)
-unfolding ask ◌▸◌ with_allocator_no front_asks front_no allocate_vars_no add_permutation_no withdraw_query_no times strays uses_of all_fit uses_after all_below answer after noted shared_answer shared_after shared_noted
+unfolding ask first_of_two with_allocator_no front_asks front_no allocate_vars_no add_permutation_no withdraw_query_no times strays uses_of all_fit uses_after all_below answer after noted shared_answer shared_after shared_noted
 both-opened = (refl, refl)
 
 -- one stray cell in relation 0's record and none in relation 1's; none in either with the query withdrawn
 pub stray : ((own_at (shared_last 77 slots 1 0 queries [] uses strayed) 0 handed).relation.stray ≡ 1)
     × ((own_at (shared_last 77 slots 1 0 queries [] uses strayed) 1 handed).relation.stray ≡ 0)
     × ((own_at (shared_last 77 slots 1 0 queries [] uses withdrawn) 0 handed).relation.stray ≡ 0)
-unfolding ask ◌▸◌ with_allocator_no front_asks front_no allocate_vars_no add_permutation_no withdraw_query_no times strays uses_of all_fit uses_after all_below answer after noted shared_answer shared_after shared_noted
+unfolding ask first_of_two with_allocator_no front_asks front_no allocate_vars_no add_permutation_no withdraw_query_no times strays uses_of all_fit uses_after all_below answer after noted shared_answer shared_after shared_noted
 stray =
     let v = shared-whole 77 slots 1 0 queries [] uses strayed (first-accepted strayed) in
     let w = shared-whole 77 slots 1 0 queries [] uses withdrawn (first-accepted withdrawn) in (
@@ -110,16 +110,16 @@ stray =
 
 -- relation 1's counts and its part of the ledger stay
 pub other-counted : (own_at (shared_last 77 slots 1 0 queries [] uses withdrawn) 1 handed).uses ≡ 2 ∷ 0 ∷ 0 ∷ 0 ∷ []
-unfolding ask ◌▸◌ with_allocator_no front_asks front_no allocate_vars_no add_permutation_no withdraw_query_no times strays uses_of all_fit uses_after all_below answer after noted shared_answer shared_after shared_noted
+unfolding ask first_of_two with_allocator_no front_asks front_no allocate_vars_no add_permutation_no withdraw_query_no times strays uses_of all_fit uses_after all_below answer after noted shared_answer shared_after shared_noted
 other-counted = ((shared-whole 77 slots 1 0 queries [] uses withdrawn (first-accepted withdrawn)).used 1 (omega (arith, both-opened.1)) handed).counts.uses-are
 
 pub other-kept : (own_ledger_at (shared_ledger 77 slots 1 0 queries [] uses withdrawn) 1).queries ≡ (0 ∷ 0 ∷ []) ∷ []
-unfolding ask ◌▸◌ with_allocator_no front_asks front_no allocate_vars_no add_permutation_no withdraw_query_no times strays uses_of all_fit uses_after all_below answer after noted shared_answer shared_after shared_noted
+unfolding ask first_of_two with_allocator_no front_asks front_no allocate_vars_no add_permutation_no withdraw_query_no times strays uses_of all_fit uses_after all_below answer after noted shared_answer shared_after shared_noted
 other-kept = refl
 
 -- 11 of a count only where the query store has no room: it has four words, and a first query takes two
-pub roomy : (shared_answer (shared_begin 77 slots 1 0 queries [] uses strayed) (On 0 handed (Record (0 ∷ []) (9 ∷ [])))).outcome ≡ Refused 11 → 4 < 2
-unfolding ask ◌▸◌ with_allocator_no front_asks front_no allocate_vars_no add_permutation_no withdraw_query_no times strays uses_of all_fit uses_after all_below answer after noted shared_answer shared_after shared_noted
+pub roomy : (shared_answer (shared_begin 77 slots 1 0 queries [] uses strayed) (On 0 handed (Record (0 ∷ []) (9 ∷ [])))).outcome ≡ Err (refusal 11) → 4 < 2
+unfolding ask first_of_two with_allocator_no front_asks front_no allocate_vars_no add_permutation_no withdraw_query_no times strays uses_of all_fit uses_after all_below answer after noted shared_answer shared_after shared_noted
 roomy e = (shared-whole 77 slots 1 0 queries [] uses strayed (first-accepted strayed)).told.0.full e refl (omega arith)
 
 -- ---- the gate of relation 0: 13 at a wire that nobody allocated, then yes by another's allocate, and yes without a query
@@ -128,23 +128,23 @@ gate-0 cs =
     let p = shared_last 77 slots 1 0 queries [] uses cs in
     (gate_on p 0 (own_at p 0 handed) [] publics scratch).answer.outcome
 
-pub not-allocated : gate-0 recorded ≡ Refused 13
-unfolding ask ◌▸◌ with_allocator_no front_asks front_no allocate_vars_no add_permutation_no withdraw_query_no times strays all_fit uses_after all_below answer after noted shared_answer shared_after shared_noted compile_left follow is_utf8
+pub not-allocated : gate-0 recorded ≡ Err (refusal 13)
+unfolding ask first_of_two with_allocator_no front_asks front_no allocate_vars_no add_permutation_no withdraw_query_no times strays all_fit uses_after all_below answer after noted shared_answer shared_after shared_noted compile_left follow is_utf8
 not-allocated =
     (((shared-whole 77 slots 1 0 queries [] uses recorded (first-accepted recorded)).judged 0 (omega (arith, opened.0)) handed [] tt
     ).gates [] publics scratch).by-ledger
 
-pub allocated : gate-0 grown ≡ Accepted
-unfolding ask ◌▸◌ with_allocator_no front_asks front_no allocate_vars_no add_permutation_no withdraw_query_no times strays all_fit uses_after all_below answer after noted shared_answer shared_after shared_noted compile_left follow is_utf8
+pub allocated : gate-0 grown ≡ Ok tt
+unfolding ask first_of_two with_allocator_no front_asks front_no allocate_vars_no add_permutation_no withdraw_query_no times strays all_fit uses_after all_below answer after noted shared_answer shared_after shared_noted compile_left follow is_utf8
 allocated =
     (((shared-whole 77 slots 1 0 queries [] uses grown (first-accepted grown)).judged 0 (omega (arith, opened.1)) handed [] tt
     ).gates [] publics scratch).by-ledger
 
 -- ---- the ledger: struck from relation 0's part
 pub struck-own : (own_ledger_at (shared_ledger 77 slots 1 0 queries [] uses struck) 0).queries ≡ []
-unfolding ask ◌▸◌ with_allocator_no front_asks front_no allocate_vars_no add_permutation_no withdraw_query_no times strays all_fit uses_after all_below answer after noted shared_answer shared_after shared_noted
+unfolding ask first_of_two with_allocator_no front_asks front_no allocate_vars_no add_permutation_no withdraw_query_no times strays all_fit uses_after all_below answer after noted shared_answer shared_after shared_noted
 struck-own = refl
 
 pub uncounted : (own_at (shared_last 77 slots 1 0 queries [] uses struck) 0 handed).uses ≡ 0 ∷ 0 ∷ 0 ∷ 0 ∷ []
-unfolding ask ◌▸◌ with_allocator_no front_asks front_no allocate_vars_no add_permutation_no withdraw_query_no times strays uses_of all_fit uses_after all_below answer after noted shared_answer shared_after shared_noted
+unfolding ask first_of_two with_allocator_no front_asks front_no allocate_vars_no add_permutation_no withdraw_query_no times strays uses_of all_fit uses_after all_below answer after noted shared_answer shared_after shared_noted
 uncounted = ((shared-whole 77 slots 1 0 queries [] uses struck (first-accepted struck)).used 0 (omega (arith, opened.2)) handed).counts.uses-are

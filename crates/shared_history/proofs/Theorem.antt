@@ -17,7 +17,7 @@ use Rattle.sharing.specs.declared.VarAllocator.{VarAllocator}
 use Rattle.compile.specs.Gate.{GateLent, gate_lent, compile_front}
 use Rattle.sharing.proofs.Numbers.{some-opened, is-opened}
 use Rattle.shared_compile.proofs.Numbers.{gate-asked, gate-inserted, compile_on-outcome}
-use Rattle.compile.specs.declared.Compiled.{Compiled}
+use Rattle.compile.specs.Records.{Compiled}
 use Rattle.history.specs.Calls.{lengths_of}
 use Rattle.history.specs.Demand.{Accepted, Used}
 use Rattle.history.specs.Whole.{lent_to_gate, compiled, Gated, Judged}

@@ -10,12 +10,12 @@ use native.Mathlib.Omega.{arith}
 use borrow.Author.Tests.{ltb-true, ltb-false, lt-ltb, le-leb}
 use lib.Dec.{ltb, leb}
 use lib.ListN.{length, get_or, length-set, get_or-append}
+use Rattle.std.specs.Prelude.{Err, Ok}
 use Rattle.limits.specs.Numbers.{max_count}
-use Rattle.limits.specs.Questions.{ask, ◌▸◌, question, first_no, pick, on_yes}
-use Rattle.limits.specs.Outcome.{outcome_of}
+use Rattle.limits.specs.Questions.{ask, first_of_two, ◌▸◌, question, first_no, pick, on_yes}
+use Rattle.limits.specs.Outcome.{outcome_of, refusal}
 use Rattle.limits.specs.Asks.{width_asks, store_asks}
 use Rattle.uses.specs.Uses.{length_asks}
-use Rattle.limits.specs.declared.Outcome.TheVariants as outcome
 use Rattle.limits.proofs.Questions.{stays}
 use Rattle.allocator.specs.Slots.{fit_asks}
 use Rattle.permutation.specs.Relation.{new_relation_asks_with}
@@ -46,7 +46,7 @@ module _ (p : SharedState) (r : ℕ) (m : OwnState) (c : Call) where
       ≡ outcome_of (first_no (asks_with (shares_of p r m) (seen p m) c))
   unfolding front_no
   answered-on =
-      outcome-on p.allocator r m.relation (seen p m) c (answer (seen p m) c) (refused_with (front_no p r m c)) (by-questions (seen p m) c) (λ j e. ap outcome.Refused e)
+      outcome-on p.allocator r m.relation (seen p m) c (answer (seen p m) c) (refused_with (front_no p r m c)) (by-questions (seen p m) c) (λ j e. ap (λ (k : ℕ). Err (refusal k)) e)
 
   number_is : first_no (asks_with (shares_of p r m) (seen p m) c) ≡ front_no p r m c ▸ first_no (rest (seen p m) c)
   unfolding front_no
@@ -54,7 +54,7 @@ module _ (p : SharedState) (r : ℕ) (m : OwnState) (c : Call) where
 
 -- 43 isn't 11
 quota-other : (quota obtained n : ℕ) → first_no (quota_asks quota obtained n) ≡ 11 → ⊥
-unfolding ask ◌▸◌
+unfolding ask first_of_two
 quota-other quota obtained n e = go (leb (obtained + n) quota) e
   where
     go : (b : Bool) → first_no (question 43 b ∷ []) ≡ 11 → ⊥
@@ -219,7 +219,7 @@ module _ (p : SharedState) (l : SharedLedger) (st : Stands p l) where
       go (suc k) z a t = cc
 
   -- 11 of a count only where the query store has no room either
-  full_is : (c : SharedCall) → (shared_answer p c).outcome ≡ outcome.Refused 11 → FullIs p l c
+  full_is : (c : SharedCall) → (shared_answer p c).outcome ≡ Err (refusal 11) → FullIs p l c
   full_is (Open width quota queries equations uses) e = tt
   full_is (On r handed c) e = λ t h.
       let x = own_ledger_at l r in

@@ -1,9 +1,9 @@
 -- Openings and calls of relations on one allocator (document 02's R-2: the mixers of a plant), in any order: what each
 -- answers and leaves, and the ledger, which is fed each call and its answer. A relation's call is that of
 -- `history/specs/Calls` on the relation with the shared wire count and the shared slots. Assumes nothing.
-use Rattle.std.specs.Prelude.{ℕ, ◌+◌, List, [], ◌∷◌, ◌++◌, length, get_or, set}
+use Rattle.limits.specs.Outcome.{refusal}
+use Rattle.std.specs.Prelude.{ℕ, ◌+◌, List, [], ◌∷◌, ◌++◌, length, get_or, set, Err, Ok}
 use Rattle.limits.specs.Questions.{Question, first_no, on_yes}
-use Rattle.limits.specs.declared.Outcome.TheVariants as outcome
 use Rattle.allocator.specs.Slots.{Pair}
 use Rattle.expr.specs.Equation.{Equation}
 use Rattle.permutation.specs.Sharing.{Sharing}
@@ -82,7 +82,7 @@ front_no p r m c = first_no (front_asks (shares_of p r m) (on_allocator p.alloca
 -- ---- answers
 -- refused with a number
 abbrev pub refused_with : ℕ → Answer
-refused_with k = record { outcome = outcome.Refused k; first = 0; accepted = 0; fresh = 0 }
+refused_with k = record { outcome = Err (refusal k); first = 0; accepted = 0; fresh = 0 }
 
 -- an opening answers the relation's number; a relation's call what the same call answers on a relation alone, where the
 -- front of its questions lets it through

@@ -1,7 +1,7 @@
 -- What demand 3 asks along a list of openings and calls, beside the ledger. Assumes nothing.
-use Rattle.std.specs.Prelude.{ℕ, ◌+◌, ◌≤◌, ◌<◌, ◌≡◌, true, List, [], ◌∷◌, length}
+use Rattle.limits.specs.Outcome.{refusal}
+use Rattle.std.specs.Prelude.{ℕ, ◌+◌, ◌≤◌, ◌<◌, ◌≡◌, true, List, [], ◌∷◌, length, Err, Ok}
 use Rattle.limits.specs.Questions.{first_no}
-use Rattle.limits.specs.declared.Outcome.TheVariants as outcome
 use Rattle.words.specs.Store.{All}
 use Rattle.words.specs.Pieces.{words_of}
 use Rattle.sharing.specs.Shares.{max_relations}
@@ -44,7 +44,7 @@ pub record SharedTold (p : SharedState) (l : SharedLedger) (c : SharedCall) : Ty
   -- an accepted one answers what the ledger says
   pub first : Accepted (shared_answer p c).outcome → FirstIs p l c
   -- 11, a count above 2^30, is answered only where the query store has no room either: 11 comes before 10
-  pub full : (shared_answer p c).outcome ≡ outcome.Refused 11 → FullIs p l c
+  pub full : (shared_answer p c).outcome ≡ Err (refusal 11) → FullIs p l c
   -- as many sets, pairs or lines are accepted as the ledger lets through, after a refusal too
   pub accepted : (shared_answer p c).accepted ≡ length (shared_set_by l c)
   -- and of those as many are fresh as wires are named that nobody's set in the ledger names

@@ -14,9 +14,9 @@
 -- A list's beginning is a list, so this is said at every place of it. Nothing is assumed but that the first opening was
 -- accepted: any words in the stores, any count before it, any widths and quotas, any list with refused calls and calls on
 -- numbers that aren't opened among them. Assumes nothing.
-use Rattle.std.specs.Prelude.{ℕ, ◌≤◌, ◌<◌, ◌≡◌, List, [], length}
+use Rattle.limits.specs.Outcome.{refusal}
+use Rattle.std.specs.Prelude.{ℕ, ◌≤◌, ◌<◌, ◌≡◌, List, [], length, Err, Ok}
 use Rattle.limits.specs.Questions.{first_no}
-use Rattle.limits.specs.declared.Outcome.TheVariants as outcome
 use Rattle.words.specs.Store.{All}
 use Rattle.permutation.specs.Sharing.{alone}
 use Rattle.sharing.specs.Shares.{on_allocator, shares}
@@ -55,7 +55,7 @@ pub record Unopened (p : SharedState) (l : SharedLedger) (r : ℕ) (m : OwnState
       (first_no (compile_front (shares (allocator_by l) r m.relation) (lent_by l p m label publics scratch)))
   -- 42 where 1 and 2 say yes
   pub number : first_no (compile_front alone (lent_by l p m label publics scratch)) ≡ 0
-      → (gate_on p r m label publics scratch).answer.outcome ≡ outcome.Refused 42
+      → (gate_on p r m label publics scratch).answer.outcome ≡ Err (refusal 42)
 
 -- `vars`: what stood for the count before
 module _ (vars : ℕ) (slots : List ℕ) (width quota : ℕ) (queries equations uses : List ℕ) (cs : List SharedCall) where

@@ -1,12 +1,19 @@
 -- A mint by the number that is asked before it is handed on: refused there, it is refused with the number of its front;
 -- else the mint of the relation alone answers and leaves what the front's number would. Assumes nothing.
-use Prim.Native.Nat.{ℕ, ◌+◌, ◌≤◌}
+use Prim.Native.Nat.{ℕ, zero, suc, ◌+◌, ◌≤◌}
 use mathlib.Core.Path.{◌≡◌, refl, sym, ap, ◌∙◌}
 use mathlib.Core.Bool.{Bool, true, false}
 use mathlib.Core.List.{List, ◌++◌}
 use borrow.Author.Tests.{leb-true}
 use lib.Dec.{leb}
 use lib.ListN.{length}
+use Rattle.std.specs.Prelude.{Err}
+use Rattle.limits.specs.declared.Refused.{Refused}
+use Rattle.limits.specs.Outcome.{as_is}
+use Rattle.permutation.specs.Records.{First, Allocated, allocated}
+use Rattle.recording.specs.Effects.{AllocatesPermutation}
+use Rattle.sharing.specs.Records.{AllocatedOn, first_on}
+use Rattle.sharing.proofs.Answered.{all-refused}
 use Rattle.limits.specs.Questions.{pick, ◌▸◌, Question, first_no, on_yes}
 use Rattle.limits.proofs.Questions.{ask-yes, both, join, stays, goes_on, ▸-zero, first_no-append, puts, puts-yes}
 use Rattle.uses.specs.Uses.{uses_after}
@@ -18,20 +25,11 @@ use Rattle.recording.specs.Relation.{mint_sizes, mint_asks, join_asks, mint_cell
 use Rattle.recording.specs.Numbers.{allocate_permutation_no}
 use Rattle.recording.specs.Answers.{one_query, queries_with, allocate_permutation, allocate_permutation_slots, allocate_permutation_queries, allocate_permutation_uses}
 use Rattle.sharing.specs.Shares.{on_allocator, shares, quota_asks}
-use Rattle.sharing.specs.Answers.{allocated_on, allocated_not}
+use Rattle.sharing.specs.Answers.{allocated_on, allocated_not, DoesAll}
 use Rattle.sharing.specs.declared.VarAllocator.{VarAllocator}
 use Rattle.sharing.specs.declared.SharedRelation.{SharedRelation}
 use Rattle.sharing.proofs.Numbers.{puts-in, subsequence, front-alone, first-again}
 use Rattle.shared_recording.specs.Answers.{allocate_permutation_on_no, mint_front_no, allocate_permutation_on, allocate_permutation_on_slots, allocate_permutation_on_queries, allocate_permutation_on_uses}
-
--- by whether the quota holds the wires: handed on, or asked to the end
-pub mint-handed-on : (b : Bool) (x k n : ℕ) → b ≡ true → x ≡ k → x ≡ k ▸ pick b 0 n
-mint-handed-on true x k n e h = h ∙ sym (▸-zero k)
-mint-handed-on false x k n e h = cc
-
-pub mint-over : (b : Bool) (x k n : ℕ) → b ≡ false → x ≡ k ▸ n → x ≡ k ▸ pick b 0 n
-mint-over true x k n e h = cc
-mint-over false x k n e h = h
 
 module _ (a : VarAllocator) (r : ℕ) (m : SharedRelation) (slots len : ℕ) (uses input : List ℕ) where
   abbrev rel : PermutationRelation
@@ -133,3 +131,42 @@ module _ (a : VarAllocator) (r : ℕ) (m : SharedRelation) (slots queries uses i
   pub mint-uses : allocate_permutation_on_uses a r m slots queries uses input ≡ allocate_permutation_uses as-alone slots queries uses input
   mint-uses =
       first-again (λ (n : ℕ). on_yes n (uses_after false uses cells) uses) (λ (n : ℕ). uses) front number after_front number_is (λ j. refl)
+
+-- ---- the call: refused before it is handed on
+module _ (a : VarAllocator) (r : ℕ) (m : SharedRelation) (slots queries uses input : List ℕ) where
+  abbrev Mints : AllocatedOn → (slots₁ queries₁ uses₁ : List ℕ) → Type 0
+  Mints =
+      DoesAll as_is (allocate_permutation_on a r m slots queries uses input) (allocate_permutation_on_slots a r m slots queries uses input)
+      (allocate_permutation_on_queries a r m slots queries uses input) (allocate_permutation_on_uses a r m slots queries uses input)
+
+  abbrev asked : ℕ
+  asked = mint_front_no a r m (length slots) (length queries) (length uses) input
+
+  pub mints-not : {o : First} {e : Refused} → o ≡ Err e → asked ≡ e.0 → (e.0 ≡ 0 → ⊥) → Mints (first_on o a m) slots queries uses
+  mints-not {e = e} is n h =
+      let k = mint-refused a r m (length slots) (length queries) uses input (λ z. h (sym n ∙ z)) in
+      rw is (all-refused _ e.0 (sym n ∙ k) h (allocated_not a m) _ slots _ queries _ uses _)
+
+  -- or what the mint of the relation alone comes to: `done` is its answer and record, w what they are taken for
+  module _ (z : asked ≡ 0) (x : PermutationRelation) (is : x ≡ on_allocator a m) (done : Allocated) (slots₁ queries₁ uses₁ : List ℕ)
+      (d : AllocatesPermutation as_is x slots queries uses input done slots₁ queries₁ uses₁) where
+    pub mints : (w : AllocatedOn) → w ≡ allocated_on a m done (m.obtained + m.width) → Mints w slots₁ queries₁ uses₁
+    mints w e =
+        record {
+          answers =
+              e
+              ∙ ap (λ (v : Allocated). allocated_on a m v (m.obtained + m.width)) (d.answer ∙ ap (λ (y : PermutationRelation). allocate_permutation y slots queries uses input) is)
+              ∙ sym (mint-answer a r m slots queries uses input z);
+          leaves = d.slots ∙ ap (λ (y : PermutationRelation). allocate_permutation_slots y slots queries uses input) is ∙ sym (mint-slots a r m slots queries uses input z);
+          leaves-too = d.queries ∙ ap (λ (y : PermutationRelation). allocate_permutation_queries y slots queries uses input) is ∙ sym (mint-queries a r m slots queries uses input z);
+          leaves_last = d.uses ∙ ap (λ (y : PermutationRelation). allocate_permutation_uses y slots queries uses input) is ∙ sym (mint-uses a r m slots queries uses input z);
+        }
+
+-- where that mint is refused the records are as they were
+pub mint-given : (a : VarAllocator) (m : SharedRelation) (k v more : ℕ) (new given y : PermutationRelation) {o p : First} {e : Refused}
+    → o ≡ Err e → p ≡ Err e → given ≡ on_allocator a m → allocated p y ≡ allocated_of k v new given
+    → first_on o a m ≡ allocated_on a m (allocated p y) more
+mint-given a m zero v more new given y is was x f = let n = ap (λ (w : Allocated). w.first) f in cc
+mint-given a m (suc k) v more new given y is was x f =
+    let n : y ≡ on_allocator a m = ap (λ (w : Allocated). w.relation) f ∙ x in
+    rw (is, was, n) refl

@@ -18,8 +18,7 @@ use Rattle.recording.specs.Numbers.{add_permutation_no, allocate_permutation_no,
 use Rattle.sharing.specs.Shares.{on_allocator, shares}
 use Rattle.sharing.specs.declared.VarAllocator.{VarAllocator}
 use Rattle.sharing.specs.declared.SharedRelation.{SharedRelation}
-use Rattle.sharing.specs.declared.AllocatedOn.{AllocatedOn}
-use Rattle.sharing.specs.declared.RecordedOn.{RecordedOn}
+use Rattle.sharing.specs.Records.{AllocatedOn, RecordedOn}
 use Rattle.sharing.proofs.Numbers.{puts-in, subsequence, number-on}
 use Rattle.shared_recording.specs.Answers.{add_permutation_on_no, allocate_permutation_on_no, add_equation_on_no, add_permutation_on, allocate_permutation_on, add_equation_on}
 

@@ -9,8 +9,7 @@ use Rattle.sharing.specs.Shares.{on_allocator, quota_asks, shares}
 use Rattle.sharing.specs.Answers.{allocated_on, allocated_not, recorded_on, recorded_not}
 use Rattle.sharing.specs.declared.VarAllocator.{VarAllocator}
 use Rattle.sharing.specs.declared.SharedRelation.{SharedRelation}
-use Rattle.sharing.specs.declared.AllocatedOn.{AllocatedOn}
-use Rattle.sharing.specs.declared.RecordedOn.{RecordedOn}
+use Rattle.sharing.specs.Records.{AllocatedOn, RecordedOn}
 
 module _ (a : VarAllocator) (r : ℕ) (m : SharedRelation) where
   -- ---- numbers of fronts

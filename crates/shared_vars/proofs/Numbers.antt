@@ -23,7 +23,7 @@ use Rattle.tickets.proofs.Laws.{set_tickets-number}
 use Rattle.sharing.specs.Shares.{on_allocator, shares}
 use Rattle.sharing.specs.declared.VarAllocator.{VarAllocator}
 use Rattle.sharing.specs.declared.SharedRelation.{SharedRelation}
-use Rattle.sharing.specs.declared.AllocatedOn.{AllocatedOn}
+use Rattle.sharing.specs.Records.{AllocatedOn}
 use Rattle.sharing.proofs.Numbers.{puts-in, subsequence, number-on}
 use Rattle.shared_vars.specs.Answers.{relation_on_no, allocate_vars_on_no, set_vars_on_no, is_allocated_on_no, allocate_vars_on, set_var_on, set_vars_on_run, set_tickets_on_run, value_of_on, is_allocated_on}
 

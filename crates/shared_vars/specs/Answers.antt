@@ -1,23 +1,22 @@
 -- The calls on the wires of relation r of an allocator: the number of the front of each call's questions, its answer, and
 -- the slots afterwards. A call that its front lets through does what the same call does to a relation alone that has the
 -- shared wire count for its own; else nothing. Assumes nothing.
-use Rattle.std.specs.Prelude.{ℕ, ◌+◌, List, length}
+use Rattle.limits.specs.Outcome.{refusal}
+use Rattle.limits.specs.declared.Refused.{Refused}
+use Rattle.allocator.specs.VarValue.{VarValue}
+use Rattle.permutation.specs.Records.{IsAllocated}
+use Rattle.std.specs.Prelude.{ℕ, ◌+◌, List, length, Result, Err}
 use Rattle.limits.specs.Questions.{first_no, on_yes}
 use Rattle.allocator.specs.declared.Set.{Set}
-use Rattle.allocator.specs.declared.Set.TheVariants as set_is
 use Rattle.allocator.specs.Slots.{Pair, SetRun, run_after}
-use Rattle.allocator.specs.declared.VarValue.{VarValue}
-use Rattle.allocator.specs.declared.VarValue.TheVariants as var_value
 use Rattle.permutation.specs.Relation.{relation_front, allocate_vars_front, set_vars_front, is_allocated_front}
 use Rattle.permutation.specs.Answers.{allocate_vars, allocate_vars_slots, set_var, set_var_slots, set_vars_run, value_of, is_allocated}
-use Rattle.permutation.specs.declared.IsAllocated.{IsAllocated}
-use Rattle.permutation.specs.declared.IsAllocated.TheVariants as is_allocated-is
 use Rattle.tickets.specs.Tickets.{set_tickets_run}
 use Rattle.sharing.specs.Shares.{on_allocator, shares}
 use Rattle.sharing.specs.Answers.{allocated_on, allocated_not}
 use Rattle.sharing.specs.declared.VarAllocator.{VarAllocator}
 use Rattle.sharing.specs.declared.SharedRelation.{SharedRelation}
-use Rattle.sharing.specs.declared.AllocatedOn.{AllocatedOn}
+use Rattle.sharing.specs.Records.{AllocatedOn}
 
 module _ (a : VarAllocator) (r : ℕ) (m : SharedRelation) where
   -- ---- numbers of fronts
@@ -50,10 +49,10 @@ module _ (a : VarAllocator) (r : ℕ) (m : SharedRelation) where
 
   -- ---- set
   -- the answer, fresh where the shared slot was unassigned
-  abbrev pub set_var_on : List ℕ → Pair → Set
+  abbrev pub set_var_on : List ℕ → Pair → Result Set Refused
   set_var_on slots p =
       let k = relation_on_no (length slots) in
-      on_yes k (set_var (on_allocator a m) slots p) (set_is.Refused k)
+      on_yes k (set_var (on_allocator a m) slots p) (Err (refusal k))
 
   -- the slots afterwards
   abbrev pub set_var_on_slots : List ℕ → Pair → List ℕ
@@ -74,8 +73,8 @@ module _ (a : VarAllocator) (r : ℕ) (m : SharedRelation) where
   abbrev pub value_of_on : List ℕ → ℕ → VarValue
   value_of_on slots var =
       let k = relation_on_no (length slots) in
-      on_yes k (value_of (on_allocator a m) slots var) (var_value.Refused k)
+      on_yes k (value_of (on_allocator a m) slots var) (Err (refusal k))
 
   -- the answer
   abbrev pub is_allocated_on : ℕ → IsAllocated
-  is_allocated_on var = on_yes is_allocated_on_no (is_allocated (on_allocator a m) var) (is_allocated-is.Refused is_allocated_on_no)
+  is_allocated_on var = on_yes is_allocated_on_no (is_allocated (on_allocator a m) var) (Err (refusal is_allocated_on_no))

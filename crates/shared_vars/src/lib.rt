@@ -4,197 +4,177 @@
 // Each call puts the front of its questions, up to the last that sharing puts in, and then does what the same call does
 // to a relation alone that has the shared wire count for its own. Every open function answers on every input.
 
-#![tactic(auto)]
+#![tactic(auto, unfolding(limits::specs::Questions::ask, limits::specs::Questions::first_of_two, crate::specs::Answers::relation_on_no, crate::specs::Answers::allocate_vars_on_no, crate::specs::Answers::set_vars_on_no, crate::specs::Answers::set_vars_on_run, crate::specs::Answers::set_tickets_on_run, crate::specs::Answers::is_allocated_on_no))]
 
-ghost use Rattle.std.specs.Prelude.{◌≡◌};
-ghost use Rattle.limits.specs.Outcome.{as_is};
+ghost use Rattle.std.specs.Prelude.{◌+◌, ◌≡◌};
+ghost use Rattle.limits.specs.Outcome.{as_is, answer_of, outcome_of};
 ghost use Rattle.allocator.specs.Slots.{pair};
 ghost use Rattle.allocator.specs.Assign.{Runs};
 ghost use Rattle.permutation.specs.Answers.{set_vars_of};
 ghost use Rattle.tickets.specs.Tickets.{set_tickets_of};
+ghost use Rattle.sharing.specs.Records.{first_on};
 ghost use Rattle.sharing.specs.Answers.{Does};
-ghost use Rattle.shared_vars.specs.Answers.{relation_on_no, allocate_vars_on_no, set_vars_on_no, is_allocated_on_no, allocate_vars_on, allocate_vars_on_slots, set_var_on, set_var_on_slots, set_vars_on_run, set_tickets_on_run, value_of_on, is_allocated_on};
+ghost use Rattle.shared_vars.specs.Answers.{relation_on_no, allocate_vars_on_no, set_vars_on_no, allocate_vars_on, allocate_vars_on_slots, set_var_on, set_var_on_slots, set_vars_on_run, set_tickets_on_run, value_of_on, is_allocated_on};
 
-use allocator::{FieldVar, Set, VarValue};
+use allocator::{FieldVar, Set};
 use baby_bear::BabyBearUnit;
-use limits::Outcome;
-use permutation::{First, IsAllocated, SetVars};
-use sharing::{AllocatedOn, SharedRelation, VarAllocator};
+use limits::Refused;
+use permutation::SetVars;
+use sharing::{SharedRelation, VarAllocator};
 use tickets::SetTickets;
 
 // Questions 1, 2 and 42 of a call that looks at the slots. Where a relation is opened, 1 and 2 are put as the call of a
 // relation alone puts them again, so that the compiler may work them out once.
-fn relation_on_no(allocator: VarAllocator, index: u32, rel: SharedRelation, len: usize) -> u32
-    ensures { result ≡ relation_on_no allocator index rel len }
+fn ask_relation_on(
+    allocator: &VarAllocator,
+    index: u32,
+    rel: &SharedRelation,
+    len: usize,
+) -> Result<(), Refused>
+    ensures { result ≡ outcome_of (relation_on_no allocator.now index rel.now len) }
 {
-    let width = rel.width;
-    let vars = allocator.vars;
     if 0 < allocator.opened {
-        let no = permutation::asked_relation(width, vars, len);
-        return sharing::asked_opened(no, allocator, index);
+        permutation::ask_relation(&sharing::on_allocator(allocator, rel), len)?;
+        return sharing::ask_opened(allocator, index);
     }
-    let no = limits::asked_width(0, width);
-    let no = limits::asked_store(no, len);
-    sharing::asked_opened(no, allocator, index)
+    limits::ask_width(rel.width)?;
+    limits::ask_store(len)?;
+    sharing::ask_opened(allocator, index)
 }
 
-// The number of an allocate call up to 43.
-fn allocate_vars_on_no(
-    allocator: VarAllocator,
+// The questions of an allocate call up to 43, and what the relation then has of its quota.
+fn ask_allocate_vars_on(
+    allocator: &VarAllocator,
     index: u32,
-    rel: SharedRelation,
+    rel: &SharedRelation,
     len: usize,
     n: u32,
-) -> u32
-    ensures { result ≡ allocate_vars_on_no allocator index rel len n }
+) -> Result<u32, Refused>
+    ensures { result ≡ answer_of (allocate_vars_on_no allocator.now index rel.now len n) (rel.now.obtained + n) }
 {
-    let no = relation_on_no(allocator, index, rel, len);
-    sharing::asked_quota(no, allocator, rel, n)
+    ask_relation_on(allocator, index, rel, len)?;
+    sharing::ask_quota(allocator, rel, n)
 }
 
 // The next n wires for the relation, their slots unassigned. Questions 1, 2, 42, 5, 43, 6.
 pub fn allocate_vars_on(
-    allocator: VarAllocator,
+    allocator: &mut VarAllocator,
     index: u32,
-    rel: SharedRelation,
+    rel: &mut SharedRelation,
     slots: &mut [u32],
     n: u32,
-) -> AllocatedOn
-    ensures { Does as_is (allocate_vars_on allocator index rel slots.old n) (allocate_vars_on_slots allocator index rel slots.old n) result slots.new }
+) -> Result<u32, Refused>
+    ensures { Does as_is (allocate_vars_on allocator.old index rel.old slots.old n) (allocate_vars_on_slots allocator.old index rel.old slots.old n) (first_on result allocator.new rel.new) slots.new }
 {
-    let no = allocate_vars_on_no(allocator, index, rel, slots.len(), n);
-    if no != 0 {
-        return AllocatedOn {
-            first: First::Refused(no),
-            allocator,
-            relation: rel,
-        };
-    }
-    let more = rel.obtained + n;
-    let done = permutation::allocate_vars(sharing::on_allocator(allocator, rel), slots, n);
-    sharing::allocated_on(allocator, rel, done, more)
+    let obtained = ask_allocate_vars_on(allocator, index, rel, slots.len(), n)?;
+    let mut alone = sharing::on_allocator(allocator, rel);
+    let first = permutation::allocate_vars(&mut alone, slots, n)?;
+    sharing::allocate_on(allocator, rel, &alone, obtained);
+    Ok(first)
 }
 
 // Assign a wire its value, which makes it public to all. Questions 1, 2, 42, 3, 4, 7, 8.
 pub fn set_var_on(
-    allocator: VarAllocator,
+    allocator: &VarAllocator,
     index: u32,
-    rel: SharedRelation,
+    rel: &SharedRelation,
     slots: &mut [u32],
     var: FieldVar,
     value: BabyBearUnit,
-) -> Set
-    ensures { Does as_is (set_var_on allocator index rel slots.old (pair var.0 value.0)) (set_var_on_slots allocator index rel slots.old (pair var.0 value.0)) result slots.new }
+) -> Result<Set, Refused>
+    ensures { Does as_is (set_var_on allocator.now index rel.now slots.old (pair var.0 value.0)) (set_var_on_slots allocator.now index rel.now slots.old (pair var.0 value.0)) result slots.new }
 {
-    let no = relation_on_no(allocator, index, rel, slots.len());
-    if no != 0 {
-        return Set::Refused(no);
-    }
-    permutation::set_var(sharing::on_allocator(allocator, rel), slots, var, value)
+    ask_relation_on(allocator, index, rel, slots.len())?;
+    permutation::set_var(&sharing::on_allocator(allocator, rel), slots, var, value)
 }
 
-// The number of a set list before its pairs are tried.
-fn set_vars_on_no(
-    allocator: VarAllocator,
+// The questions of a set list before its pairs are tried.
+fn ask_set_vars_on(
+    allocator: &VarAllocator,
     index: u32,
-    rel: SharedRelation,
+    rel: &SharedRelation,
     len: usize,
     vars: &[u32],
     values: &[u32],
-) -> u32
-    ensures { result ≡ set_vars_on_no allocator index rel len vars.now values.now }
+) -> Result<(), Refused>
+    ensures { result ≡ outcome_of (set_vars_on_no allocator.now index rel.now len vars.now values.now) }
 {
-    let width = rel.width;
-    let no = limits::asked_width(0, width);
-    let no = sharing::asked_slots_on(no, allocator, len);
-    let no = limits::asked_store(no, vars.len());
-    let no = limits::asked_store(no, values.len());
-    sharing::asked_opened(no, allocator, index)
+    limits::ask_width(rel.width)?;
+    sharing::ask_slots_on(allocator, len)?;
+    limits::ask_store(vars.len())?;
+    limits::ask_store(values.len())?;
+    sharing::ask_opened(allocator, index)
 }
 
 // Assign each wire of a list the value in the same place of another. Questions 1, 2 and 42, then 3, 4, 7, 8 pair by
 // pair, then 9.
 pub fn set_vars_on(
-    allocator: VarAllocator,
+    allocator: &VarAllocator,
     index: u32,
-    rel: SharedRelation,
+    rel: &SharedRelation,
     slots: &mut [u32],
     vars: &[u32],
     values: &[u32],
 ) -> SetVars
-    ensures { Runs (λ run. as_is (set_vars_of run)) (set_vars_on_run allocator index rel slots.old vars.now values.now) result slots.new }
+    ensures { Runs (λ run. as_is (set_vars_of run)) (set_vars_on_run allocator.now index rel.now slots.old vars.now values.now) result slots.new }
 {
-    let no = set_vars_on_no(allocator, index, rel, slots.len(), vars, values);
-    if no != 0 {
-        return SetVars {
-            outcome: Outcome::Refused(no),
+    match ask_set_vars_on(allocator, index, rel, slots.len(), vars, values) {
+        Err(refused) => SetVars {
+            outcome: Err(refused),
             accepted: 0,
             fresh: 0,
-        };
+        },
+        Ok(()) => {
+            permutation::set_vars(&sharing::on_allocator(allocator, rel), slots, vars, values)
+        }
     }
-    permutation::set_vars(sharing::on_allocator(allocator, rel), slots, vars, values)
 }
 
 // Set each wire that a text's ticket lines name to its steps. Questions 1, 2 and 42, then 40, 3, 41, 7, 8 line by line.
 pub fn set_tickets_on(
-    allocator: VarAllocator,
+    allocator: &VarAllocator,
     index: u32,
-    rel: SharedRelation,
+    rel: &SharedRelation,
     slots: &mut [u32],
     text: &[u8],
 ) -> SetTickets
-    ensures { Runs (λ run. as_is (set_tickets_of run)) (set_tickets_on_run allocator index rel slots.old text.now) result slots.new }
+    ensures { Runs (λ run. as_is (set_tickets_of run)) (set_tickets_on_run allocator.now index rel.now slots.old text.now) result slots.new }
 {
-    let no = relation_on_no(allocator, index, rel, slots.len());
-    if no != 0 {
-        return SetTickets {
-            outcome: Outcome::Refused(no),
+    match ask_relation_on(allocator, index, rel, slots.len()) {
+        Err(refused) => SetTickets {
+            outcome: Err(refused),
             accepted: 0,
             fresh: 0,
-        };
+        },
+        Ok(()) => tickets::set_tickets(&sharing::on_allocator(allocator, rel), slots, text),
     }
-    tickets::set_tickets(sharing::on_allocator(allocator, rel), slots, text)
 }
 
-// The value of a wire, or nothing where it is unassigned or beyond the count. Questions 1, 2, 42, 3.
+// The value of a wire, or none where it is unassigned or beyond the count. Questions 1, 2, 42, 3.
 pub fn value_of_on(
-    allocator: VarAllocator,
+    allocator: &VarAllocator,
     index: u32,
-    rel: SharedRelation,
+    rel: &SharedRelation,
     slots: &[u32],
     var: FieldVar,
-) -> VarValue
-    ensures { result ≡ value_of_on allocator index rel slots.now var.0 }
+) -> Result<Option<u32>, Refused>
+    ensures { result ≡ value_of_on allocator.now index rel.now slots.now var.0 }
 {
-    let no = relation_on_no(allocator, index, rel, slots.len());
-    if no != 0 {
-        return VarValue::Refused(no);
-    }
-    permutation::value_of(sharing::on_allocator(allocator, rel), slots, var)
-}
-
-// The number of a question whether a wire is allocated, up to 42.
-fn is_allocated_on_no(allocator: VarAllocator, index: u32, rel: SharedRelation) -> u32
-    ensures { result ≡ is_allocated_on_no allocator index rel }
-{
-    let width = rel.width;
-    let no = limits::asked_width(0, width);
-    let no = sharing::asked_count_on(no, allocator);
-    sharing::asked_opened(no, allocator, index)
+    ask_relation_on(allocator, index, rel, slots.len())?;
+    permutation::value_of(&sharing::on_allocator(allocator, rel), slots, var)
 }
 
 // Is the wire allocated, by any relation? Questions 1, 2, 42, 3.
 pub fn is_allocated_on(
-    allocator: VarAllocator,
+    allocator: &VarAllocator,
     index: u32,
-    rel: SharedRelation,
+    rel: &SharedRelation,
     var: FieldVar,
-) -> IsAllocated
-    ensures { result ≡ is_allocated_on allocator index rel var.0 }
+) -> Result<bool, Refused>
+    ensures { result ≡ is_allocated_on allocator.now index rel.now var.0 }
 {
-    let no = is_allocated_on_no(allocator, index, rel);
-    if no != 0 {
-        return IsAllocated::Refused(no);
-    }
-    permutation::is_allocated(sharing::on_allocator(allocator, rel), var)
+    limits::ask_width(rel.width)?;
+    sharing::ask_count_on(allocator)?;
+    sharing::ask_opened(allocator, index)?;
+    permutation::is_allocated(&sharing::on_allocator(allocator, rel), var)
 }

@@ -18,7 +18,7 @@ use Rattle.withdraw.specs.Relation.{withdraw_equation_asks_with, withdraw_equati
 use Rattle.sharing.specs.Shares.{on_allocator, shares}
 use Rattle.sharing.specs.declared.VarAllocator.{VarAllocator}
 use Rattle.sharing.specs.declared.SharedRelation.{SharedRelation}
-use Rattle.sharing.specs.declared.RecordedOn.{RecordedOn}
+use Rattle.sharing.specs.Records.{RecordedOn}
 use Rattle.sharing.proofs.Numbers.{puts-in, subsequence, number-on}
 use Rattle.shared_recording.specs.Answers.{add_equation_on_no}
 use Rattle.shared_withdraw.specs.Answers.{withdraw_equation_on, withdraw_query_on_no, withdraw_query_on}

@@ -8,7 +8,7 @@ use Rattle.sharing.specs.Shares.{on_allocator, shares}
 use Rattle.sharing.specs.Answers.{recorded_on, recorded_not}
 use Rattle.sharing.specs.declared.VarAllocator.{VarAllocator}
 use Rattle.sharing.specs.declared.SharedRelation.{SharedRelation}
-use Rattle.sharing.specs.declared.RecordedOn.{RecordedOn}
+use Rattle.sharing.specs.Records.{RecordedOn}
 use Rattle.shared_recording.specs.Answers.{add_equation_on_no}
 
 module _ (a : VarAllocator) (r : ℕ) (m : SharedRelation) where

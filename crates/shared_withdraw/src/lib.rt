@@ -3,88 +3,75 @@
 // Each call puts the front of its questions, up to 42, and then does what the same call does to a relation alone that
 // has the shared wire count for its own. Every open function answers on every input.
 
-#![tactic(auto)]
+#![tactic(auto, unfolding(limits::specs::Questions::ask, limits::specs::Questions::first_of_two, crate::specs::Answers::withdraw_query_on_no))]
 
 ghost use Rattle.std.specs.Prelude.{◌≡◌, length};
-ghost use Rattle.limits.specs.Outcome.{as_is};
+ghost use Rattle.limits.specs.Outcome.{as_is, outcome_of};
+ghost use Rattle.sharing.specs.Records.{outcome_on};
 ghost use Rattle.sharing.specs.Answers.{Does, DoesBoth};
 ghost use Rattle.shared_withdraw.specs.Answers.{withdraw_query_on_no, withdraw_equation_on, withdraw_equation_on_equations, withdraw_query_on, withdraw_query_on_queries, withdraw_query_on_uses};
 
-use limits::Outcome;
-use sharing::{RecordedOn, SharedRelation, VarAllocator};
+use limits::Refused;
+use sharing::{SharedRelation, VarAllocator};
 
 // Withdraw equation i of the relation. Questions 1, 2, 42, 45, 11.
 pub fn withdraw_equation_on(
-    allocator: VarAllocator,
+    allocator: &VarAllocator,
     index: u32,
-    rel: SharedRelation,
+    rel: &mut SharedRelation,
     equations: &mut [u32],
     i: u32,
-) -> RecordedOn
-    ensures { Does as_is (withdraw_equation_on allocator index rel equations.old i)
-        (withdraw_equation_on_equations allocator index rel equations.old i) result equations.new }
+) -> Result<(), Refused>
+    ensures { Does as_is (withdraw_equation_on allocator.now index rel.old equations.old i)
+        (withdraw_equation_on_equations allocator.now index rel.old equations.old i) (outcome_on result rel.new) equations.new }
 {
-    let no = shared_recording::add_equation_on_no(allocator, index, rel, equations.len());
-    if no != 0 {
-        return RecordedOn {
-            outcome: Outcome::Refused(no),
-            relation: rel,
-        };
-    }
-    let done = withdraw::withdraw_equation(sharing::on_allocator(allocator, rel), equations, i);
-    sharing::recorded_on(rel, done)
+    shared_recording::ask_equations_on(allocator, index, rel, equations.len())?;
+    let mut alone = sharing::on_allocator(allocator, rel);
+    withdraw::withdraw_equation(&mut alone, equations, i)?;
+    sharing::record_on(rel, &alone);
+    Ok(())
 }
 
-// The number of a query's withdrawal up to 42.
-fn withdraw_query_on_no(
-    allocator: VarAllocator,
+// The questions of a query's withdrawal up to 42.
+fn ask_withdraw_query_on(
+    allocator: &VarAllocator,
     index: u32,
-    rel: SharedRelation,
+    rel: &SharedRelation,
     slots: usize,
     queries: usize,
     uses: usize,
-) -> u32
-    ensures { result ≡ withdraw_query_on_no allocator index rel slots queries uses }
+) -> Result<(), Refused>
+    ensures { result ≡ outcome_of (withdraw_query_on_no allocator.now index rel.now slots queries uses) }
 {
-    let no = shared_recording::asked_queries_on(allocator, rel, slots, queries, uses);
-    sharing::asked_opened(no, allocator, index)
+    shared_recording::ask_queries_on(allocator, rel, slots, queries, uses)?;
+    sharing::ask_opened(allocator, index)
 }
 
 // Withdraw query i of the relation. Questions 1, 2, 42, 45, 11, 10.
 pub fn withdraw_query_on(
-    allocator: VarAllocator,
+    allocator: &VarAllocator,
     index: u32,
-    rel: SharedRelation,
+    rel: &mut SharedRelation,
     slots: &[u32],
     queries: &mut [u32],
     uses: &mut [u32],
     i: u32,
-) -> RecordedOn
-    ensures { DoesBoth as_is (withdraw_query_on allocator index rel (length slots.now) queries.old uses.old i)
-        (withdraw_query_on_queries allocator index rel (length slots.now) queries.old uses.old i)
-        (withdraw_query_on_uses allocator index rel (length slots.now) queries.old uses.old i)
-        result queries.new uses.new }
+) -> Result<(), Refused>
+    ensures { DoesBoth as_is (withdraw_query_on allocator.now index rel.old (length slots.now) queries.old uses.old i)
+        (withdraw_query_on_queries allocator.now index rel.old (length slots.now) queries.old uses.old i)
+        (withdraw_query_on_uses allocator.now index rel.old (length slots.now) queries.old uses.old i)
+        (outcome_on result rel.new) queries.new uses.new }
 {
-    let no = withdraw_query_on_no(
+    ask_withdraw_query_on(
         allocator,
         index,
         rel,
         slots.len(),
         queries.len(),
         uses.len(),
-    );
-    if no != 0 {
-        return RecordedOn {
-            outcome: Outcome::Refused(no),
-            relation: rel,
-        };
-    }
-    let done = withdraw::withdraw_query(
-        sharing::on_allocator(allocator, rel),
-        slots,
-        queries,
-        uses,
-        i,
-    );
-    sharing::recorded_on(rel, done)
+    )?;
+    let mut alone = sharing::on_allocator(allocator, rel);
+    withdraw::withdraw_query(&mut alone, slots, queries, uses, i)?;
+    sharing::record_on(rel, &alone);
+    Ok(())
 }

@@ -3,7 +3,7 @@
 use Prim.Native.Nat.{ℕ}
 use mathlib.Core.Path.{◌≡◌, refl}
 use mathlib.Core.List.{[], ◌∷◌}
-use Rattle.limits.specs.Questions.{ask, ◌▸◌}
+use Rattle.limits.specs.Questions.{ask, first_of_two}
 use Rattle.sharing.specs.Opening.{with_allocator_no, with_allocator_uses}
 use Rattle.sharing.specs.declared.VarAllocator.{VarAllocator}
 
@@ -24,7 +24,7 @@ pub record Examples : Type 0 where
   pub refused : with_allocator_uses (with-opened 1) 1 (9 ∷ 9 ∷ []) (3 ∷ []) ≡ 3 ∷ []
 
 pub examples : Examples
-unfolding ask ◌▸◌ with_allocator_no
+unfolding ask first_of_two with_allocator_no
 examples =
     record {
       too_large = refl;

@@ -12,7 +12,7 @@ use native.Mathlib.Omega.{arith}
 use borrow.Author.Tests.{ltb-true, lt-ltb}
 use lib.Dec.{ltb}
 use lib.ListN.{length}
-use Rattle.limits.specs.Questions.{◌▸◌, Question, first_no, on_yes}
+use Rattle.limits.specs.Questions.{first_of_two, ◌▸◌, Question, first_no, on_yes}
 use Rattle.limits.specs.Outcome.{outcome_number}
 use Rattle.limits.proofs.Questions.{both, join, zero-▸, goes_on, stays, first_no-append, Puts, here, there, puts-after, puts-yes}
 use Rattle.limits.proofs.Answered.{outcome-number}
@@ -54,7 +54,7 @@ by_front shows of (suc k) rest new old o n = o k refl ∙ ap of (sym (stays (suc
 
 -- what a number does whose beginning is asked first
 pub first-again : {A : Type 0} (f g : ℕ → A) (k n rest : ℕ) → n ≡ k ▸ rest → ((j : ℕ) → f (suc j) ≡ g (suc j)) → on_yes k (f n) (g k) ≡ f n
-unfolding ◌▸◌
+unfolding first_of_two
 first-again f g zero n rest e h = refl
 first-again f g (suc k) n rest e h = sym (h k) ∙ ap f (sym e)
 

@@ -1,16 +1,12 @@
 -- What a call of a relation on an allocator answers and leaves, from what the same call on a relation alone does: a call
 -- that the front of its questions lets through does that, with the records put back; else nothing. Assumes nothing.
-use Rattle.std.specs.Prelude.{ℕ, ◌≡◌, List}
-use Rattle.limits.specs.declared.Outcome.TheVariants as outcome
+use Rattle.limits.specs.Outcome.{refusal}
+use Rattle.permutation.specs.Records.{First, Recorded, Allocated}
+use Rattle.std.specs.Prelude.{ℕ, ◌≡◌, List, Err, Ok}
 use Rattle.permutation.specs.declared.PermutationRelation.{PermutationRelation}
-use Rattle.permutation.specs.declared.First.{First}
-use Rattle.permutation.specs.declared.First.TheVariants as first
-use Rattle.permutation.specs.declared.Allocated.{Allocated}
-use Rattle.permutation.specs.declared.Recorded.{Recorded}
 use Rattle.sharing.specs.declared.VarAllocator.{VarAllocator}
 use Rattle.sharing.specs.declared.SharedRelation.{SharedRelation}
-use Rattle.sharing.specs.declared.AllocatedOn.{AllocatedOn}
-use Rattle.sharing.specs.declared.RecordedOn.{RecordedOn}
+use Rattle.sharing.specs.Records.{AllocatedOn, RecordedOn}
 
 -- ---- records put back
 -- a relation's record after a call that came to this record and this many wires obtained
@@ -33,8 +29,8 @@ with_vars a vars = record { vars = vars; opened = a.opened }
 -- ---- a call that asks for wires
 -- what the relation obtained: `more` where wires were answered
 abbrev pub obtained_after : First → (more obtained : ℕ) → ℕ
-obtained_after (first.Var x) more obtained = more
-obtained_after (first.Refused k) more obtained = obtained
+obtained_after (Ok x) more obtained = more
+obtained_after (Err e) more obtained = obtained
 
 -- let through: `more` is what the relation obtains with the wires asked for
 abbrev pub allocated_on : VarAllocator → SharedRelation → Allocated → (more : ℕ) → AllocatedOn
@@ -47,7 +43,7 @@ allocated_on a m done more =
 
 -- refused at the front
 abbrev pub allocated_not : VarAllocator → SharedRelation → ℕ → AllocatedOn
-allocated_not a m k = record { first = first.Refused k; allocator = a; relation = m }
+allocated_not a m k = record { first = Err (refusal k); allocator = a; relation = m }
 
 -- ---- a call that records
 -- let through
@@ -56,7 +52,7 @@ recorded_on m done = record { outcome = done.outcome; relation = off_allocator m
 
 -- refused at the front
 abbrev pub recorded_not : SharedRelation → ℕ → RecordedOn
-recorded_not m k = record { outcome = outcome.Refused k; relation = m }
+recorded_not m k = record { outcome = Err (refusal k); relation = m }
 
 -- ---- contracts
 -- what a call does that writes one store: its answer, told as the caller has it (`as_is` or, for C, as a struct), and the

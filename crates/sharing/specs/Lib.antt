@@ -1,3 +1,4 @@
+pub mod Records
 pub mod Shares
 pub mod Opening
 pub mod Answers

@@ -1,15 +1,16 @@
 -- Opening a relation on an allocator (the source's `with_allocator`): the first does to the slots what fresh does, later
 -- ones leave slots and wire count as they are. Assumes nothing.
-use Rattle.std.specs.Prelude.{ℕ, ◌+◌, List, [], ◌∷◌, ◌++◌, ltb, leb, length}
+use Rattle.std.specs.Prelude.{ℕ, ◌+◌, List, [], ◌∷◌, ◌++◌, Result, Ok, Err, ltb, leb, length}
 use Rattle.limits.specs.Questions.{Question, question, first_no, pick, on_yes}
 use Rattle.limits.specs.Outcome.{outcome_of}
+use Rattle.limits.specs.declared.Refused.{Refused}
 use Rattle.allocator.specs.Slots.{fit_asks}
 use Rattle.permutation.specs.Relation.{new_relation_asks_with}
 use Rattle.permutation.specs.Answers.{fresh_slots, fresh_uses}
 use Rattle.sharing.specs.Shares.{max_relations, any_opened}
 use Rattle.sharing.specs.declared.VarAllocator.{VarAllocator}
 use Rattle.sharing.specs.declared.SharedRelation.{SharedRelation}
-use Rattle.sharing.specs.declared.Opened.{Opened}
+use Rattle.sharing.specs.Records.{Opened}
 
 -- what an opening puts in after the store's 2: of the wire count where a relation is opened, of the allocator, and 42, is
 -- there a number left?
@@ -30,6 +31,11 @@ with_allocator_no a width len uses = first_no (with_allocator_asks a width len u
 abbrev pub new_shared : (width quota : ℕ) → SharedRelation
 new_shared width quota =
     record { width = width; queries = 0; equations = 0; words = 0; stray = 0; quota = quota; obtained = 0 }
+
+-- the number and record that an opening came to, with the allocator beside them; refused, a number and a record of zeros
+abbrev pub opened_on : Result (ℕ × SharedRelation) Refused → VarAllocator → Opened
+opened_on (Ok made) a = record { outcome = Ok tt; index = made.0; allocator = a; relation = made.1 }
+opened_on (Err e) a = record { outcome = Err e; index = 0; allocator = a; relation = new_shared 0 0 }
 
 -- the allocator afterwards: one relation more, and the first makes one wire
 abbrev pub one_opened : VarAllocator → VarAllocator

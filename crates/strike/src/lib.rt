@@ -19,29 +19,21 @@ pub fn strike_words(s: &mut [u32], at: usize, n: usize, end: usize)
     if end - at < n {
         return;
     }
-    let last = end - n;
-    let mut i = at;
-    while i < last {
-        s[i] = s[i + n];
-        i += 1;
-    }
-    let stop = last + n;
-    words::fill(&mut s[last..stop], 0);
+    s.copy_within(at + n..end, at);
+    words::fill(&mut s[end - n..end], 0);
 }
 
-// Where n equations end, or one past the end of the words where they don't end within them.
-pub fn end_within(held: &[u32], n: u32) -> usize
+// Where n equations end, or none where they don't end within the words.
+pub fn end_within(held: &[u32], n: u32) -> Option<usize>
     ensures { result ≡ end_within n held.now }
 {
     let mut at: usize = 0;
-    let mut left = n;
-    while 0 < left {
+    for _ in 0..n {
         let size = held::size_at(held, at);
         if held.len() - at < size {
-            return held.len() + 1;
+            return None;
         }
         at += size;
-        left -= 1;
     }
-    at
+    Some(at)
 }

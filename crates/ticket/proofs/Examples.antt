@@ -3,10 +3,10 @@ use Prim.Native.Nat.{ℕ}
 use mathlib.Core.Path.{◌≡◌, refl}
 use mathlib.Core.List.{List, [], ◌∷◌, ◌++◌}
 use lib.ListN.{replicate}
+use Rattle.std.specs.Prelude.{Some, None}
 use Rattle.ticket.specs.Form.{blank, newline, ticket_line, read_line}
 use Rattle.ticket.specs.Steps.{grams_to_steps}
 use Rattle.ticket.specs.declared.Ticket.{Ticket}
-use Rattle.ticket.specs.declared.Line.TheVariants as line
 
 abbrev ticket : (wire grams : ℕ) → Ticket
 ticket wire grams = record { wire = wire; grams = grams }
@@ -26,16 +26,16 @@ pub record Examples : Type 0 where
   pub line_of : ticket_line (ticket 1 25)
       ≡ 32 ∷ 32 ∷ 32 ∷ 32 ∷ 32 ∷ 32 ∷ 32 ∷ 32 ∷ 32 ∷ 49 ∷ 32
       ∷ 32 ∷ 32 ∷ 32 ∷ 32 ∷ 32 ∷ 32 ∷ 32 ∷ 32 ∷ 32 ∷ 32 ∷ 50 ∷ 53 ∷ 10 ∷ []
-  pub right : read_line (joined one twenty-five) ≡ line.Of (ticket 1 25)
-  pub noughts : read_line (joined (replicate 9 blank ++ (48 ∷ [])) (replicate 11 blank ++ (48 ∷ []))) ≡ line.Of (ticket 0 0)
-  pub nines : read_line (joined (replicate 10 57) (replicate 12 57)) ≡ line.Of (ticket 9999999999 999999999999)
-  pub two-noughts : read_line (joined (replicate 8 blank ++ (48 ∷ 48 ∷ [])) twenty-five) ≡ line.Bad
-  pub leading-nought : read_line (joined one (replicate 10 blank ++ (48 ∷ 53 ∷ []))) ≡ line.Bad
-  pub no-wire : read_line (joined (replicate 10 blank) twenty-five) ≡ line.Bad
-  pub no-grams : read_line (joined one (replicate 12 blank)) ≡ line.Bad
-  pub blank-on-the-right : read_line (joined (replicate 8 blank ++ (49 ∷ blank ∷ [])) twenty-five) ≡ line.Bad
-  pub blank-inside : read_line (joined one (replicate 9 blank ++ (50 ∷ blank ∷ 53 ∷ []))) ≡ line.Bad
-  pub no-newline : read_line (one ++ (blank ∷ twenty-five)) ≡ line.Bad
+  pub right : read_line (joined one twenty-five) ≡ Some (ticket 1 25)
+  pub noughts : read_line (joined (replicate 9 blank ++ (48 ∷ [])) (replicate 11 blank ++ (48 ∷ []))) ≡ Some (ticket 0 0)
+  pub nines : read_line (joined (replicate 10 57) (replicate 12 57)) ≡ Some (ticket 9999999999 999999999999)
+  pub two-noughts : read_line (joined (replicate 8 blank ++ (48 ∷ 48 ∷ [])) twenty-five) ≡ None
+  pub leading-nought : read_line (joined one (replicate 10 blank ++ (48 ∷ 53 ∷ []))) ≡ None
+  pub no-wire : read_line (joined (replicate 10 blank) twenty-five) ≡ None
+  pub no-grams : read_line (joined one (replicate 12 blank)) ≡ None
+  pub blank-on-the-right : read_line (joined (replicate 8 blank ++ (49 ∷ blank ∷ [])) twenty-five) ≡ None
+  pub blank-inside : read_line (joined one (replicate 9 blank ++ (50 ∷ blank ∷ 53 ∷ []))) ≡ None
+  pub no-newline : read_line (one ++ (blank ∷ twenty-five)) ≡ None
   pub steps-0 : grams_to_steps 0 ≡ 0
   pub steps-24 : grams_to_steps 24 ≡ 0
   pub steps-25 : grams_to_steps 25 ≡ 1

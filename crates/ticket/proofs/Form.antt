@@ -16,11 +16,10 @@ use lib.Arith.{mod-mul}
 use lib.ListN.{length}
 use Rattle.limits.specs.Questions.{pick}
 use Rattle.limits.proofs.Below.{both_true, true-both}
+use Rattle.std.specs.Prelude.{Option, Some, None}
 use Rattle.ticket.specs.Form.{blank, last_digit, last_or_blank, right_or_blank, justified, line_length, ticket_line, Of}
 use Rattle.ticket.specs.Form.{spelled, spelled_ticket, same_bytes, read_line}
 use Rattle.ticket.specs.declared.Ticket.{Ticket}
-use Rattle.ticket.specs.declared.Line.{Line}
-use Rattle.ticket.specs.declared.Line.TheVariants as line
 
 -- ---- the same bytes
 same_bytes-eq : (s t : List ℕ) → same_bytes s t ≡ true → s ≡ t
@@ -99,27 +98,27 @@ spelled-of t bytes e z =
       line = e;
     }
 
-bad-not-of : (t : Ticket) → line.Bad ≡ line.Of t → ⊥
+bad-not-of : (t : Ticket) → None ≡ Some t → ⊥
 bad-not-of t e = absurd (let z : ◌≡◌ {A = ℕ} 0 1 = cc in omega arith)
 
-pub of-read : (t : Ticket) (bytes : List ℕ) → Of t bytes → read_line bytes ≡ line.Of t
+pub of-read : (t : Ticket) (bytes : List ℕ) → Of t bytes → read_line bytes ≡ Some t
 unfolding read_line
 of-read t bytes o =
     let e : same_bytes bytes (ticket_line t) ≡ true = rw o.line (eq-same_bytes (ticket_line t)) in
     rw (of-spelled t bytes o, e)
 
-pub read_of : (t : Ticket) (bytes : List ℕ) → read_line bytes ≡ line.Of t → Of t bytes
+pub read_of : (t : Ticket) (bytes : List ℕ) → read_line bytes ≡ Some t → Of t bytes
 unfolding read_line
 read_of t bytes e = go (same_bytes bytes (ticket_line (spelled_ticket bytes))) refl e
   where
-    go : (b : Bool) → same_bytes bytes (ticket_line (spelled_ticket bytes)) ≡ b → pick b (line.Of (spelled_ticket bytes)) line.Bad ≡ line.Of t
+    go : (b : Bool) → same_bytes bytes (ticket_line (spelled_ticket bytes)) ≡ b → pick b (Some (spelled_ticket bytes)) None ≡ Some t
         → Of t bytes
     go true z e =
         let same : spelled_ticket bytes ≡ t = cc in
         spelled-of t bytes (same_bytes-eq _ _ z ∙ ap ticket_line same) same
     go false z e = absurd (bad-not-of t e)
 
-pub read-iff : (t : Ticket) (bytes : List ℕ) → (read_line bytes ≡ line.Of t) ↔ Of t bytes
+pub read-iff : (t : Ticket) (bytes : List ℕ) → (read_line bytes ≡ Some t) ↔ Of t bytes
 read-iff t bytes = (read_of t bytes, of-read t bytes)
 
 -- no line is of two tickets
@@ -127,12 +126,12 @@ pub one-ticket : (t u : Ticket) (bytes : List ℕ) → Of t bytes → Of u bytes
 one-ticket t u bytes o p = sym (of-spelled t bytes o) ∙ of-spelled u bytes p
 
 -- a line is bad exactly where it is of no ticket
-pub none-bad : (bytes : List ℕ) → ((t : Ticket) → Of t bytes → ⊥) → read_line bytes ≡ line.Bad
+pub none-bad : (bytes : List ℕ) → ((t : Ticket) → Of t bytes → ⊥) → read_line bytes ≡ None
 none-bad bytes none = go (read_line bytes) refl
   where
-    go : (r : Line) → read_line bytes ≡ r → read_line bytes ≡ line.Bad
-    go (line.Of t) e = absurd (none t (read_of t bytes e))
-    go line.Bad e = e
+    go : (r : Option Ticket) → read_line bytes ≡ r → read_line bytes ≡ None
+    go (Some t) e = absurd (none t (read_of t bytes e))
+    go None e = e
 
-pub bad-iff : (bytes : List ℕ) → (read_line bytes ≡ line.Bad) ↔ ((t : Ticket) → Of t bytes → ⊥)
+pub bad-iff : (bytes : List ℕ) → (read_line bytes ≡ None) ↔ ((t : Ticket) → Of t bytes → ⊥)
 bad-iff bytes = (λ e t o. bad-not-of t (sym e ∙ of-read t bytes o), none-bad bytes)

@@ -3,11 +3,9 @@
 -- `ticket_line` is the form. `read_line` is the same as a reading that one could run: it takes the numbers that the columns
 -- spell, and takes the line only where it is theirs. The laws (proofs/Form.antt) say that a line is read as a ticket exactly
 -- where it is that ticket's (`Of`), and that no line is of two; what is not in the form is of none. Assumes nothing.
-use Rattle.std.specs.Prelude.{ℕ, zero, suc, ◌+◌, ◌-◌, ◌*◌, ◌/◌, ◌%◌, ◌^◌, ◌<◌, ◌≡◌, Bool, true, false, ◌&&◌, List, [], ◌∷◌, ◌++◌, eqb, take, drop}
+use Rattle.std.specs.Prelude.{ℕ, Option, Some, None, zero, suc, ◌+◌, ◌-◌, ◌*◌, ◌/◌, ◌%◌, ◌^◌, ◌<◌, ◌≡◌, Bool, true, false, ◌&&◌, List, [], ◌∷◌, ◌++◌, eqb, take, drop}
 use Rattle.limits.specs.Questions.{pick}
 use Rattle.ticket.specs.declared.Ticket.{Ticket}
-use Rattle.ticket.specs.declared.Line.{Line}
-use Rattle.ticket.specs.declared.Line.TheVariants as line
 
 -- ---- the form
 -- a blank
@@ -76,5 +74,5 @@ same_bytes (a ∷ s) [] = false
 same_bytes (a ∷ s) (b ∷ t) = eqb a b && same_bytes s t
 
 -- what a line is read as: the ticket that its columns spell where the line is that ticket's, else no ticket
-unfoldable pub read_line : List ℕ → Line
-read_line bytes = pick (same_bytes bytes (ticket_line (spelled_ticket bytes))) (line.Of (spelled_ticket bytes)) line.Bad
+unfoldable pub read_line : List ℕ → Option Ticket
+read_line bytes = pick (same_bytes bytes (ticket_line (spelled_ticket bytes))) (Some (spelled_ticket bytes)) None

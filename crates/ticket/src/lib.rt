@@ -31,20 +31,6 @@ pub struct Ticket {
     pub grams: u64,
 }
 
-// What a line is read as.
-#[derive(Clone, Copy)]
-pub enum Line {
-    Of(Ticket),
-    Bad,
-}
-
-// What columns are read as.
-#[derive(Clone, Copy)]
-enum Column {
-    Number(u64),
-    Bad,
-}
-
 // Grams as steps.
 pub fn grams_to_steps(grams: u64) -> u64
     ensures { result ≡ grams_to_steps grams }
@@ -56,72 +42,63 @@ pub fn grams_to_steps(grams: u64) -> u64
     whole + 1
 }
 
-// A digit behind the number n.
-fn with_digit(n: u64, b: u8) -> Column
+// A digit behind the number n; None where it is no digit.
+fn with_digit(n: u64, b: u8) -> Option<u64>
     requires { n < 10 ^ 11 }
     ensures { result ≡ with_digit n b }
 {
     if b < ZERO {
-        return Column::Bad;
+        return None;
     }
     if NINE < b {
-        return Column::Bad;
+        return None;
     }
-    Column::Number(n * 10 + (b - ZERO) as u64)
+    Some(n * 10 + (b - ZERO) as u64)
 }
 
 // A column behind the number n that is not the last: while n is 0 a blank may stand there and no 0.
 #[tactic(auto, unfolding(crate::specs::Scan::with_column))]
-fn with_column(n: u64, b: u8) -> Column
+fn with_column(n: u64, b: u8) -> Option<u64>
     requires { n < 10 ^ 11 }
     ensures { result ≡ with_column n b }
 {
     if n == 0 {
         if b == BLANK {
-            return Column::Number(0);
+            return Some(0);
         }
         if b == ZERO {
-            return Column::Bad;
+            return None;
         }
     }
     with_digit(n, b)
 }
 
 // The number in `columns` and the last column behind them.
-fn number_in(columns: &[u8], last: u8) -> Column
+fn number_in(columns: &[u8], last: u8) -> Option<u64>
     requires { length columns.now ≤ 11 }
     ensures { result ≡ scanned columns.now last }
 {
     let mut n: u64 = 0;
-    let mut i = 0;
-    while i < columns.len() {
-        let Column::Number(m) = with_column(n, columns[i]) else {
-            return Column::Bad;
-        };
-        n = m;
-        i += 1;
+    for b in columns {
+        n = with_column(n, *b)?;
     }
     with_digit(n, last)
 }
 
 // Which ticket a line is of, if it is any's.
-pub fn read_line(line: &[u8]) -> Line
+pub fn read_line(line: &[u8]) -> Option<Ticket>
     ensures { result ≡ read_line line.now }
 {
     if line.len() != LINE {
-        return Line::Bad;
+        return None;
     }
     if line[10] != BLANK {
-        return Line::Bad;
+        return None;
     }
     if line[23] != NEWLINE {
-        return Line::Bad;
+        return None;
     }
-    let Column::Number(wire) = number_in(&line[0..9], line[9]) else {
-        return Line::Bad;
-    };
-    let Column::Number(grams) = number_in(&line[11..22], line[22]) else {
-        return Line::Bad;
-    };
-    Line::Of(Ticket { wire, grams })
+    let wire = number_in(&line[0..9], line[9])?;
+    let grams = number_in(&line[11..22], line[22])?;
+    Some(Ticket { wire, grams })
 }

@@ -3,10 +3,10 @@
 use Prim.Native.Nat.{ℕ}
 use mathlib.Core.Path.{◌≡◌, refl}
 use mathlib.Core.List.{List, [], ◌∷◌, ◌++◌}
+use Rattle.std.specs.Prelude.{Err, Ok}
+use Rattle.limits.specs.Outcome.{Outcome, refusal}
 use Rattle.limits.specs.Numbers.{unassigned}
-use Rattle.limits.specs.Questions.{ask, ◌▸◌}
-use Rattle.limits.specs.declared.Outcome.{Outcome}
-use Rattle.limits.specs.declared.Outcome.TheVariants.{Accepted, Refused}
+use Rattle.limits.specs.Questions.{ask, first_of_two}
 use Rattle.allocator.specs.Slots.{set_items}
 use Rattle.permutation.specs.Answers.{relation}
 use Rattle.ticket.specs.Form.{ticket_line, read_line}
@@ -34,24 +34,24 @@ pub record Example (width : ℕ) (text : List ℕ) (outcome : Outcome) (accepted
 
 pub record Examples : Type 0 where
   -- 25 g is 1 step, and 100,663,296,024 g are p − 1
-  pub both : Example 1 (line 1 25 ++ line 2 100663296024) Accepted 2 2 1 2013265920
+  pub both : Example 1 (line 1 25 ++ line 2 100663296024) (Ok tt) 2 2 1 2013265920
   -- one gram more is 41, but not where the wire is 3
-  pub too_much : Example 1 (line 1 25 ++ line 2 100663296025) (Refused 41) 1 1 1 unassigned
-  pub too_wide : Example 1 (line 1 25 ++ line 9999999999 999999999999) (Refused 3) 1 1 1 unassigned
+  pub too_much : Example 1 (line 1 25 ++ line 2 100663296025) (Err (refusal 41)) 1 1 1 unassigned
+  pub too_wide : Example 1 (line 1 25 ++ line 9999999999 999999999999) (Err (refusal 3)) 1 1 1 unassigned
   -- a text that is cut short: 40 when that line is reached, and not before
-  pub cut : Example 1 (line 1 25 ++ (32 ∷ [])) (Refused 40) 1 1 1 unassigned
-  pub reached : Example 1 (line 3 25 ++ (32 ∷ [])) (Refused 7) 0 0 unassigned unassigned
+  pub cut : Example 1 (line 1 25 ++ (32 ∷ [])) (Err (refusal 40)) 1 1 1 unassigned
+  pub reached : Example 1 (line 3 25 ++ (32 ∷ [])) (Err (refusal 7)) 0 0 unassigned unassigned
   -- the same count again is repeated, and another is refused
-  pub again : Example 1 (line 1 25 ++ line 1 74) Accepted 2 1 1 unassigned
-  pub other : Example 1 (line 1 25 ++ (line 1 75 ++ line 2 25)) (Refused 8) 1 1 1 unassigned
+  pub again : Example 1 (line 1 25 ++ line 1 74) (Ok tt) 2 1 1 unassigned
+  pub other : Example 1 (line 1 25 ++ (line 1 75 ++ line 2 25)) (Err (refusal 8)) 1 1 1 unassigned
   -- wire 0 with 0 is repeated; nothing is counted past the refused line
-  pub zero-wire : Example 1 (line 0 0 ++ (line 2 25 ++ (line 0 25 ++ line 1 25))) (Refused 8) 2 1 unassigned 1
+  pub zero-wire : Example 1 (line 0 0 ++ (line 2 25 ++ (line 0 25 ++ line 1 25))) (Err (refusal 8)) 2 1 unassigned 1
   -- no text, and a width that 1 turns away
-  pub none : Example 1 [] Accepted 0 0 unassigned unassigned
-  pub widthless : Example 0 (line 1 25) (Refused 1) 0 0 unassigned unassigned
+  pub none : Example 1 [] (Ok tt) 0 0 unassigned unassigned
+  pub widthless : Example 0 (line 1 25) (Err (refusal 1)) 0 0 unassigned unassigned
 
 pub examples : Examples
-unfolding ask ◌▸◌ set_items ticket_line read_line grams_to_steps lines_of line_no set_tickets_run
+unfolding ask first_of_two set_items ticket_line read_line grams_to_steps lines_of line_no set_tickets_run
 examples =
     record {
       both = record { answer = refl; leaves = refl };

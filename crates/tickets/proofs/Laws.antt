@@ -9,7 +9,7 @@ use borrow.Author.Tests.{ltb-true}
 use lib.Dec.{ltb}
 use lib.ListN.{length, take}
 use Rattle.limits.specs.Numbers.{prime, max_count}
-use Rattle.limits.specs.Questions.{ask, ◌▸◌, first_no}
+use Rattle.limits.specs.Questions.{ask, first_of_two, ◌▸◌, first_no}
 use Rattle.limits.proofs.Questions.{first_no-append}
 use Rattle.allocator.specs.Slots.{Pair, slot_takes, pair_no}
 use Rattle.allocator.specs.Values.{joins}
@@ -28,7 +28,7 @@ use Rattle.tickets.specs.Left.{line_left, set_tickets_left, set_tickets_set}
 -- a line is only accepted where its pair is
 as-pair : (form wire steps held takes : Bool) → ask 40 form ▸ (ask 3 wire ▸ (ask 41 steps ▸ (ask 7 held ▸ (ask 8 takes ▸ 0)))) ≡ 0
     → ask 3 wire ▸ (ask 4 steps ▸ (ask 7 held ▸ (ask 8 takes ▸ 0))) ≡ 0
-unfolding ask ◌▸◌
+unfolding ask first_of_two
 as-pair false b c d e z = absurd (omega arith)
 as-pair true false c d e z = absurd (omega arith)
 as-pair true true false d e z = absurd (omega arith)

@@ -1,5 +1,4 @@
 pub mod Lines
-pub mod Items
 pub mod Laws
 pub mod Written
 pub mod Meaning

@@ -8,8 +8,9 @@ use mathlib.Core.List.{List, [], ◌∷◌, ◌++◌, map}
 use native.Mathlib.Omega.{arith}
 use lib.Dec.{eqb, ltb}
 use lib.ListN.{length, take}
+use Rattle.std.specs.Prelude.{Option, Some, None}
 use Rattle.limits.specs.Numbers.{prime, max_count}
-use Rattle.limits.specs.Questions.{pick, ask, ◌▸◌, first_no, on_yes}
+use Rattle.limits.specs.Questions.{pick, ask, first_of_two, ◌▸◌, first_no, on_yes}
 use Rattle.words.specs.Store.{All}
 use Rattle.allocator.specs.Slots.{is_fresh, slot_takes, pair_no, SetRun, ran, run_after, set_items, set_run, one_accepted, with_pair}
 use Rattle.allocator.proofs.Run.{accepted-all}
@@ -17,8 +18,6 @@ use Rattle.permutation.specs.Relation.{relation_asks}
 use Rattle.permutation.specs.declared.PermutationRelation.{PermutationRelation}
 use Rattle.ticket.specs.Form.{Of, read_line}
 use Rattle.ticket.specs.declared.Ticket.{Ticket}
-use Rattle.ticket.specs.declared.Line.{Line}
-use Rattle.ticket.specs.declared.Line.TheVariants as line
 use Rattle.ticket.proofs.Form.{read_of, bad-iff}
 use Rattle.tickets.specs.Lines.{lines_of, is_ticket, ticket_pair, line_pair, ticket_asks, line_no}
 use Rattle.tickets.specs.Tickets.{set_tickets_run, set_tickets}
@@ -26,7 +25,7 @@ use Rattle.tickets.specs.Tickets.{set_tickets_run, set_tickets}
 -- ---- 40 is answered exactly where the line is no ticket's
 forty : (form wire steps held takes : Bool) → ask 40 form ▸ (ask 3 wire ▸ (ask 41 steps ▸ (ask 7 held ▸ (ask 8 takes ▸ 0)))) ≡ 40
     → form ≡ false
-unfolding ask ◌▸◌
+unfolding ask first_of_two
 forty false b c d e z = refl
 forty true false c d e z = absurd (omega arith)
 forty true true false d e z = absurd (omega arith)
@@ -34,33 +33,33 @@ forty true true true false e z = absurd (omega arith)
 forty true true true true false z = absurd (omega arith)
 forty true true true true true z = absurd (omega arith)
 
-not-ticket : (r : Line) → is_ticket r ≡ false → r ≡ line.Bad
-not-ticket (line.Of t) e = cc
-not-ticket line.Bad e = refl
+not-ticket : (r : Option Ticket) → is_ticket r ≡ false → r ≡ None
+not-ticket (Some t) e = cc
+not-ticket None e = refl
 
 pub line-40 : (n : ℕ) (slots bytes : List ℕ) → (line_no n slots bytes ≡ 40) ↔ ((t : Ticket) → Of t bytes → ⊥)
-unfolding line_no ask ◌▸◌
+unfolding line_no ask first_of_two
 line-40 n slots bytes = (
   λ e.
       (bad-iff bytes).0
       (not-ticket (read_line bytes)
       (forty (is_ticket (read_line bytes)) (ltb (line_pair bytes).var max_count) (ltb (line_pair bytes).value prime)
       (ltb (line_pair bytes).var n) (slot_takes slots (line_pair bytes)) e)),
-  λ f. let b : read_line bytes ≡ line.Bad = (bad-iff bytes).1 f in rw b,
+  λ f. let b : read_line bytes ≡ None = (bad-iff bytes).1 f in rw b,
 )
 
 -- ---- the lines that are counted are tickets' lines, and set what they say
 pub record Counted (bytes : List ℕ) : Type 0 where
   pub ticket : Ticket
   pub of : Of ticket bytes
-  pub sets : line_pair bytes ≡ ticket_pair (line.Of ticket)
+  pub sets : line_pair bytes ≡ ticket_pair (Some ticket)
 
-is-ticket : (bytes : List ℕ) (r : Line) → read_line bytes ≡ r → is_ticket r ≡ true → Counted bytes
-is-ticket bytes (line.Of t) e b = record { ticket = t; of = read_of t bytes e; sets = ap ticket_pair e }
-is-ticket bytes line.Bad e b = absurd (false≢true b)
+is-ticket : (bytes : List ℕ) (r : Option Ticket) → read_line bytes ≡ r → is_ticket r ≡ true → Counted bytes
+is-ticket bytes (Some t) e b = record { ticket = t; of = read_of t bytes e; sets = ap ticket_pair e }
+is-ticket bytes None e b = absurd (false≢true b)
 
 formed : (form : Bool) (k : ℕ) → ask 40 form ▸ k ≡ 0 → form ≡ true
-unfolding ask ◌▸◌
+unfolding ask first_of_two
 formed true k z = refl
 formed false k z = absurd (omega arith)
 
@@ -87,7 +86,7 @@ in_place r = ran (pick (eqb r.number 4) 41 r.number) r.accepted r.fresh r.slots
 same_number : (form wire steps held takes : Bool) → form ≡ true
     → ask 40 form ▸ (ask 3 wire ▸ (ask 41 steps ▸ (ask 7 held ▸ (ask 8 takes ▸ 0))))
     ≡ (let k = ask 3 wire ▸ (ask 4 steps ▸ (ask 7 held ▸ (ask 8 takes ▸ 0))) in pick (eqb k 4) 41 k)
-unfolding ask ◌▸◌
+unfolding ask first_of_two
 same_number false b c d e f = cc
 same_number true false c d e f = refl
 same_number true true false d e f = refl
@@ -124,10 +123,10 @@ like-pairs n slots (bytes ∷ lines) t =
     (like-pairs n (with_pair slots p) lines t.1)
 
 -- a line that is no ticket's ends the run with 40, where no line before it did
-pub up-to-bad : (n : ℕ) (slots : List ℕ) (lines : List (List ℕ)) (bytes : List ℕ) (rest : List (List ℕ)) → read_line bytes ≡ line.Bad
+pub up-to-bad : (n : ℕ) (slots : List ℕ) (lines : List (List ℕ)) (bytes : List ℕ) (rest : List (List ℕ)) → read_line bytes ≡ None
     → set_items (line_no n) line_pair slots (lines ++ (bytes ∷ rest))
     ≡ (let r = set_items (line_no n) line_pair slots lines in ran (r.number ▸ 40) r.accepted r.fresh r.slots)
-unfolding set_items line_no ask ◌▸◌
+unfolding set_items line_no ask first_of_two
 up-to-bad n slots [] bytes rest e = rw e
 up-to-bad n slots (a ∷ lines) bytes rest e =
     go (line_no n slots a) (is_fresh slots (line_pair a)) _ _ (up-to-bad n (with_pair slots (line_pair a)) lines bytes rest e)

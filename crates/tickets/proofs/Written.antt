@@ -6,13 +6,13 @@ use mathlib.Core.List.{List, [], ◌∷◌, ◌++◌, map, append-nil}
 use native.Mathlib.Nat.{not-suc-le-zero}
 use native.Mathlib.Omega.{arith}
 use lib.ListN.{length, take, drop, length-drop, take-append-drop}
+use Rattle.std.specs.Prelude.{Some}
 use Rattle.words.specs.Store.{All}
 use Rattle.words.specs.Pieces.{pieces, flat}
 use Rattle.words.proofs.Held.{flat-length, pieces-flat}
 use Rattle.allocator.specs.Slots.{Pair}
 use Rattle.ticket.specs.Form.{wire_columns, grams_columns, ticket_line}
 use Rattle.ticket.specs.declared.Ticket.{Ticket}
-use Rattle.ticket.specs.declared.Line.TheVariants as line
 use Rattle.ticket.proofs.Form.{of-read, line-length}
 use Rattle.tickets.specs.Lines.{lines_of, ticket_pair, line_pair}
 
@@ -46,10 +46,10 @@ lines-written ts =
     ap₂ (λ (k : ℕ) (s : List ℕ). pieces 24 k s) n (sym (append-nil (flat qs))) ∙ pieces-flat 24 qs [] (written ts)
 
 pub pairs-written : (ts : List Ticket) → All Fits ts
-    → map line_pair (lines_of (flat (map ticket_line ts))) ≡ map (λ t. ticket_pair (line.Of t)) ts
+    → map line_pair (lines_of (flat (map ticket_line ts))) ≡ map (λ t. ticket_pair (Some t)) ts
 pairs-written ts f = ap (map line_pair) (lines-written ts) ∙ go ts f
   where
-    go : (ts : List Ticket) → All Fits ts → map line_pair (map ticket_line ts) ≡ map (λ t. ticket_pair (line.Of t)) ts
+    go : (ts : List Ticket) → All Fits ts → map line_pair (map ticket_line ts) ≡ map (λ t. ticket_pair (Some t)) ts
     go [] f = refl
     go (t ∷ ts) f =
         ap₂ (λ (p : Pair) (ps : List Pair). p ∷ ps)

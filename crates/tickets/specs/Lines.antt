@@ -1,27 +1,26 @@
 -- The lines of a ticket text, the pair that each sets, and what is asked of it (document 02, R-1: "lines act in order
 -- like a set list"). Assumes nothing.
-use Rattle.std.specs.Prelude.{ℕ, ◌+◌, ◌/◌, Bool, true, false, List, ◌∷◌, length}
+use Rattle.std.specs.Prelude.{ℕ, ◌+◌, ◌/◌, Bool, true, false, List, ◌∷◌, length, Option, Some, None}
 use Rattle.limits.specs.Questions.{Question, question, first_no}
 use Rattle.words.specs.Pieces.{pieces}
 use Rattle.allocator.specs.Slots.{Pair, pair, setting_asks, slot_takes, SetRun, set_items, items_asks}
 use Rattle.ticket.specs.Form.{line_length, read_line}
 use Rattle.ticket.specs.Steps.{grams_to_steps}
-use Rattle.ticket.specs.declared.Line.{Line}
-use Rattle.ticket.specs.declared.Line.TheVariants as line
+use Rattle.ticket.specs.declared.Ticket.{Ticket}
 
 -- a text's lines: every 24 bytes one, and what is left at the end where it is cut short
 unfoldable pub lines_of : List ℕ → List (List ℕ)
 lines_of text = pieces line_length ((length text + 23) / line_length) text
 
 -- is a line some ticket's?
-abbrev pub is_ticket : Line → Bool
-is_ticket (line.Of t) = true
-is_ticket line.Bad = false
+abbrev pub is_ticket : Option Ticket → Bool
+is_ticket (Some t) = true
+is_ticket None = false
 
 -- the pair that a ticket sets: its wire to its steps; of a line that is no ticket's, which 40 turns away, any
-abbrev pub ticket_pair : Line → Pair
-ticket_pair (line.Of t) = pair t.wire (grams_to_steps t.grams)
-ticket_pair line.Bad = pair 0 0
+abbrev pub ticket_pair : Option Ticket → Pair
+ticket_pair (Some t) = pair t.wire (grams_to_steps t.grams)
+ticket_pair None = pair 0 0
 
 -- the pair that a line sets
 abbrev pub line_pair : List ℕ → Pair

@@ -3,9 +3,9 @@
 // The text is lent, 24 bytes to a line, and gone over once. A line's wire is set to its steps; the first line that is
 // refused ends the call, and the lines before it stay set and are counted. Every open function answers on every input.
 
-#![tactic(auto)]
+#![tactic(auto, unfolding(limits::specs::Questions::ask, limits::specs::Questions::first_of_two, allocator::specs::Slots::pair_no, crate::specs::Lines::ticket_no, crate::specs::Lines::line_no, crate::specs::Tickets::set_tickets_run))]
 
-ghost use Rattle.std.specs.Prelude.{◌+◌, ◌≤◌, min, ◌≡◌};
+ghost use Rattle.std.specs.Prelude.{◌≡◌};
 ghost use Rattle.limits.specs.Outcome.{as_is};
 ghost use Rattle.allocator.specs.Slots.{pair};
 ghost use Rattle.allocator.specs.Assign.{SetsItem, how_far, Runs};
@@ -14,29 +14,25 @@ ghost use Rattle.tickets.specs.Tickets.{SetsTickets};
 
 use allocator::{FieldVar, Set, SetPairs};
 use baby_bear::BabyBearUnit;
-use limits::{MAX_COUNT, Outcome, P};
+use limits::{MAX_COUNT, P, Refused};
 use permutation::PermutationRelation;
-use ticket::{LINE, Line};
+use ticket::LINE;
 
 // A ticket text's outcome, how many of its first lines were accepted, and how many of those were fresh: as wide as a
-// length, as a text has no limit.
+// length, as a text has no limit. (Not in a Result, as `allocator::SetPairs`.)
 #[derive(Clone, Copy)]
 pub struct SetTickets {
-    pub outcome: Outcome,
+    pub outcome: Result<(), Refused>,
     pub accepted: usize,
     pub fresh: usize,
 }
 
 // A wire set to steps, both as wide as their columns. Questions 3, 41, 7, 8.
-fn set_steps(count: u32, slots: &mut [u32], wire: u64, steps: u64) -> Set
+fn set_steps(count: u32, slots: &mut [u32], wire: u64, steps: u64) -> Result<Set, Refused>
     ensures { SetsItem (ticket_no count) (λ p. p) slots.old (pair wire steps) result slots.new }
 {
-    if MAX_COUNT as u64 <= wire {
-        return Set::Refused(3);
-    }
-    if P as u64 <= steps {
-        return Set::Refused(41);
-    }
+    limits::ask(3, wire < MAX_COUNT as u64)?;
+    limits::ask(41, steps < P as u64)?;
     allocator::assign_var(
         count,
         slots,
@@ -46,84 +42,56 @@ fn set_steps(count: u32, slots: &mut [u32], wire: u64, steps: u64) -> Set
 }
 
 // One line. Questions 40, 3, 41, 7, 8.
-fn set_line(count: u32, slots: &mut [u32], line: &[u8]) -> Set
+fn set_line(count: u32, slots: &mut [u32], line: &[u8]) -> Result<Set, Refused>
     ensures { SetsItem (line_no count) line_pair slots.old line.now result slots.new }
 {
-    let Line::Of(t) = ticket::read_line(line) else {
-        return Set::Refused(40);
-    };
+    let t = ticket::read_line(line).ok_or(Refused(40))?;
     set_steps(count, slots, t.wire, ticket::grams_to_steps(t.grams))
-}
-
-// Where the line that begins at a place ends: after 24 bytes, or where the text does.
-fn line_end(at: usize, len: usize) -> usize
-    requires { at ≤ len }
-    ensures { result ≡ min (at + 24) len }
-{
-    if len - at < LINE {
-        return len;
-    }
-    at + LINE
 }
 
 // The lines of a text in turn, up to the first that is refused; earlier ones stay set.
 fn set_lines(count: u32, slots: &mut [u32], text: &[u8]) -> SetPairs
     ensures { Runs how_far (set_lines count slots.old text.now) result slots.new }
 {
-    let mut i: usize = 0;
+    let mut accepted: usize = 0;
     let mut fresh: usize = 0;
-    let mut at: usize = 0;
-    while at < text.len() {
-        let end = line_end(at, text.len());
-        // the tally where this line is accepted
-        let next = i + 1;
-        let set = set_line(count, slots, &text[at..end]);
-        let no = allocator::set_no(set);
-        if no != 0 {
-            return SetPairs {
-                number: no,
-                accepted: i,
-                fresh,
-            };
+    for line in text.chunks(LINE) {
+        match set_line(count, slots, line) {
+            Ok(set) => fresh += allocator::set_fresh(set),
+            Err(refused) => {
+                return SetPairs {
+                    outcome: Err(refused),
+                    accepted,
+                    fresh,
+                };
+            }
         }
-        fresh += allocator::set_fresh(set);
-        i = next;
-        at = end;
+        accepted += 1;
     }
     SetPairs {
-        number: 0,
-        accepted: i,
+        outcome: Ok(()),
+        accepted,
         fresh,
     }
 }
 
 // Set each wire that a text's ticket lines name to its steps. Questions 1 and 2, then 40, 3, 41, 7, 8 line by line.
-pub fn set_tickets(rel: PermutationRelation, slots: &mut [u32], text: &[u8]) -> SetTickets
-    ensures { SetsTickets as_is rel slots.old text.now result slots.new }
+pub fn set_tickets(rel: &PermutationRelation, slots: &mut [u32], text: &[u8]) -> SetTickets
+    ensures { SetsTickets as_is rel.now slots.old text.now result slots.new }
 {
-    let count = rel.vars;
-    let no = permutation::asked_relation(rel.width, count, slots.len());
-    if no != 0 {
-        return SetTickets {
-            outcome: Outcome::Refused(no),
+    match permutation::ask_relation(rel, slots.len()) {
+        Err(refused) => SetTickets {
+            outcome: Err(refused),
             accepted: 0,
             fresh: 0,
-        };
-    }
-    let run = set_lines(count, slots, text);
-    let no = run.number;
-    let accepted = run.accepted;
-    let fresh = run.fresh;
-    if no != 0 {
-        return SetTickets {
-            outcome: Outcome::Refused(no),
-            accepted,
-            fresh,
-        };
-    }
-    SetTickets {
-        outcome: Outcome::Accepted,
-        accepted,
-        fresh,
+        },
+        Ok(()) => {
+            let run = set_lines(rel.vars, slots, text);
+            SetTickets {
+                outcome: run.outcome,
+                accepted: run.accepted,
+                fresh: run.fresh,
+            }
+        }
     }
 }

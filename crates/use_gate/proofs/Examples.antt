@@ -5,7 +5,7 @@ use mathlib.Core.Path.{◌≡◌, refl}
 use mathlib.Core.Bool.{true, false}
 use mathlib.Core.List.{List, [], ◌∷◌}
 use Rattle.limits.specs.Numbers.{unassigned}
-use Rattle.limits.specs.Questions.{ask, ◌▸◌}
+use Rattle.limits.specs.Questions.{ask, first_of_two}
 use Rattle.words.specs.Store.{all_below}
 use Rattle.expr.specs.Equation.{Equation}
 use Rattle.validated.specs.Validated.{bound_by, validated_no}
@@ -50,7 +50,7 @@ pub record Examples : Type 0 where
   pub wrong-below : (walked (1 ∷ 2 ∷ []) ≡ 13) × (by (0 ∷ 1 ∷ 0 ∷ []) 0 ≡ 0)
 
 pub examples : Examples
-unfolding ask ◌▸◌ all_below validated_no used_no
+unfolding ask first_of_two all_below validated_no used_no
 examples =
     record {
       stray-cell = refl;

@@ -4,12 +4,14 @@
 // The terms are asked by `validated`'s walk. Words that a store lacks count as 0 and slots that are lacking as
 // unassigned, as in the definitions.
 
-#![tactic(auto)]
+#![tactic(auto, unfolding(limits::specs::Questions::ask, limits::specs::Questions::first_of_two, limits::specs::Below::all_below, crate::specs::UseGate::used_no))]
 
 ghost use Rattle.std.specs.Prelude.{◌≡◌};
-ghost use Rattle.limits.specs.Questions.{◌▸◌};
+ghost use Rattle.limits.specs.Outcome.{outcome_of};
 ghost use Rattle.expr.specs.Equation.{equations_at};
 ghost use Rattle.use_gate.specs.UseGate.{uses_below, used_no};
+
+use limits::Refused;
 
 // 13: is there no stray cell, and no count above 0 from the wire count on?
 fn uses_below(vars: u32, uses: &[u32], stray: u32) -> bool
@@ -25,24 +27,17 @@ fn uses_below(vars: u32, uses: &[u32], stray: u32) -> bool
     words::all_below(&uses[from..], 1)
 }
 
-// 13, then 14 and 15 of n equations in their words, after the answer so far; not looked at where an earlier
-// question said no. `slots` are those of the allocated wires.
-pub fn asked_used(
-    no: u32,
+// 13, then 14 and 15 of n equations in their words. `slots` are those of the allocated wires.
+pub fn ask_used(
     vars: u32,
     slots: &[u32],
     uses: &[u32],
     stray: u32,
     held: &[u32],
     n: u32,
-) -> u32
-    ensures { result ≡ no ▸ used_no vars slots.now uses.now stray (equations_at n held.now) }
+) -> Result<(), Refused>
+    ensures { result ≡ outcome_of (used_no vars slots.now uses.now stray (equations_at n held.now)) }
 {
-    if no != 0 {
-        return no;
-    }
-    if !uses_below(vars, uses, stray) {
-        return 13;
-    }
-    validated::asked_equations(vars, slots, uses, held, n)
+    limits::ask(13, uses_below(vars, uses, stray))?;
+    validated::ask_equations(vars, slots, uses, held, n)
 }

@@ -1,6 +1,6 @@
 -- What `count_cells` answers and leaves, by its cases: a cell has no room, or all are moved and a question says no, or
 -- none does. Assumes nothing.
-use Prim.Native.Nat.{ℕ, ◌+◌, ◌≤◌, ◌<◌}
+use Prim.Native.Nat.{ℕ, ◌+◌, ◌≤◌, ◌<◌, min}
 use mathlib.Core.Path.{◌≡◌, refl, sym, ap, ap₂, ◌∙◌}
 use mathlib.Core.Bool.{Bool, true, false, ◌&&◌}
 use mathlib.Core.List.{List, ◌++◌}
@@ -9,11 +9,15 @@ use borrow.Author.Tests.{lt-ltb, ltb-true, ltb-false, eqb-true, eqb-false, ne_eq
 use lib.Dec.{eqb, ltb}
 use lib.ListN.{length, get_or, take}
 use lib.Seq.{take_all}
+use Rattle.std.specs.Prelude.{Result, Ok, Err}
+use Rattle.std.specs.Result.{result_and}
 use Rattle.limits.specs.Numbers.{max_count}
-use Rattle.limits.specs.Questions.{pick, ask, ◌▸◌, first_no}
+use Rattle.limits.specs.Outcome.{Outcome, refusal, outcome_of, asked}
+use Rattle.limits.specs.Questions.{pick, ask, first_of_two, ◌▸◌, first_no}
+use Rattle.limits.specs.declared.Refused.{Refused}
 use Rattle.limits.proofs.Below.{both_true}
-use Rattle.limits.proofs.Questions.{ask-no, says-yes, both, goes_on, zero-▸, ▸-zero, on_yes-no}
-use Rattle.uses.specs.Uses.{times, strays, count_after, uses_after, count_fits, uses_fit, uses_asks, CountsCells}
+use Rattle.limits.proofs.Questions.{ask-no}
+use Rattle.uses.specs.Uses.{times, strays, count_after, count_fits, uses_fit, uses_asks, CountsCells}
 use Rattle.uses.specs.Moves.{inside, Moves, Words, TakesBack, all_at_most, stray_fits}
 use Rattle.uses.proofs.Counts.{strays-append, after-length}
 use Rattle.uses.proofs.Room.{inside-all}
@@ -52,61 +56,62 @@ module _ (strike : Bool) (len : ℕ) (uses : List ℕ) (stray : ℕ) (cells : Li
       go x h true z false w = refl
       go x h false z c w = beyond (named-stray len cells x (ltb-false x len z) h)
 
-module _ (strike : Bool) (len : ℕ) (uses : List ℕ) (stray : ℕ) (cells : List ℕ) (rest : ℕ) where
-  eleven : uses_fit strike len uses stray cells ≡ false → 11 ≡ first_no (uses_asks strike len uses stray cells) ▸ rest
-  unfolding ◌▸◌
-  eleven e = rw (ask-no 11 (uses_fit strike len uses stray cells) e)
+-- answers one after another, from the left or from the right
+and-assoc : {A : Type 0} (a b : Outcome) (c : Result A Refused) → result_and (result_and a b) c ≡ result_and a (result_and b c)
+and-assoc (Ok u) b c = refl
+and-assoc (Err e) b c = refl
 
+-- 11 and 10 as the code puts them: their first no
+and-first : (f w : Bool) → result_and (asked 11 f) (asked 10 w) ≡ outcome_of (ask 11 f ▸ (ask 10 w ▸ 0))
+unfolding ask first_of_two
+and-first true true = refl
+and-first true false = refl
+and-first false w = refl
+
+-- and what they say where none says no
+and-yes : (f w : Bool) (rest : Outcome) → result_and (result_and (asked 11 f) (asked 10 w)) rest ≡ Ok tt → (f ≡ true) × (w ≡ true)
+and-yes true true rest e = (refl, refl)
+and-yes true false rest e = cc
+and-yes false w rest e = cc
+
+pub asked-stray : (s t w : Bool) (rest : Outcome) → result_and (result_and (asked 11 (s && t)) (asked 10 w)) rest ≡ Ok tt → s ≡ true
+asked-stray s t w rest e = (both_true s t (and-yes (s && t) w rest e).0).0
+
+module _ (strike : Bool) (len : ℕ) (uses : List ℕ) (stray : ℕ) (cells : List ℕ) (rest : Outcome) where
   -- a cell has no room
   counts-none : (end : ℕ) (left : List ℕ) → end ≤ len → end ≤ length uses → Tries strike end uses cells false left
-      → CountsCells strike len uses stray cells rest (record { number = 11; stray = stray }) left
+      → CountsCells strike len uses stray cells rest (Err (refusal 11)) left
+  unfolding first_of_two
   counts-none end left h k t =
       let u = use-no strike len uses stray cells end h k (crowded-unfit strike end uses cells (t.had-none refl)) in
-      rw t.left_is (record { number = eleven u; stray-is = refl; uses-are = refl })
+      rw t.left_is (record { answer = rw (ask-no 11 (uses_fit strike len uses stray cells) u); uses-are = refl })
 
   -- all are moved, and the questions are asked
-  module _ (no : ℕ) (e : no ≡ first_no (uses_asks strike len uses stray cells)) where
-    counts-late : (number : ℕ) (left : List ℕ) → number ≡ no ▸ rest → (number ≡ 0 → ⊥) → left ≡ uses
-        → CountsCells strike len uses stray cells rest (record { number = number; stray = stray }) left
-    counts-late number left f n l = record {
-      number = f ∙ ap (λ (k : ℕ). k ▸ rest) e;
-      stray-is = sym (on_yes-no number (count_after strike stray (strays len cells)) stray n);
-      uses-are = l ∙ sym (on_yes-no number (uses_after strike uses cells) uses n);
-    }
+  module _ (said : Outcome) (e : said ≡ result_and (outcome_of (first_no (uses_asks strike len uses stray cells))) rest) where
+    told : {r : Outcome} → said ≡ r → (after : ℕ) → after ≡ count_after strike stray (strays len cells)
+        → result_and r (Ok after) ≡ result_and (outcome_of (first_no (uses_asks strike len uses stray cells))) (result_and rest (Ok (count_after strike stray (strays len cells))))
+    told was after s = ap₂ (λ (r : Outcome) (n : ℕ). result_and r (Ok n)) (sym was ∙ e) s ∙ and-assoc _ rest _
 
-    counts_all : (end after : ℕ) (left : List ℕ) → no ≡ 0 → rest ≡ 0 → length uses ≤ end
-        → left ≡ uses_after strike uses (inside end cells) → after ≡ count_after strike stray (strays len cells)
-        → CountsCells strike len uses stray cells rest (record { number = 0; stray = after }) left
-    counts_all end after left z y h l s = record {
-      number = sym y ∙ sym (goes_on no rest z) ∙ ap (λ (k : ℕ). k ▸ rest) e;
-      stray-is = s;
-      uses-are = l ∙ inside-all strike end uses cells h;
-    }
-
--- what the two questions say where none says no
-module _ (s q w : Bool) (one two : ℕ) (e : one ≡ 0 ▸ ask 11 (s && q)) (f : two ≡ one ▸ ask 10 w) (z : two ≡ 0) where
-  pub asked-stray : s ≡ true
-  asked-stray =
-      let b = both one (ask 10 w) (sym f ∙ z) in
-      (both_true s q (says-yes 10 (s && q) (both 0 (ask 11 (s && q)) (sym e ∙ b.0)).1)).0
-
-  pub asked-length : w ≡ true
-  asked-length = says-yes 9 w (both one (ask 10 w) (sym f ∙ z)).1
-
--- what `count_cells` answers once all cells are moved and 11 and 10 are asked, with the counts then, how many cells are
--- stray and the first no of the two
-pub record Cases (strike : Bool) (len : ℕ) (uses : List ℕ) (stray : ℕ) (cells : List ℕ) (rest end : ℕ) (moved : List ℕ) (by no : ℕ) : Type 0 where
-  pub refuses : (number : ℕ) (left : List ℕ) → number ≡ no ▸ rest → (number ≡ 0 → ⊥) → TakesBack strike end moved cells left
-      → CountsCells strike len uses stray cells rest (record { number = number; stray = stray }) left
-  pub accepts : (after : ℕ) → no ≡ 0 → rest ≡ 0 → after ≡ count_after strike stray by
-      → CountsCells strike len uses stray cells rest (record { number = 0; stray = after }) moved
+-- what `count_cells` answers once all cells are moved and 11, 10 and the rest are asked, with the counts then, how many
+-- cells are stray and what was said
+pub record Cases (strike : Bool) (len : ℕ) (uses : List ℕ) (stray : ℕ) (cells : List ℕ) (rest : Outcome) (end : ℕ) (moved : List ℕ) (by : ℕ) (said : Outcome) : Type 0 where
+  pub refuses : {e : Refused} (left : List ℕ) → said ≡ Err e → TakesBack strike end moved cells left
+      → CountsCells strike len uses stray cells rest (Err e) left
+  pub accepts : (after : ℕ) → said ≡ Ok tt → after ≡ count_after strike stray by
+      → CountsCells strike len uses stray cells rest (Ok after) moved
 
 -- ---- two lists
-module _ (strike : Bool) (len : ℕ) (uses : List ℕ) (stray : ℕ) (a b : List ℕ) (rest end : ℕ) (words : Words uses) (h : end ≤ len) (k : end ≤ length uses) where
+module _ (strike : Bool) (len : ℕ) (uses : List ℕ) (stray : ℕ) (a b : List ℕ) (rest : Outcome) (end : ℕ) (words : Words uses) (is : end ≡ min len (length uses)) where
+  h : end ≤ len
+  h = omega arith
+
+  k : end ≤ length uses
+  k = omega arith
+
   -- the first has a cell without room
   pub counts-first : (n : ℕ) (first left : List ℕ) → n < length a → Moves strike max_count end uses a n first
       → TakesBack strike end first (take n a) left
-      → CountsCells strike len uses stray (a ++ b) rest (record { number = 11; stray = stray }) left
+      → CountsCells strike len uses stray (a ++ b) rest (Err (refusal 11)) left
   counts-first n first left l m t =
       counts-none strike len uses stray (a ++ b) rest end left h k
       (first-none strike end a b uses false left refl (tried-none strike end uses a n first left words k l m t))
@@ -118,7 +123,7 @@ module _ (strike : Bool) (len : ℕ) (uses : List ℕ) (stray : ℕ) (a b : List
     -- the second has one
     pub counts-second : (o : ℕ) (second middle left : List ℕ) → o < length b → Moves strike max_count end first b o second
         → TakesBack strike end second (take o b) middle → TakesBack strike end middle a left
-        → CountsCells strike len uses stray (a ++ b) rest (record { number = 11; stray = stray }) left
+        → CountsCells strike len uses stray (a ++ b) rest (Err (refusal 11)) left
     counts-second o second middle left g d t u =
         let e = all_first.left_is in
         let w : Words first = rw e (words-after strike uses (inside end a) words (all_first.had-room refl)) in
@@ -142,7 +147,7 @@ module _ (strike : Bool) (len : ℕ) (uses : List ℕ) (stray : ℕ) (a b : List
       same : length second ≡ length uses
       same = ap length all_both.left_is ∙ after-length strike uses (inside end (a ++ b))
 
-      module _ (below : (x : ℕ) → x < len → x < length uses → x < end) (s t : Bool) (x : s ≡ stray_fits strike stray (i + j)) (y : t ≡ pick strike (all_at_most end second (a ++ b)) true) where
+      module _ (s t : Bool) (x : s ≡ stray_fits strike stray (i + j)) (y : t ≡ pick strike (all_at_most end second (a ++ b)) true) where
         fit_is : (s && t) ≡ uses_fit strike len uses stray (a ++ b)
         fit_is = go s refl t refl
           where
@@ -150,21 +155,26 @@ module _ (strike : Bool) (len : ℕ) (uses : List ℕ) (stray : ℕ) (a b : List
             beyond = ap (stray_fits strike stray) (sym by-is) ∙ sym x
 
             go : (c : Bool) → s ≡ c → (r : Bool) → t ≡ r → (c && r) ≡ uses_fit strike len uses stray (a ++ b)
-            go true e true f = sym (all_fit strike len uses stray (a ++ b) end below (beyond ∙ e) (most-fits strike end uses (a ++ b) second all_both k (sym y ∙ f)))
+            go true e true f = sym (all_fit strike len uses stray (a ++ b) end (λ x u v. omega arith) (beyond ∙ e) (most-fits strike end uses (a ++ b) second all_both k (sym y ∙ f)))
             go true e false f = sym (use-no strike len uses stray (a ++ b) end h k (most-unfit strike end uses (a ++ b) second all_both k (sym y ∙ f)))
             go false e r f = sym (stray-no strike len uses stray (a ++ b) (beyond ∙ e))
 
-        module _ (one no : ℕ) (e : one ≡ 0 ▸ ask 11 (s && t)) (f : no ≡ one ▸ ask 10 (eqb (length second) len)) where
-          no-is : no ≡ first_no (uses_asks strike len uses stray (a ++ b))
-          no-is = f ∙ ap₂ (λ (v : ℕ) (w : ℕ). v ▸ ask 10 (eqb w len)) (e ∙ zero-▸ _ ∙ ap (ask 11) fit_is) same ∙ simp ▸-zero
+        module _ (said : Outcome) (e : said ≡ result_and (result_and (asked 11 (s && t)) (asked 10 (eqb (length second) len))) rest) where
+          said-is : said ≡ result_and (outcome_of (first_no (uses_asks strike len uses stray (a ++ b)))) rest
+          said-is =
+              e ∙ ap (λ (o : Outcome). result_and o rest)
+              (and-first _ _ ∙ ap₂ (λ (f : Bool) (n : ℕ). outcome_of (ask 11 f ▸ (ask 10 (eqb n len) ▸ 0))) fit_is same)
 
-          pub counts-cases : Cases strike len uses stray (a ++ b) rest end second (i + j) no
+          pub counts-cases : Cases strike len uses stray (a ++ b) rest end second (i + j) said
           counts-cases = record {
-            refuses = λ number left z n u. counts-late strike len uses stray (a ++ b) rest no no-is number left z n
-                (u uses words k (all_both.had-room refl) all_both.left_is);
-            accepts = λ after z r u.
-                let w = eqb-true (length second) len (asked-length s t (eqb (length second) len) one no e f z) in
-                let n : end < length uses → ⊥ = λ v. let y = below end (omega (arith, same)) v in omega arith in
-                counts_all strike len uses stray (a ++ b) rest no no-is end after second z r (omega arith) all_both.left_is
-                (u ∙ ap (count_after strike stray) by-is);
+            refuses = λ left z u. record {
+              answer = told strike len uses stray (a ++ b) rest said said-is z (count_after strike stray (strays len (a ++ b))) refl;
+              uses-are = u uses words k (all_both.had-room refl) all_both.left_is;
+            };
+            accepts = λ after z u.
+                let w = eqb-true (length second) len (and-yes (s && t) (eqb (length second) len) rest (sym e ∙ z)).1 in
+                record {
+                  answer = told strike len uses stray (a ++ b) rest said said-is z after (u ∙ ap (count_after strike stray) by-is);
+                  uses-are = all_both.left_is ∙ inside-all strike end uses (a ++ b) (omega (arith, same));
+                };
           }

@@ -5,7 +5,7 @@ use mathlib.Core.Path.{◌≡◌, refl}
 use mathlib.Core.Bool.{true, false}
 use mathlib.Core.List.{List, [], ◌∷◌}
 use Rattle.limits.specs.Numbers.{unassigned}
-use Rattle.limits.specs.Questions.{ask, ◌▸◌, first_no}
+use Rattle.limits.specs.Questions.{ask, first_of_two, first_no}
 use Rattle.uses.specs.Uses.{times, strays, uses_of, uses_after, stray_after, all_fit, uses_asks}
 
 -- 11 and 10 of a query struck, and joined
@@ -64,7 +64,7 @@ pub record Examples : Type 0 where
   pub stray-above : struck (one-used 1) 1073741826 beyond ≡ 11
 
 pub examples : Examples
-unfolding ask ◌▸◌ times strays uses_of uses_after all_fit
+unfolding ask first_of_two times strays uses_of uses_after all_fit
 examples =
     record {
       fresh = refl;

@@ -131,9 +131,6 @@ Upto strike most end uses cells i left =
     (left ≡ uses_after strike uses (inside end (take i cells))) × Roomy strike most uses (inside end (take i cells))
 
 module _ (strike : Bool) (most end : ℕ) (uses cells : List ℕ) (fits : end ≤ length uses) where
-  pub upto-length : (i : ℕ) (left : List ℕ) → Upto strike most end uses cells i left → length left ≡ length uses
-  upto-length i left u = ap length u.0 ∙ after-length strike uses (inside end (take i cells))
-
   pub upto-none : Upto strike most end uses cells 0 uses
   unfolding inside uses_after times
   upto-none = (refl, λ x h. omega arith)
@@ -182,9 +179,6 @@ module _ (strike : Bool) (most end : ℕ) (uses cells : List ℕ) (fits : end �
           had-room = u.1;
           stops = λ k. record { wire = x; below = l; more = omega arith };
         }
-
-  pub upto-end : (i : ℕ) (left : List ℕ) → i ≤ length cells → length cells ≤ i → Upto strike most end uses cells i left → Moves strike most end uses cells i left
-  upto-end i left h k u = record { within = h; left_is = u.0; had-room = u.1; stops = λ l. absurd (omega arith) }
 
 -- ---- back again
 back : (strike : Bool) (n k : ℕ) → k ≤ room strike max_count n → count_after (not strike) (count_after strike n k) k ≡ n

@@ -1,9 +1,11 @@
 -- Use counts (document 02, R-6): over a store of len slots, for each slot how many query cells name its wire, and the
 -- stray count, of the cells that name wires beyond the store. Assumes nothing.
-use Rattle.std.specs.Prelude.{ℕ, zero, suc, ◌+◌, ◌-◌, ◌≡◌, Bool, true, false, ◌&&◌, List, [], ◌∷◌, eqb, ltb, leb, length, get_or, set}
+use Rattle.std.specs.Prelude.{ℕ, zero, suc, ◌+◌, ◌-◌, ◌≡◌, Bool, true, false, ◌&&◌, List, [], ◌∷◌, eqb, ltb, leb, length, get_or, set, Result, Ok}
+use Rattle.std.specs.Result.{result_and}
 use Rattle.limits.specs.Numbers.{max_count}
-use Rattle.limits.specs.Questions.{pick, ◌▸◌, Question, question, first_no, on_yes}
-use Rattle.uses.specs.declared.Recount.{Recount}
+use Rattle.limits.specs.Outcome.{Outcome, outcome_of, is_accepted}
+use Rattle.limits.specs.Questions.{pick, Question, question, first_no}
+use Rattle.limits.specs.declared.Refused.{Refused}
 
 -- ---- worked out afresh
 -- how many of the cells name a wire
@@ -80,9 +82,8 @@ length_asks len uses = question 10 (eqb uses len) ∷ []
 abbrev pub uses_asks : Bool → (len : ℕ) → (uses : List ℕ) → (stray : ℕ) → (cells : List ℕ) → List Question
 uses_asks strike len uses stray cells = question 11 (uses_fit strike len uses stray cells) ∷ length_asks len (length uses)
 
--- what `count_cells` ensures: the first no of 11, 10 and what is asked after them; at 0 the counts with the cells struck
--- or joined, else as they were
-pub record CountsCells (strike : Bool) (len : ℕ) (uses : List ℕ) (stray : ℕ) (cells : List ℕ) (rest : ℕ) (r : Recount) (left : List ℕ) : Type 0 where
-  pub number : r.number ≡ first_no (uses_asks strike len uses stray cells) ▸ rest
-  pub stray-is : r.stray ≡ on_yes r.number (stray_after strike len stray cells) stray
-  pub uses-are : left ≡ on_yes r.number (uses_after strike uses cells) uses
+-- what `count_cells` ensures: the first no of 11, 10 and what is asked after them, else the stray count afterwards; the
+-- counts with the cells struck or joined where it is accepted, else as they were
+pub record CountsCells (strike : Bool) (len : ℕ) (uses : List ℕ) (stray : ℕ) (cells : List ℕ) (rest : Outcome) (r : Result ℕ Refused) (left : List ℕ) : Type 0 where
+  pub answer : r ≡ result_and (outcome_of (first_no (uses_asks strike len uses stray cells))) (result_and rest (Ok (stray_after strike len stray cells)))
+  pub uses-are : left ≡ pick (is_accepted r) (uses_after strike uses cells) uses

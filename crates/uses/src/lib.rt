@@ -6,19 +6,12 @@
 
 #![tactic(auto)]
 
-ghost use Rattle.std.specs.Prelude.{◌≡◌, true, ◌++◌, ℕ, ◌≤◌, ◌<◌, ltb, length, take};
+ghost use Rattle.std.specs.Prelude.{◌≡◌, true, ◌++◌, ◌≤◌, ltb, length, take, is_some, IfSome};
 ghost use Rattle.limits.specs.Questions.{pick};
 ghost use Rattle.uses.specs.Uses.{strays, count_fits, count_after, CountsCells};
 ghost use Rattle.uses.specs.Moves.{MovesCell, Moves, TakesBack, cell_at_most, all_at_most, stray_fits};
 
-use limits::{MAX_COUNT, UNASSIGNED};
-
-// A query's cells struck from the counts or joined to them: the number, and the stray count afterwards.
-#[derive(Clone, Copy)]
-pub struct Recount {
-    pub number: u32,
-    pub stray: u32,
-}
+use limits::{MAX_COUNT, Refused, UNASSIGNED};
 
 // 0 where the test says yes, else 1.
 fn one_unless(says: bool) -> usize
@@ -69,51 +62,36 @@ fn stray_after(strike: bool, stray: u32, by: usize) -> u32
     (held + by) as u32
 }
 
-// A cell: whether it is moved, and then 1 where it is stray.
-#[derive(Clone, Copy)]
-struct Cell {
-    moved: bool,
-    strays: usize,
-}
-
-// One cell struck, or joined up to `most`, where its wire is below end. Not moved where its count has no room.
-fn move_cell(strike: bool, most: u32, end: usize, len: usize, uses: &mut [u32], x: u32) -> Cell
+// One cell struck, or joined up to `most`, where its wire is below end: 1 where it is stray, else 0. None, and nothing
+// moved, where its count has no room.
+fn move_cell(
+    strike: bool,
+    most: u32,
+    end: usize,
+    len: usize,
+    uses: &mut [u32],
+    x: u32,
+) -> Option<usize>
     requires { (end ≤ length uses.old) × (end ≤ len) }
-    ensures { MovesCell strike most end uses.old x result.moved uses.new × (result.moved ≡ true → result.strays ≡ pick (ltb x len) 0 1) × (result.strays ≤ 1) }
+    ensures { MovesCell strike most end uses.old x (is_some result) uses.new × IfSome result (λ s. (s ≡ pick (ltb x len) 0 1) × (s ≤ 1)) }
 {
     let at = x as usize;
     if end <= at {
-        let stray = one_unless(at < len);
-        return Cell {
-            moved: true,
-            strays: stray,
-        };
+        return Some(one_unless(at < len));
     }
     let n = uses[at];
     if strike {
         if n == 0 {
-            return Cell {
-                moved: false,
-                strays: 0,
-            };
+            return None;
         }
         uses[at] = n - 1;
-        return Cell {
-            moved: true,
-            strays: 0,
-        };
+        return Some(0);
     }
     if most <= n {
-        return Cell {
-            moved: false,
-            strays: 0,
-        };
+        return None;
     }
     uses[at] = n + 1;
-    Cell {
-        moved: true,
-        strays: 0,
-    }
+    Some(0)
 }
 
 // A list's cells: how many are moved, and how many of those are stray.
@@ -136,21 +114,15 @@ fn move_cells(
     ensures { Moves strike most end uses.old cells.now result.n uses.new × (result.strays ≡ strays len (take result.n cells.now)) × (result.strays ≤ result.n) }
 {
     let mut strays: usize = 0;
-    let mut i = 0;
-    while i < cells.len() {
-        let cell = move_cell(strike, most, end, len, uses, cells[i]);
-        if !cell.moved {
-            return Moved {
-                n: i,
-                strays: strays,
-            };
-        }
-        strays += cell.strays;
-        i += 1;
+    for (i, x) in cells.iter().enumerate() {
+        let Some(stray) = move_cell(strike, most, end, len, uses, *x) else {
+            return Moved { n: i, strays };
+        };
+        strays += stray;
     }
     Moved {
-        n: i,
-        strays: strays,
+        n: cells.len(),
+        strays,
     }
 }
 
@@ -183,18 +155,14 @@ fn cell_at_most(end: usize, uses: &[u32], x: u32) -> bool
     uses[at] <= MAX_COUNT
 }
 
-// Are those of all cells? (Each is looked at, so that the loop has no exit of its own.)
+// Are those of all cells? (Each is looked at, so that the fold has no exit of its own.)
 fn at_most(end: usize, uses: &[u32], cells: &[u32]) -> bool
     requires { end ≤ length uses.now }
     ensures { result ≡ all_at_most end uses.now cells.now }
 {
-    let mut all = true;
-    let mut i = 0;
-    while i < cells.len() {
-        all = all & cell_at_most(end, uses, cells[i]);
-        i += 1;
-    }
-    all
+    cells
+        .iter()
+        .fold(true, |all, x| all & cell_at_most(end, uses, *x))
 }
 
 // Is every count below end that the cells of both lists have changed from 0 to 2^30? A join's is.
@@ -210,18 +178,8 @@ fn both_at_most(strike: bool, end: usize, uses: &[u32], a: &[u32], b: &[u32]) ->
     first & second
 }
 
-// The lesser of two lengths.
-fn lesser(a: usize, b: usize) -> usize
-    ensures { (result ≤ a) × (result ≤ b) × ((x : ℕ) → x < a → x < b → x < result) }
-{
-    if a <= b {
-        return a;
-    }
-    b
-}
-
-// A query's cells, inputs a and outputs b, struck from the counts of a store of len slots or joined to them. Questions
-// 11 and 10, and then `rest`, the number of those that are asked after them. A refusal leaves every count as it was.
+// A query's cells, inputs a and outputs b, struck from the counts of a store of len slots or joined to them: the stray
+// count afterwards. Questions 11 and 10, and then `rest`, what is asked after them. A refusal leaves every count as it was.
 pub fn count_cells(
     strike: bool,
     len: usize,
@@ -229,44 +187,32 @@ pub fn count_cells(
     stray: u32,
     a: &[u32],
     b: &[u32],
-    rest: u32,
-) -> Recount
+    rest: Result<(), Refused>,
+) -> Result<u32, Refused>
     ensures { CountsCells strike len uses.old stray (a.now ++ b.now) rest result uses.new }
 {
-    let end = lesser(len, uses.len());
+    let end = len.min(uses.len());
     let first = move_cells(strike, MAX_COUNT, end, len, uses, a);
     let n = first.n;
     if n < a.len() {
         take_back(strike, end, uses, &a[..n]);
-        return Recount {
-            number: 11,
-            stray: stray,
-        };
+        return Err(Refused(11));
     }
     let second = move_cells(strike, MAX_COUNT, end, len, uses, b);
     let m = second.n;
     if m < b.len() {
         take_back(strike, end, uses, &b[..m]);
         take_back(strike, end, uses, a);
-        return Recount {
-            number: 11,
-            stray: stray,
-        };
+        return Err(Refused(11));
     }
     let by = first.strays + second.strays;
     let fit = stray_fits(strike, stray, by) & both_at_most(strike, end, uses, a, b);
-    let no = limits::asked(0, fit, 11);
-    let no = limits::asked(no, uses.len() == len, 10);
-    if (no == 0) & (rest == 0) {
-        let after = stray_after(strike, stray, by);
-        return Recount {
-            number: 0,
-            stray: after,
-        };
+    let asked = limits::ask(11, fit)
+        .and(limits::ask(10, uses.len() == len))
+        .and(rest);
+    if let Err(refused) = asked {
+        take_both_back(strike, end, uses, a, b);
+        return Err(refused);
     }
-    take_both_back(strike, end, uses, a, b);
-    Recount {
-        number: if no != 0 { no } else { rest },
-        stray: stray,
-    }
+    Ok(stray_after(strike, stray, by))
 }

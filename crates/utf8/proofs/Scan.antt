@@ -8,10 +8,11 @@ use mathlib.Core.Logic.{◌↔◌, ◌⊎◌, inl, inr}
 use mathlib.Core.List.{List, [], ◌∷◌}
 use native.Mathlib.Omega.{arith}
 use native.Mathlib.Numerals.{add-one}
-use borrow.Author.Tests.{lt-ltb, le-ltb, eq-eqb, ne_eqb}
-use lib.Dec.{eqb}
+use borrow.Author.Tests.{lt-ltb, le-ltb, ltb-true, eq-eqb, ne_eqb}
+use lib.Dec.{eqb, ltb}
 use lib.ListN.{length, drop, get_or, drop_of_length-le}
 use lib.Seq.{drop-cons}
+use Rattle.std.specs.List.{fold}
 use Rattle.utf8.specs.Utf8.{Range, After, asks, on_row, follow, Utf8, is_utf8}
 use Rattle.utf8.specs.Place.{FirstBad, after_byte, one_more, good_bytes, first_bad, scan_utf8}
 use Rattle.utf8.specs.Scan.{fits, byte_before, whole_at, fits_at, Each, Fit, Ascii}
@@ -22,9 +23,6 @@ use Rattle.utf8.proofs.Window.{side, asked, b-below, c-below, fits-yes, fits_not
 
 -- ---- bytes one after the other
 module _ (P : ℕ → Type 0) (i j : ℕ) where
-  pub each_none : j ≤ i → Each P i j
-  each_none h k p q = absurd (omega arith)
-
   pub each-join : (l : ℕ) → Each P i j → Each P j l → Each P i l
   each-join l f g k p q = go (side k j)
     where
@@ -43,6 +41,18 @@ module _ (P : ℕ → Type 0) (i j : ℕ) where
   each-so-far l e all now f one both =
       let t = (and-eq-true_iff all now).0 both in
       each_more l e (f t.0) (one t.1)
+
+-- as a fold asked whether each is below 80
+pub ascii-folded : (s : List ℕ) (all : Bool) → fold (λ (t : Bool) (b : ℕ). t && ltb b 0x80) all s ≡ true → (all ≡ true) × Ascii s 0 (length s)
+ascii-folded [] all e = (e, λ k p q. absurd (omega arith))
+ascii-folded (b ∷ s) all e =
+    let later = ascii-folded s (all && ltb b 0x80) e in
+    let t = (and-eq-true_iff all (ltb b 0x80)).0 later.0 in
+    (t.0, go (ltb-true b 0x80 t.1) later.1)
+  where
+    go : b < 0x80 → Ascii s 0 (length s) → Ascii (b ∷ s) 0 (length (b ∷ s))
+    go h f zero p q = h
+    go h f (suc k) p q = f k (omega arith) (omega arith)
 
 module _ (s : List ℕ) where
   -- ---- the bytes before a place, one place on

@@ -1,4 +1,4 @@
-pub mod Bound
+pub mod Asked
 pub mod Terms
 pub mod Marks
 pub mod Gate

@@ -2,18 +2,23 @@
 -- Assumes nothing.
 use Prim.Native.Nat.{ℕ, zero, suc, ◌+◌, ◌-◌, ◌≤◌, ◌<◌}
 use mathlib.Core.Path.{◌≡◌, refl, sym, ap, ◌∙◌}
-use mathlib.Core.Bool.{Bool, true, false, ◌||◌, or-true}
+use mathlib.Core.Bool.{Bool, true, ◌||◌, or-true, or-false}
 use mathlib.Core.List.{List, []}
 use native.Mathlib.Omega.{arith}
-use borrow.Author.Tests.{lt-ltb, le-ltb, eq-eqb, ne_eqb}
+use borrow.Author.Tests.{lt-ltb, ltb-true, eq-eqb, ne_eqb}
 use lib.Dec.{eqb, ltb}
 use lib.ListN.{length, drop, get_or, drop_of_length-le}
 use lib.Seq.{drop-drop}
-use Rattle.limits.specs.Questions.{ask, ◌▸◌, first_no}
-use Rattle.limits.proofs.Questions.{ask-yes, ask-no, stays, goes_on, join, first_no-append}
+use Rattle.std.specs.Prelude.{Ok, Err}
+use Rattle.limits.specs.Questions.{ask, first_of_two, ◌▸◌, first_no}
+use Rattle.limits.specs.Outcome.{Outcome, asked, outcome_of}
+use Rattle.limits.specs.declared.Refused.{Refused}
+use Rattle.limits.proofs.Questions.{ask-yes, goes_on, join, first_no-append}
+use Rattle.limits.proofs.Answered.{accepted-zero}
 use Rattle.expr.specs.Equation.{terms_at, equation_at, equations_at, size_at}
 use Rattle.validated.specs.Validated.{gate_terms_asks, termwise_asks}
 use Rattle.instance.proofs.Pairs.{at_first, terms-at}
+use Rattle.validated.proofs.Asked.{asked-no, asked-yes, asked-true}
 
 module _ (vars : ℕ) (binds : ℕ → Bool) where
   -- ---- terms
@@ -39,35 +44,43 @@ module _ (vars : ℕ) (binds : ℕ → Bool) where
     terms-done h = let z : n ≡ 0 = omega arith in rw z at e
 
     module _ (h : 0 < n) where
-      pub terms-beyond : vars ≤ get_or s i 0 → 14 ≡ whole
-      terms-beyond k =
-          let rest = ask 15 (binds (get_or s i 0) || eqb (get_or s (i + 1) 0) 0) ▸ terms_no (n - 1) (i + 2) s in
-          sym (terms-step s i n h ∙ ap (λ (m : ℕ). m ▸ rest) (ask-no 14 _ (le-ltb (get_or s i 0) vars k)) ∙ stays 14 rest (λ z. omega arith)) ∙ e
+      abbrev rest : ℕ
+      rest = ask 15 (binds (get_or s i 0) || eqb (get_or s (i + 1) 0) 0) ▸ terms_no (n - 1) (i + 2) s
 
-      module _ (k : get_or s i 0 < vars) where
-        below : terms_no n i s ≡ (ask 15 (binds (get_or s i 0) || eqb (get_or s (i + 1) 0) 0) ▸ terms_no (n - 1) (i + 2) s)
-        below = terms-step s i n h ∙ goes_on _ _ (ask-yes 14 _ (lt-ltb (get_or s i 0) vars k))
+      first : ask 14 (ltb (get_or s i 0) vars) ▸ rest ≡ whole
+      first = sym (terms-step s i n h) ∙ e
 
-        pub terms-lacking : length s ≤ i → 0 ≡ whole
-        unfolding terms_no
-        terms-lacking l =
-            let b : 0 < vars = omega arith in
-            sym (ap (λ (r : List ℕ). first_no (gate_terms_asks vars binds (terms_at n r))) (drop_of_length-le s l) ∙ zeros n b) ∙ e
+      -- 14 was put
+      module _ {r : Outcome} (is : r ≡ asked 14 (ltb (get_or s i 0) vars)) where
+        pub terms-beyond : {q : Refused} → r ≡ Err q → r ≡ outcome_of whole
+        terms-beyond was = asked-no 13 _ rest whole first is was
 
-        pub terms-unbound : (get_or s (i + 1) 0 ≡ 0 → ⊥) → binds (get_or s i 0) ≡ false → 15 ≡ whole
-        terms-unbound w b =
-            let t : (binds (get_or s i 0) || eqb (get_or s (i + 1) 0) 0) ≡ false = simp (b, ne_eqb (get_or s (i + 1) 0) 0 w) in
-            sym (below ∙ ap (λ (m : ℕ). m ▸ terms_no (n - 1) (i + 2) s) (ask-no 15 _ t) ∙ stays 15 _ (λ z. omega arith)) ∙ e
+        module _ {u : Unit {0}} (was : r ≡ Ok u) where
+          below : rest ≡ whole
+          below = asked-yes 13 _ rest whole first is was
 
-        pub terms-zero : get_or s (i + 1) 0 ≡ 0 → terms_no (n - 1) (i + 2) s ≡ whole
-        terms-zero w =
-            let t : (binds (get_or s i 0) || eqb (get_or s (i + 1) 0) 0) ≡ true = simp (eq-eqb (get_or s (i + 1) 0) 0 w, or-true) in
-            sym (below ∙ goes_on _ _ (ask-yes 15 _ t)) ∙ e
+          pub terms-lacking : length s ≤ i → 0 ≡ whole
+          unfolding terms_no
+          terms-lacking l =
+              let t : ltb (get_or s i 0) vars ≡ true = asked-true 14 _ is was in
+              let b : 0 < vars = omega (arith, ltb-true (get_or s i 0) vars t) in
+              sym (ap (λ (r : List ℕ). first_no (gate_terms_asks vars binds (terms_at n r))) (drop_of_length-le s l) ∙ zeros n b) ∙ e
 
-        pub terms-bound : binds (get_or s i 0) ≡ true → terms_no (n - 1) (i + 2) s ≡ whole
-        terms-bound b =
-            let t : (binds (get_or s i 0) || eqb (get_or s (i + 1) 0) 0) ≡ true = simp b in
-            sym (below ∙ goes_on _ _ (ask-yes 15 _ t)) ∙ e
+          pub terms-zero : get_or s (i + 1) 0 ≡ 0 → terms_no (n - 1) (i + 2) s ≡ whole
+          terms-zero w =
+              let t : (binds (get_or s i 0) || eqb (get_or s (i + 1) 0) 0) ≡ true = simp (eq-eqb (get_or s (i + 1) 0) 0 w, or-true) in
+              sym (goes_on _ _ (ask-yes 15 _ t)) ∙ below
+
+          -- 15 was put, of a weight that is not 0
+          module _ (w : get_or s (i + 1) 0 ≡ 0 → ⊥) {t : Outcome} (bound : t ≡ asked 15 (binds (get_or s i 0))) where
+            weighed : ask 15 (binds (get_or s i 0)) ▸ terms_no (n - 1) (i + 2) s ≡ whole
+            weighed = simp (ne_eqb (get_or s (i + 1) 0) 0 w, or-false) at below
+
+            pub terms-unbound : {q : Refused} → t ≡ Err q → t ≡ outcome_of whole
+            terms-unbound g = asked-no 14 _ _ whole weighed bound g
+
+            pub terms-bound : {v : Unit {0}} → t ≡ Ok v → terms_no (n - 1) (i + 2) s ≡ whole
+            terms-bound g = asked-yes 14 _ _ whole weighed bound g
 
   -- ---- equations
   unfoldable pub termwise_no : ℕ → ℕ → List ℕ → ℕ
@@ -99,10 +112,15 @@ module _ (vars : ℕ) (binds : ℕ → Bool) where
     equations-lacking l =
         sym (ap (λ (r : List ℕ). first_no (termwise_asks vars binds (equations_at n r))) (drop_of_length-le s l) ∙ nones n) ∙ e
 
-    module _ (h : 0 < n) (k : ℕ) (t : k ≡ terms_no (get_or s at 0) (at + 1) s) where
-      pub equations-no : (k ≡ 0 → ⊥) → k ≡ whole
-      equations-no z =
-          sym (equations-step s at n h ∙ ap (λ (m : ℕ). m ▸ termwise_no (n - 1) (at + size_at (drop at s)) s) (sym t) ∙ stays k _ z) ∙ e
+    -- the first equation's terms were asked
+    module _ (h : 0 < n) {r : Outcome} (is : r ≡ outcome_of (terms_no (get_or s at 0) (at + 1) s)) where
+      first-and-rest : (k : ℕ) (rest : ℕ) → k ▸ rest ≡ whole → r ≡ outcome_of k → {q : Refused} → r ≡ Err q → r ≡ outcome_of whole
+      unfolding first_of_two
+      first-and-rest zero rest w i was = cc
+      first-and-rest (suc k) rest w i was = i ∙ ap outcome_of w
 
-      pub equations-more : k ≡ 0 → termwise_no (n - 1) (at + size_at (drop at s)) s ≡ whole
-      equations-more z = sym (equations-step s at n h ∙ goes_on _ _ (sym t ∙ z)) ∙ e
+      pub equations-no : {q : Refused} → r ≡ Err q → r ≡ outcome_of whole
+      equations-no was = first-and-rest (terms_no (get_or s at 0) (at + 1) s) _ (sym (equations-step s at n h) ∙ e) is was
+
+      pub equations-more : {u : Unit {0}} → r ≡ Ok u → termwise_no (n - 1) (at + size_at (drop at s)) s ≡ whole
+      equations-more was = sym (equations-step s at n h ∙ goes_on _ _ (accepted-zero _ _ is was)) ∙ e

@@ -2,7 +2,8 @@
 -- Assumes nothing.
 use Rattle.std.specs.Prelude.{ℕ, ◌≡◌, Bool, not, ◌||◌, List, [], ◌∷◌, ◌++◌, eqb, ltb, leb, get_or, replicate}
 use Rattle.limits.specs.Numbers.{unassigned}
-use Rattle.limits.specs.Questions.{◌▸◌, Question, question, first_no}
+use Rattle.limits.specs.Questions.{Question, question, first_no}
+use Rattle.limits.specs.Outcome.{Outcome, outcome_of}
 use Rattle.words.specs.Store.{all_below}
 use Rattle.words.specs.Pieces.{flat}
 use Rattle.expr.specs.Equation.{Term, Equation}
@@ -54,7 +55,7 @@ gate_asks parts scratch = gate_asks_by (all_below parts.vars (flat parts.queries
 unfoldable pub gate_no : Parts → ℕ → ℕ
 gate_no parts scratch = first_no (gate_asks parts scratch)
 
--- what `asked_validated` ensures: their first no after the answer so far, and scratch all 0
-pub record AsksValidated (no : ℕ) (parts : Parts) (len r : ℕ) (left : List ℕ) : Type 0 where
-  pub answer : r ≡ no ▸ gate_no parts len
+-- what `ask_validated` ensures: accepted or refused with their first no, and scratch all 0
+pub record AsksValidated (parts : Parts) (len : ℕ) (r : Outcome) (left : List ℕ) : Type 0 where
+  pub answer : r ≡ outcome_of (gate_no parts len)
   pub scratch : left ≡ replicate len 0

@@ -6,10 +6,11 @@
 // is that of a relation's gate too (`use_gate`), with its slots and use counts. Words that a store lacks count
 // as 0 and slots that are lacking as unassigned, as in the definitions.
 
-#![tactic(auto)]
+#![tactic(auto, unfolding(limits::specs::Questions::ask, limits::specs::Questions::first_of_two))]
 
 ghost use Rattle.std.specs.Prelude.{◌≡◌, ◌≤◌, length, drop, get_or, replicate};
 ghost use Rattle.limits.specs.Numbers.{unassigned};
+ghost use Rattle.limits.specs.Outcome.{outcome_of};
 ghost use Rattle.limits.specs.Questions.{first_no};
 ghost use Rattle.expr.specs.Equation.{terms_at, equations_at};
 ghost use Rattle.instance.specs.Parts.{pair_vars, pairs_at, parts_of};
@@ -18,26 +19,22 @@ ghost use Rattle.validated.specs.Marks.{Marking};
 
 use held::{held_pieces, held_words, size_at, word_at};
 use instance::PermutationInstance;
-use limits::UNASSIGNED;
+use limits::{Refused, UNASSIGNED};
 
 // Mark the wires of the first n pairs. Is every one of them below the count?
 fn mark_publics(marks: &mut [u32], vars: u32, s: &[u32], n: u32) -> bool
     requires { vars ≤ length marks.old }
     ensures { Marking vars (pair_vars (pairs_at n s.now)) marks.old result marks.new }
 {
-    let mut i: usize = 0;
-    let mut left = n;
-    while 0 < left {
-        let x = word_at(s, i);
+    for i in 0..n as usize {
+        let x = word_at(s, 2 * i);
         if vars <= x {
             return false;
         }
         marks[x as usize] = 1;
-        if s.len() <= i {
+        if s.len() <= 2 * i {
             return true;
         }
-        i += 2;
-        left -= 1;
     }
     true
 }
@@ -47,14 +44,11 @@ fn mark_queries(marks: &mut [u32], vars: u32, s: &[u32]) -> bool
     requires { vars ≤ length marks.old }
     ensures { Marking vars s.now marks.old result marks.new }
 {
-    let mut i = 0;
-    while i < s.len() {
-        let x = s[i];
-        if vars <= x {
+    for x in s {
+        if vars <= *x {
             return false;
         }
-        marks[x as usize] = 1;
-        i += 1;
+        marks[*x as usize] = 1;
     }
     true
 }
@@ -80,99 +74,85 @@ fn is_bound(slots: &[u32], uses: &[u32], x: u32) -> bool
 }
 
 // 14 and 15 of the t terms from place `at` on.
-fn asked_terms(vars: u32, slots: &[u32], uses: &[u32], s: &[u32], at: usize, t: u32) -> u32
-    ensures { result ≡ first_no (gate_terms_asks vars (bound_by slots.now uses.now) (terms_at t (drop at s.now))) }
+fn ask_terms(
+    vars: u32,
+    slots: &[u32],
+    uses: &[u32],
+    s: &[u32],
+    at: usize,
+    t: u32,
+) -> Result<(), Refused>
+    ensures { result ≡ outcome_of (first_no (gate_terms_asks vars (bound_by slots.now uses.now) (terms_at t (drop at s.now)))) }
 {
     let mut i = at;
-    let mut left = t;
-    while 0 < left {
+    for _ in 0..t {
         let x = word_at(s, i);
-        if vars <= x {
-            return 14;
-        }
+        limits::ask(14, x < vars)?;
         if s.len() <= i {
-            return 0;
+            return Ok(());
         }
         if word_at(s, i + 1) != 0 {
-            if !is_bound(slots, uses, x) {
-                return 15;
-            }
+            limits::ask(15, is_bound(slots, uses, x))?;
         }
         i += 2;
-        left -= 1;
     }
-    0
+    Ok(())
 }
 
 // 14 and 15 of n equations in their words, equation by equation, with what slots and counts bind.
-pub fn asked_equations(vars: u32, slots: &[u32], uses: &[u32], s: &[u32], n: u32) -> u32
-    ensures { result ≡ first_no (termwise_asks vars (bound_by slots.now uses.now) (equations_at n s.now)) }
+pub fn ask_equations(
+    vars: u32,
+    slots: &[u32],
+    uses: &[u32],
+    s: &[u32],
+    n: u32,
+) -> Result<(), Refused>
+    ensures { result ≡ outcome_of (first_no (termwise_asks vars (bound_by slots.now uses.now) (equations_at n s.now))) }
 {
     let mut at: usize = 0;
-    let mut left = n;
-    while 0 < left {
+    for _ in 0..n {
         if s.len() <= at {
-            return 0;
+            return Ok(());
         }
-        let no = asked_terms(vars, slots, uses, s, at + 1, s[at]);
-        if no != 0 {
-            return no;
-        }
+        ask_terms(vars, slots, uses, s, at + 1, s[at])?;
         at += size_at(s, at);
-        left -= 1;
     }
-    0
+    Ok(())
 }
 
 // 16, then 12 to 15, with marks that are all 0.
 fn validated(
-    ins: PermutationInstance,
+    ins: &PermutationInstance,
     publics: &[u32],
     queries: &[u32],
     equations: &[u32],
     marks: &mut [u32],
-) -> u32
+) -> Result<(), Refused>
     requires { marks.old ≡ replicate (length marks.old) 0 }
-    ensures { result ≡ gate_no (parts_of ins publics.now queries.now equations.now) (length marks.old) }
+    ensures { result ≡ outcome_of (gate_no (parts_of ins.now publics.now queries.now equations.now) (length marks.old)) }
 {
     let vars = ins.vars;
-    let pairs = ins.publics;
-    let words = ins.words;
-    if marks.len() < vars as usize {
-        return 16;
-    }
-    if !mark_publics(marks, vars, held_words(publics, 2 * pairs as usize), pairs) {
-        return 12;
-    }
-    if !mark_queries(marks, vars, held_pieces(queries, ins.width, ins.queries)) {
-        return 13;
-    }
-    asked_equations(
-        vars,
-        &publics[..0],
-        marks,
-        held_words(equations, words as usize),
-        ins.equations,
-    )
+    let pairs = held_words(publics, 2 * ins.publics as usize);
+    let cells = held_pieces(queries, ins.width, ins.queries);
+    let terms = held_words(equations, ins.words as usize);
+    limits::ask(16, vars as usize <= marks.len())?;
+    limits::ask(12, mark_publics(marks, vars, pairs, ins.publics))?;
+    limits::ask(13, mark_queries(marks, vars, cells))?;
+    ask_equations(vars, &[], marks, terms, ins.equations)
 }
 
-// 16, then 12 to 15, after the answer so far; not looked at where an earlier question said no. Scratch may
-// hold anything before, and is all 0 afterwards.
-pub fn asked_validated(
-    no: u32,
-    ins: PermutationInstance,
+// 16, then 12 to 15. Scratch may hold anything before, and is all 0 afterwards.
+pub fn ask_validated(
+    ins: &PermutationInstance,
     publics: &[u32],
     queries: &[u32],
     equations: &[u32],
     scratch: &mut [u32],
-) -> u32
-    ensures { AsksValidated no (parts_of ins publics.now queries.now equations.now)
+) -> Result<(), Refused>
+    ensures { AsksValidated (parts_of ins.now publics.now queries.now equations.now)
         (length scratch.old) result scratch.new }
 {
     words::fill(scratch, 0);
-    if no != 0 {
-        return no;
-    }
     let answer = validated(ins, publics, queries, equations, scratch);
     words::fill(scratch, 0);
     answer

@@ -8,6 +8,7 @@ use borrow.Author.Tests.{leb-true}
 use lib.Dec.{leb, ltb}
 use lib.ListN.{length, take}
 use Rattle.limits.specs.Numbers.{prime, label_end}
+use Rattle.limits.specs.Outcome.{Outcome}
 use Rattle.limits.specs.Questions.{Question, question, ask, first_no, ◌▸◌}
 use Rattle.limits.specs.Asks.{width_asks, store_asks}
 use Rattle.limits.proofs.Questions.{says-yes, stays, goes_on, both, ▸-assoc, zero-▸, ▸-zero, first_no-append, accepted-says}
@@ -18,7 +19,7 @@ use Rattle.instance.specs.Parts.{held_publics, held_equations, parts_of}
 use Rattle.held.specs.Held.{parts_asks, parts_sound_asks, publics_sound, equations_sound}
 use Rattle.instance.specs.declared.PermutationInstance.{PermutationInstance}
 use Rattle.validity.specs.Check.{check_no}
-use Rattle.validity.specs.Valid.{size_asks, is_witness_valid_no}
+use Rattle.validity.specs.Valid.{size_asks, is_witness_valid_asks, is_witness_valid_no}
 use Rattle.validity.specs.Scratch.{Sound, AskedValid}
 
 -- ---- the calls in code, one after the other, put the questions of a list in parts
@@ -66,11 +67,14 @@ pub record Yes (ins : PermutationInstance) (publics queries equations : List ℕ
   pub sound : (len : ℕ) → len ≡ ins.vars → Sound ins publics queries steps trace len
 
 module _ {ins : PermutationInstance} {label publics queries equations : List ℕ} {steps : ℕ} {trace : List ℕ} {rounds : ℕ}
-    {params : List ℕ} {scratch k : ℕ} (a : AskedValid ins label publics queries equations steps trace rounds params scratch k) where
+    {params : List ℕ} {scratch : ℕ} {o : Outcome} (a : AskedValid ins label publics queries equations steps trace rounds params scratch o) where
+  abbrev k : ℕ
+  k = first_no (is_witness_valid_asks ins label publics queries equations steps trace rounds params scratch)
+
   -- a no stays
   pub valid-refused : (k ≡ 0 → ⊥) → k ≡ is_witness_valid_no ins label publics queries equations steps trace rounds params scratch
   unfolding is_witness_valid_no
-  valid-refused h = a.number ∙ sym (stays _ _ (λ z. h (a.number ∙ z)))
+  valid-refused h = sym (stays _ _ h)
 
   module _ (z : k ≡ 0) where
     pub valid-yes : Yes ins publics queries equations steps trace scratch
@@ -78,7 +82,7 @@ module _ {ins : PermutationInstance} {label publics queries equations : List ℕ
         let room = both _ _ (sym (valid-in-order
         (size_asks ins (length label) (length publics) (length queries) (length equations) steps (length trace) (length params) scratch)
         (parts_sound_asks ins label publics queries equations) (question 17 (sound_parameters ins.width rounds params))
-        (question 11 (all_below prime (take (words_of ins.width steps) trace))) (question 16 (leb ins.vars scratch))) ∙ sym a.number ∙ z) in
+        (question 11 (all_below prime (take (words_of ins.width steps) trace))) (question 16 (leb ins.vars scratch))) ∙ z) in
         let traced = both _ _ room.0 in
         let held = both _ _ traced.0 in
         let permuted = both _ _ held.0 in
@@ -99,8 +103,7 @@ module _ {ins : PermutationInstance} {label publics queries equations : List ℕ
         }
 
     -- nothing said no: the check's number
-    pub valid-checked : {n : ℕ}
-        → n ≡ check_no (is_evaluation ins.width rounds params) (parts_of ins publics queries equations) (steps_of ins.width steps trace)
-        → n ≡ is_witness_valid_no ins label publics queries equations steps trace rounds params scratch
+    pub valid-checked : check_no (is_evaluation ins.width rounds params) (parts_of ins publics queries equations) (steps_of ins.width steps trace)
+        ≡ is_witness_valid_no ins label publics queries equations steps trace rounds params scratch
     unfolding is_witness_valid_no
-    valid-checked c = c ∙ sym (goes_on _ _ (sym a.number ∙ z))
+    valid-checked = sym (goes_on _ _ z)

@@ -10,8 +10,9 @@ use lib.Dec.{eqb, lit<}
 use lib.ListN.{length, take, replicate, length-replicate}
 use lib.Seq.{length-take-le}
 use Rattle.limits.specs.Numbers.{prime}
+use Rattle.limits.specs.Outcome.{Outcome, outcome_of}
 use Rattle.limits.specs.Questions.{◌▸◌}
-use Rattle.limits.proofs.Questions.{stays, goes_on, ask-yes, ask-no, ▸-assoc}
+use Rattle.limits.proofs.Questions.{stays, goes_on, both, ask-yes, ask-no, ▸-assoc}
 use Rattle.limits.proofs.Below.{below-replicate}
 use Rattle.words.specs.Store.{all_below}
 use Rattle.words.specs.Pieces.{words_of, pieces, steps_of}
@@ -22,7 +23,7 @@ use Rattle.expr.specs.Equation.{equations_at}
 use Rattle.instance.specs.Parts.{held_publics, held_queries, held_equations, pairs_at, parts_of}
 use Rattle.held.specs.Held.{publics_sound}
 use Rattle.instance.specs.declared.PermutationInstance.{PermutationInstance}
-use Rattle.validity.specs.Check.{publics_no, equations_no, check_no, carried}
+use Rattle.validity.specs.Check.{publics_no, steps_no, equations_no, check_no, carried}
 use Rattle.validity.specs.Scratch.{value_at, are_entries, Walked, PublicsPut, StepsPut, AllPut, Sound}
 use Rattle.validity.proofs.Scratch.{nothing-entry}
 
@@ -47,8 +48,8 @@ module _ {ins : PermutationInstance} {publics queries : List ℕ} {steps : ℕ} 
     t-values : value_at t ≡ nothing
     t-values = ap value_at z ∙ nothing-entry len
 
-    pub publics-put : {n : ℕ} {u : List ℕ} → PublicsPut t (pairs_at ins.publics ps) n u
-        → Walked ins.vars (publics_no ins.vars pairs_held) (put_all nothing pairs_held) n u
+    pub publics-put : {o : Outcome} {u : List ℕ} → PublicsPut t (pairs_at ins.publics ps) o u
+        → Walked ins.vars (publics_no ins.vars pairs_held) (put_all nothing pairs_held) o u
     publics-put a = rw (t-long, t-values, p) at a
 
   -- the cells and units as they are lent
@@ -63,28 +64,29 @@ module _ {ins : PermutationInstance} {publics queries : List ℕ} {steps : ℕ} 
   )
 
   -- the publics are put
-  module _ (ev : List ℕ → Bool) (e : steps ≡ ins.queries) {n : ℕ} {u : List ℕ}
-      (a : Walked ins.vars (publics_no ins.vars pairs_held) (put_all nothing pairs_held) n u) where
-    pub all-stops : (n ≡ 0 → ⊥) → AllPut ev (parts_of ins publics queries []) (steps_of ins.width steps trace) n u
+  module _ (ev : List ℕ → Bool) (e : steps ≡ ins.queries) {o : Outcome} {u : List ℕ}
+      (a : Walked ins.vars (publics_no ins.vars pairs_held) (put_all nothing pairs_held) o u) where
+    pub all-stops : {o' : Outcome} → o' ≡ o → (publics_no ins.vars pairs_held ≡ 0 → ⊥)
+        → AllPut ev (parts_of ins publics queries []) (steps_of ins.width steps trace) o' u
     unfolding parts_of
-    all-stops h =
+    all-stops same h =
         record {
-          number = a.number ∙ sym (stays _ _ (λ y. h (a.number ∙ y)));
-          values = λ y. absurd (h y);
+          answer = same ∙ a.answer ∙ ap outcome_of (sym (stays _ _ h));
+          values = λ y. absurd (h (both _ _ y).0);
           long = a.long;
           units = a.units;
         }
 
     pub all-put : {cs us : List ℕ} → cs ≡ take (words_of ins.width steps) queries → us ≡ take (words_of ins.width steps) trace
-        → n ≡ 0 → {m : ℕ} {v : List ℕ}
-        → StepsPut ev u (pieces (ins.width + ins.width) steps cs) (pieces (ins.width + ins.width) steps us) m v
-        → AllPut ev (parts_of ins publics queries []) (steps_of ins.width steps trace) m v
+        → publics_no ins.vars pairs_held ≡ 0 → {o' : Outcome} {v : List ℕ}
+        → StepsPut ev u (pieces (ins.width + ins.width) steps cs) (pieces (ins.width + ins.width) steps us) o' v
+        → AllPut ev (parts_of ins publics queries []) (steps_of ins.width steps trace) o' v
     unfolding parts_of
     all-put c d y b =
         let w = rw (a.long, a.values y, c, d) at b in
         record {
-          number = rw (sym e) (w.number ∙ sym (goes_on _ _ (sym a.number ∙ y)));
-          values = rw (sym e) w.values;
+          answer = rw (sym e) (w.answer ∙ ap outcome_of (sym (goes_on _ _ y)));
+          values = rw (sym e) (λ z. w.values (sym (goes_on _ _ y) ∙ z));
           long = w.long;
           units = w.units;
         }
@@ -110,16 +112,23 @@ module _ (ev : List ℕ → Bool) (ins : PermutationInstance) (publics queries e
       sym (stays _ _ (λ z. absurd (let q : ⊥ = omega (arith, a, z) in q)) ∙ a)
 
   -- one step per query; publics and steps are put
-  module _ (e : steps ≡ ins.queries) {n : ℕ} {u : List ℕ}
-      (a : AllPut ev (parts_of ins publics queries []) (steps_of ins.width steps trace) n u) where
-    whole_is : whole_no ≡ n ▸ equations_no (carried (parts_of ins publics queries []) (steps_of ins.width steps trace)) (equations_at ins.equations (held_equations ins equations))
+  module _ (e : steps ≡ ins.queries) {o : Outcome} {u : List ℕ}
+      (a : AllPut ev (parts_of ins publics queries []) (steps_of ins.width steps trace) o u) where
+    -- their number
+    abbrev put_no : ℕ
+    put_no =
+        publics_no (parts_of ins publics queries []).vars (parts_of ins publics queries []).publics
+        ▸ steps_no ev (parts_of ins publics queries []).vars (put_all nothing (parts_of ins publics queries []).publics) (parts_of ins publics queries []).queries (steps_of ins.width steps trace)
+
+    whole_is : whole_no ≡ put_no ▸ equations_no (carried (parts_of ins publics queries []) (steps_of ins.width steps trace)) (equations_at ins.equations (held_equations ins equations))
     unfolding check_no parts_of
-    whole_is =
-        goes_on _ _ (ask-yes 31 _ (counts-are ∙ eq-eqb _ _ e)) ∙ sym (▸-assoc _ _ _)
-        ∙ ap (λ (k : ℕ). k ▸ equations_no (carried (parts_of ins publics queries []) (steps_of ins.width steps trace)) (equations_at ins.equations (held_equations ins equations))) (sym a.number)
+    whole_is = goes_on _ _ (ask-yes 31 _ (counts-are ∙ eq-eqb _ _ e)) ∙ sym (▸-assoc _ _ _)
 
-    pub check-stops : (n ≡ 0 → ⊥) → n ≡ whole_no
-    check-stops h = sym (whole_is ∙ stays _ _ h)
+    pub check-stops : {o' : Outcome} → o' ≡ o → (put_no ≡ 0 → ⊥) → o' ≡ outcome_of whole_no
+    unfolding parts_of
+    check-stops same h = same ∙ a.answer ∙ ap outcome_of (sym (whole_is ∙ stays _ _ h))
 
-    pub check-equations : n ≡ 0 → {es : List ℕ} → es ≡ held_equations ins equations → {k : ℕ} → k ≡ equations_no (value_at u) (equations_at ins.equations es) → k ≡ whole_no
-    check-equations z f g = (rw (a.values z, f) at g) ∙ sym (whole_is ∙ goes_on _ _ z)
+    pub check-equations : put_no ≡ 0 → {es : List ℕ} → es ≡ held_equations ins equations → {o' : Outcome}
+        → o' ≡ outcome_of (equations_no (value_at u) (equations_at ins.equations es)) → o' ≡ outcome_of whole_no
+    unfolding parts_of
+    check-equations z f g = (rw (a.values z, f) at g) ∙ ap outcome_of (sym (whole_is ∙ goes_on _ _ z))

@@ -46,9 +46,6 @@ next-at : (words : List ℕ) (at : ℕ) → drop (size_at (drop at words)) (drop
 next-at words at = drop-drop _ at words ∙ ap (λ (k : ℕ). drop (at + k) words) (size-at words at)
 
 module _ (g : Values) (words : List ℕ) (whole at : ℕ) where
-  pub equations-done : (left : ℕ) → EquationsLeft g words whole at left → left ≤ 0 → 0 ≡ whole
-  equations-done left w h = let z : left ≡ 0 = omega arith in (rw z at w).number
-
   pub equation-sound : (left : ℕ) → EquationsLeft g words whole at left → 0 < left
       → (at + size_at (drop at words) ≤ length words) × (all_below prime (term_weights (equation_at (drop at words)).terms) ≡ true)
   equation-sound zero w h = absurd (let z : ⊥ = omega arith in z)

@@ -3,15 +3,15 @@
 use Prim.Native.Nat.{ℕ}
 use mathlib.Core.Path.{◌≡◌, refl}
 use mathlib.Core.List.{List, [], ◌∷◌}
-use Rattle.limits.specs.Questions.{ask, ◌▸◌}
+use Rattle.std.specs.Prelude.{Err, Ok}
+use Rattle.limits.specs.Outcome.{Outcome, refusal}
+use Rattle.limits.specs.Questions.{ask, first_of_two}
 use Rattle.words.specs.Store.{all_below}
 use Rattle.baby_bear.specs.Field.{add_unit, mul_unit, power_unit, seventh, dot_units}
 use Rattle.utf8.specs.Utf8.{is_utf8, follow}
 use Rattle.expr.specs.Equation.{equation_at, size_at}
 use Rattle.permute.specs.Permute.{pairwise, on_kind, times_matrix, run_round, run_rounds}
 use Rattle.permute.specs.Parameters.{rounds_of, rows_of, sound_kinds, unit_constants, unit_rows, sound_parameters, permute_no, same_words, is_evaluation}
-use Rattle.limits.specs.declared.Outcome.{Outcome}
-use Rattle.limits.specs.declared.Outcome.TheVariants.{Accepted, Refused}
 use Rattle.instance.specs.Parts.{parts_of}
 use Rattle.held.specs.Held.{equations_sound, publics_sound}
 use Rattle.instance.specs.declared.PermutationInstance.{PermutationInstance}
@@ -41,6 +41,6 @@ instance_a steps trace =
     is_witness_valid (instance 3 2 1 4) [] (0 ∷ 0 ∷ 2 ∷ 5 ∷ []) (1 ∷ 2 ∷ []) (1 ∷ 1 ∷ 3 ∷ 6 ∷ []) steps trace 1 params 3
 
 pub batch-examples : unbound ∷ termless 0 ∷ termless 1 ∷ instance_a 1 (2 ∷ 5 ∷ []) ∷ instance_a 0 [] ∷ instance_a 1 (2 ∷ 6 ∷ []) ∷ instance_a 1 (3 ∷ 640 ∷ []) ∷ []
-    ≡ Refused 34 ∷ Accepted ∷ Refused 35 ∷ Accepted ∷ Refused 31 ∷ Refused 32 ∷ Refused 33 ∷ []
-unfolding ask ◌▸◌ all_below add_unit mul_unit power_unit seventh dot_units is_utf8 follow equation_at size_at pairwise on_kind times_matrix run_round run_rounds rounds_of rows_of sound_kinds unit_constants unit_rows sound_parameters permute_no same_words is_evaluation parts_of equations_sound publics_sound check_no is_witness_valid_no
+    ≡ Err (refusal 34) ∷ Ok tt ∷ Err (refusal 35) ∷ Ok tt ∷ Err (refusal 31) ∷ Err (refusal 32) ∷ Err (refusal 33) ∷ []
+unfolding ask first_of_two all_below add_unit mul_unit power_unit seventh dot_units is_utf8 follow equation_at size_at pairwise on_kind times_matrix run_round run_rounds rounds_of rows_of sound_kinds unit_constants unit_rows sound_parameters permute_no same_words is_evaluation parts_of equations_sound publics_sound check_no is_witness_valid_no
 batch-examples = refl

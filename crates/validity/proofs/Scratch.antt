@@ -1,7 +1,7 @@
 -- Words of scratch as what wires carry: one word, a word that is set, and words of 0; and a walk over them on
 -- its way. Assumes nothing.
 use Prim.Native.Nat.{ℕ, zero, suc, ◌-◌, ◌<◌}
-use mathlib.Core.Path.{◌≡◌, refl, sym, ap, ◌∙◌, fun_ext}
+use mathlib.Core.Path.{◌≡◌, refl, ap, ◌∙◌, fun_ext}
 use mathlib.Core.Bool.{Bool, true, false}
 use mathlib.Core.List.{List}
 use mathlib.Core.Option.{none, some}
@@ -10,6 +10,9 @@ use borrow.Author.Tests.{eqb-true, eqb-false}
 use lib.Dec.{eqb}
 use lib.ListN.{length, set, replicate}
 use lib.Seq.{get_or-set_same, get_or-set_other}
+use Rattle.std.specs.Prelude.{Ok, Err}
+use Rattle.limits.specs.Outcome.{outcome_of, refusal}
+use Rattle.limits.proofs.Answered.{outcome-refused}
 use Rattle.limits.specs.Numbers.{prime}
 use Rattle.limits.specs.Questions.{pick}
 use Rattle.limits.proofs.Below.{below_set}
@@ -60,16 +63,17 @@ pub record Walking (len k : ℕ) (g : Values) (k' : ℕ) (g' : Values) (t : List
   pub long : length t ≡ len
   pub units : are_entries t ≡ true
 
-pub begins : (t : List ℕ) (k : ℕ) (g : Values) → are_entries t ≡ true → Walking (length t) k g k g t
-begins t k g u = record { number = refl; values = refl; long = refl; units = u }
-
 module _ {len k : ℕ} {g g' : Values} {k' : ℕ} {t : List ℕ} (w : Walking len k g k' g' t) where
   -- it ends with a number
-  pub stopped : (n : ℕ) → (n ≡ 0 → ⊥) → n ≡ k' → Walked len k g n t
+  pub stopped : (n : ℕ) → (n ≡ 0 → ⊥) → n ≡ k' → Walked len k g (Err (refusal n)) t
   stopped n h e =
-      record { number = e ∙ w.number; values = λ z. absurd (h z); long = w.long; units = w.units }
+      let f = e ∙ w.number in record {
+        answer = outcome-refused n h ∙ ap outcome_of f;
+        values = λ z. absurd (h (f ∙ z));
+        long = w.long;
+        units = w.units;
+      }
 
-  -- nothing is left
-  pub ended : k' ≡ 0 → g' ≡ value_at t → Walked len k g 0 t
-  ended e v =
-      record { number = sym e ∙ w.number; values = λ z. sym v ∙ w.values; long = w.long; units = w.units }
+  -- or with none
+  pub ended : 0 ≡ k' → value_at t ≡ g' → Walked len k g (Ok tt) t
+  ended e v = record { answer = ap outcome_of (e ∙ w.number); values = λ z. v ∙ w.values; long = w.long; units = w.units }

@@ -8,8 +8,10 @@ use native.Mathlib.Omega.{arith}
 use borrow.Author.Tests.{lt-ltb, ltb-true}
 use lib.Dec.{ltb}
 use lib.ListN.{length, take, drop}
+use Rattle.std.specs.Prelude.{Err}
+use Rattle.limits.specs.Outcome.{Outcome, outcome_of, refusal}
 use Rattle.limits.specs.Numbers.{prime}
-use Rattle.limits.specs.Questions.{ask, ◌▸◌, on_yes}
+use Rattle.limits.specs.Questions.{ask, first_of_two, ◌▸◌, on_yes}
 use Rattle.limits.proofs.Questions.{ask-yes, says-yes, both, goes_on, stays, ▸-assoc}
 use Rattle.limits.proofs.Below.{below-take, below-drop}
 use Rattle.words.specs.Store.{all_below}
@@ -19,26 +21,32 @@ use Rattle.allocator.specs.Values.{Values, put_all, put}
 use Rattle.permute.specs.Parameters.{leading}
 use Rattle.permute.proofs.Trace.{pieces-cons, lent-piece, lent_length}
 use Rattle.validity.specs.Values.{cells}
-use Rattle.validity.specs.Check.{steps_no}
+use Rattle.validity.specs.Check.{cells_no, steps_no}
 use Rattle.validity.specs.Scratch.{value_at, are_entries, CellsPut, StepPut, StepsPut}
-use Rattle.validity.proofs.Scratch.{Walking, begins, ended}
+use Rattle.validity.proofs.Scratch.{Walking}
 use Rattle.validity.proofs.Ahead.{first-is, next_known}
 
 -- ---- one step
-pub step-32 : (known : ℕ) (t : List ℕ) (ps : List Pair) → known ≡ 0 → are_entries t ≡ true → StepPut known t ps 32 t
-unfolding ◌▸◌ ask
-step-32 known t ps z u =
+pub step-32 : (known : ℕ) (t : List ℕ) (ps : List Pair) → known ≡ 0 → are_entries t ≡ true → StepPut known t ps (Err (refusal 32)) t
+unfolding first_of_two ask
+step-32 zero t ps z u =
     record {
-      number = rw z;
+      answer = refl;
       values = λ y. absurd (let q : ⊥ = omega arith in q);
       long = refl;
       units = u;
     }
+step-32 (suc known) t ps z u = absurd (let q : ⊥ = omega arith in q)
 
-pub step-cells : (known : ℕ) (t : List ℕ) (ps : List Pair) (n : ℕ) (t' : List ℕ) → (known ≡ 0 → ⊥) → CellsPut t ps n t' → StepPut known t ps n t'
-step-cells zero t ps n t' h w = absurd (h refl)
-step-cells (suc known) t ps n t' h w =
-    record { number = w.number ∙ sym (goes_on _ _ yes); values = w.values; long = w.long; units = w.units }
+pub step-cells : (known : ℕ) (t : List ℕ) (ps : List Pair) (o : Outcome) (t' : List ℕ) → (known ≡ 0 → ⊥) → CellsPut t ps o t' → StepPut known t ps o t'
+step-cells zero t ps o t' h w = absurd (h refl)
+step-cells (suc known) t ps o t' h w =
+    record {
+      answer = w.answer ∙ ap outcome_of (sym (goes_on _ _ yes));
+      values = λ z. w.values (sym (goes_on _ _ yes) ∙ z);
+      long = w.long;
+      units = w.units;
+    }
   where
     yes : ask 32 (ltb 0 (suc known)) ≡ 0
     yes = ask-yes 32 _ (lt-ltb 0 (suc known) (omega arith))
@@ -67,16 +75,8 @@ pub record StepsLeft (ev : List ℕ → Bool) (t₀ queries trace : List ℕ) (s
   pub ahead : known ≤ leading ev (pieces size left (drop at trace))
   pub rest : Rest ev t₀ (pieces size n queries) (pieces size n trace) t (pieces size left (drop at queries)) (pieces size left (drop at trace))
 
-pub steps-start : (ev : List ℕ → Bool) (t queries trace : List ℕ) (size n : ℕ) → n * size ≤ length queries → n * size ≤ length trace
-    → all_below prime trace ≡ true → are_entries t ≡ true → StepsLeft ev t queries trace size n t n 0 0
-steps-start ev t queries trace size n a b e u =
-    record { room-queries = omega arith; room-trace = omega arith; units = e; ahead = omega arith; rest = begins t _ _ u }
-
 module _ {ev : List ℕ → Bool} {t₀ queries trace : List ℕ} {size n : ℕ} {t : List ℕ} {left at known : ℕ}
     (w : StepsLeft ev t₀ queries trace size n t left at known) where
-  pub steps-done : left ≤ 0 → StepsPut ev t₀ (pieces size n queries) (pieces size n trace) 0 t
-  steps-done h = let z : left ≡ 0 = omega arith in ended (rw z at w.rest) refl refl
-
   module _ (h : 0 < left) where
     pub room_after : (at + size + (left - 1) * size ≤ length queries) × (at + size + (left - 1) * size ≤ length trace)
     room_after = (piece-fits size at left _ w.room-queries h, piece-fits size at left _ w.room-trace h)
@@ -96,9 +96,13 @@ module _ {ev : List ℕ → Bool} {t₀ queries trace : List ℕ} {size n : ℕ}
           w.rest.units,
         )
 
-    -- m are known now, and the step answered k
+    -- m are known now, and the step answered o
     module _ {m : ℕ} (e : m ≡ on_yes known (leading ev (pieces size (min left 64) (take (length trace - at) (drop at trace)))) known)
-        {k : ℕ} {t' : List ℕ} (r : StepPut m t (pairs q s) k t') where
+        {o : Outcome} {t' : List ℕ} (r : StepPut m t (pairs q s) o t') where
+      -- the step's own number
+      abbrev k : ℕ
+      k = ask 32 (ltb 0 m) ▸ cells_no (length t) (value_at t) (pairs q s)
+
       abbrev later_queries : List (List ℕ)
       later_queries = pieces size (left - 1) (drop (at + size) queries)
 
@@ -116,19 +120,19 @@ module _ {ev : List ℕ → Bool} {t₀ queries trace : List ℕ} {size n : ℕ}
       number_is =
           let f : ltb 0 m ≡ ev s =
           first-is _ size trace at left known h w.ahead m e ∙ ap ev (sym (lent-piece trace at size)) in
-          rw (r.number, f, w.rest.long, ▸-assoc) at-step.number
+          rw (f, w.rest.long, ▸-assoc) at-step.number
 
-      pub steps-stop : (k ≡ 0 → ⊥) → StepsPut ev t₀ (pieces size n queries) (pieces size n trace) k t'
-      steps-stop z =
+      pub steps-stop : {o' : Outcome} → o' ≡ o → (k ≡ 0 → ⊥) → StepsPut ev t₀ (pieces size n queries) (pieces size n trace) o' t'
+      steps-stop same z =
           record {
-            number = sym (stays _ _ z) ∙ number_is;
-            values = λ y. absurd (z y);
+            answer = same ∙ r.answer ∙ ap outcome_of (sym (stays _ _ z) ∙ number_is);
+            values = λ y. absurd (z (both _ _ (number_is ∙ y)).0);
             long = r.long ∙ w.rest.long;
             units = r.units;
           }
 
       pub some_known : k ≡ 0 → 0 < m
-      some_known z = ltb-true 0 m (says-yes 31 _ (both _ _ (sym r.number ∙ z)).0)
+      some_known z = ltb-true 0 m (says-yes 31 _ (both _ _ z).0)
 
       pub steps-turn : k ≡ 0 → StepsLeft ev t₀ queries trace size n t' (left - 1) (at + size) (m - 1)
       steps-turn z =

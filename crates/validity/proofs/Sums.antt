@@ -1,22 +1,22 @@
 -- The loop over the terms of an equation: the definition asks 34 of all terms and then takes the sum, the
 -- code does both in one pass; what is left of both comes to the whole. Assumes nothing.
-use Prim.Native.Nat.{ℕ, zero, suc, ◌+◌, ◌-◌, ◌*◌, ◌%◌, ◌≤◌, ◌<◌}
-use mathlib.Core.Path.{◌≡◌, refl, sym, ap, ◌∙◌}
+use Prim.Native.Nat.{ℕ, suc, ◌+◌, ◌-◌, ◌*◌, ◌%◌, ◌≤◌, ◌<◌}
+use mathlib.Core.Path.{refl, ◌≡◌, sym, ap, ◌∙◌}
 use mathlib.Core.Bool.{true}
 use mathlib.Core.List.{List, ◌∷◌}
 use mathlib.Core.Option.{none, some}
 use native.Mathlib.Omega.{arith}
-use borrow.Author.Tests.{eq-eqb, ne_eqb}
 use lib.Dec.{eqb, lit<}
 use lib.ListN.{length, drop, get_or, get_or-eq_default}
 use lib.Seq.{get_or-drop, drop-drop}
 use Rattle.limits.specs.Numbers.{prime}
-use Rattle.limits.specs.Questions.{ask, ◌▸◌}
+use Rattle.limits.specs.Questions.{ask, first_of_two, ◌▸◌}
 use Rattle.limits.proofs.Below.{below-cons, below-get_or}
 use Rattle.words.specs.Store.{all_below}
 use Rattle.baby_bear.specs.Field.{add_unit, mul_unit}
 use Rattle.allocator.specs.Values.{Values}
 use Rattle.expr.specs.Equation.{Term, term_weights, equation_size, terms_at, equation_at, size_at}
+use Rattle.instance.proofs.Pairs.{at_first, terms-at}
 use Rattle.validity.specs.Check.{terms_no, sum_from, equation_no}
 use Rattle.validity.specs.Scratch.{entry, value_at, are_entries, Added}
 use Rattle.validity.proofs.Scratch.{entry-some}
@@ -27,28 +27,18 @@ rest_no g sum image ts = terms_no g ts ▸ ask 35 (eqb (sum_from sum g ts) image
 
 -- ---- one term
 none-34 : (g : Values) (sum image : ℕ) (t : Term) (ts : List Term) → g t.var ≡ none → rest_no g sum image (t ∷ ts) ≡ 34
-unfolding rest_no ask ◌▸◌
+unfolding rest_no ask first_of_two
 none-34 g sum image t ts e = rw e
 
 some_more : (g : Values) (sum image v : ℕ) (t : Term) (ts : List Term) → g t.var ≡ some v
     → rest_no g sum image (t ∷ ts) ≡ rest_no g (add_unit sum (mul_unit t.weight v)) image ts
-unfolding rest_no ask ◌▸◌
+unfolding rest_no ask first_of_two
 some_more g sum image v t ts e = rw e
 
 -- ---- an equation in words
-first_word : (words : List ℕ) (at : ℕ) → get_or (drop at words) 0 0 ≡ get_or words at 0
-first_word words at = get_or-drop at words 0 0 ∙ ap (λ (k : ℕ). get_or words k 0) (omega arith)
-
 pub size-at : (words : List ℕ) (at : ℕ) → size_at (drop at words) ≡ equation_size (get_or words at 0)
 unfolding size_at
-size-at words at = rw (first_word words at)
-
-terms_at-cons : (words : List ℕ) (i left : ℕ) → 0 < left
-    → terms_at left (drop i words) ≡ record { var = get_or words i 0; weight = get_or words (i + 1) 0 } ∷ terms_at (left - 1) (drop (i + 2) words)
-terms_at-cons words i zero h = absurd (let z : ⊥ = omega arith in z)
-terms_at-cons words i (suc m) h =
-    let z : suc m - 1 ≡ m = omega arith in
-    rw z (λ j. record { var = first_word words i j; weight = get_or-drop i words 1 0 j } ∷ terms_at m (drop-drop 2 i words j))
+size-at words at = rw (at_first words at)
 
 abbrev pub image_of : List ℕ → ℕ → ℕ
 image_of words at = get_or words (at + 1 + 2 * get_or words at 0) 0
@@ -77,8 +67,8 @@ sum-start t words at h e u =
       room = rw (size-at words at) at h;
       place = refl;
       below = lit< tt;
-      weights = rw (first_word words at, drop-drop 1 at words) at e;
-      number = rw (first_word words at, n, drop-drop 1 at words);
+      weights = rw (at_first words at, drop-drop 1 at words) at e;
+      number = rw (at_first words at, n, drop-drop 1 at words);
     }
 
 -- ---- a turn, and the end
@@ -86,10 +76,10 @@ module _ {t words : List ℕ} {at left i sum : ℕ} (w : SumLeft t words at left
   module _ (h : 0 < left) where
     at-term : rest_no (value_at t) (sum % prime) (image_of words at)
         (record { var = get_or words i 0; weight = get_or words (i + 1) 0 } ∷ terms_at (left - 1) (drop (i + 2) words)) ≡ whole_no t words at
-    at-term = rw (terms_at-cons words i left h) at w.number
+    at-term = rw (terms-at words i left h) at w.number
 
     weight-below : (get_or words (i + 1) 0 < prime) × (all_below prime (term_weights (terms_at (left - 1) (drop (i + 2) words))) ≡ true)
-    weight-below = below-cons prime _ _ (rw (terms_at-cons words i left h) at w.weights)
+    weight-below = below-cons prime _ _ (rw (terms-at words i left h) at w.weights)
 
     pub sum-beyond : length t ≤ get_or words i 0 → 34 ≡ whole_no t words at
     sum-beyond k = sym (none-34 (value_at t) (sum % prime) (image_of words at) _ _ (ap entry (get_or-eq_default t 0 k))) ∙ at-term
@@ -117,17 +107,10 @@ module _ {t words : List ℕ} {at left i sum : ℕ} (w : SumLeft t words at left
           }
 
   module _ (h : left ≤ 0) where
-    at-end : ask 35 (eqb (sum % prime) (get_or words i 0)) ≡ whole_no t words at
-    unfolding rest_no ◌▸◌
-    at-end =
+    -- what 35 answers is the equation's number
+    pub sum-image : ask 35 (eqb (sum % prime) (get_or words i 0)) ≡ whole_no t words at
+    unfolding rest_no first_of_two
+    sum-image =
         let z : left ≡ 0 = omega arith in
         let y : at + 1 + 2 * get_or words at 0 ≡ i = omega (arith, w.place) in
         rw (z, y) at w.number
-
-    pub sum-wrong : (sum % prime ≡ get_or words i 0 → ⊥) → 35 ≡ whole_no t words at
-    unfolding ask
-    sum-wrong k = rw (ne_eqb (sum % prime) (get_or words i 0) k) at at-end
-
-    pub sum-right : sum % prime ≡ get_or words i 0 → 0 ≡ whole_no t words at
-    unfolding ask
-    sum-right k = rw (eq-eqb (sum % prime) (get_or words i 0) k) at at-end

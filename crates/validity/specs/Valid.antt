@@ -3,8 +3,7 @@ use Rattle.std.specs.Prelude.{ℕ, List, [], ◌∷◌, ◌++◌, leb, length, t
 use Rattle.limits.specs.Numbers.{prime}
 use Rattle.limits.specs.Questions.{Question, question, first_no, ◌▸◌}
 use Rattle.limits.specs.Asks.{width_asks, store_asks}
-use Rattle.limits.specs.Outcome.{outcome_of}
-use Rattle.limits.specs.declared.Outcome.{Outcome}
+use Rattle.limits.specs.Outcome.{outcome_of, Outcome}
 use Rattle.words.specs.Store.{all_below}
 use Rattle.words.specs.Pieces.{words_of}
 -- the first `steps` steps of a trace

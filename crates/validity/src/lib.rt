@@ -4,11 +4,12 @@
 // carries: 0 for nothing, and for a unit the unit and one more. It may hold anything at entry and is all 0
 // afterwards, whatever is answered.
 
-#![tactic(auto)]
+#![tactic(auto, unfolding(limits::specs::Questions::ask, limits::specs::Questions::first_of_two))]
 
 ghost use Rattle.std.specs.Prelude.{◌≡◌, true, [], ◌+◌, ◌*◌, ◌<◌, ◌≤◌, min, length, drop, replicate};
 ghost use Rattle.limits.specs.Numbers.{prime};
 ghost use Rattle.limits.specs.Questions.{first_no, on_yes};
+ghost use Rattle.limits.specs.Outcome.{outcome_of};
 ghost use Rattle.words.specs.Store.{all_below};
 ghost use Rattle.words.specs.Pieces.{words_of, pieces, steps_of};
 ghost use Rattle.allocator.specs.Slots.{pairs};
@@ -23,7 +24,7 @@ ghost use Rattle.validity.specs.Valid.{size_asks, is_witness_valid_no, is_witnes
 
 use held::{held_pieces, held_words};
 use instance::PermutationInstance;
-use limits::{LABEL_END, Outcome, P};
+use limits::{LABEL_END, P, Refused};
 
 // What goes in by value beside the lent words: the instance's record, the steps of the trace, and the rounds
 // of the permutation.
@@ -51,53 +52,47 @@ fn fits(m: u32, v: u32) -> bool
 }
 
 // The public pairs put in order, so that the later value counts. Question 36 of each.
-fn put_publics(scratch: &mut [u32], publics: &[u32], count: u32) -> u32
+fn put_publics(scratch: &mut [u32], publics: &[u32], count: u32) -> Result<(), Refused>
     requires { (2 * count ≤ length publics.now) × (publics_sound count publics.now ≡ true) × (are_entries scratch.old ≡ true) }
     ensures { PublicsPut scratch.old (pairs_at count publics.now) result scratch.new }
 {
-    let mut left = count;
-    let mut at: usize = 0;
-    while 0 < left {
-        let x = publics[at] as usize;
+    for i in 0..count as usize {
+        let x = publics[2 * i] as usize;
         if scratch.len() <= x {
-            return 36;
+            return Err(Refused(36));
         }
-        scratch[x] = publics[at + 1] + 1;
-        at += 2;
-        left -= 1;
+        scratch[x] = publics[2 * i + 1] + 1;
     }
-    0
+    Ok(())
 }
 
 // The cells of one step put in order: 36, then 33, of each.
-fn put_cells(scratch: &mut [u32], vars: &[u32], values: &[u32]) -> u32
+fn put_cells(scratch: &mut [u32], vars: &[u32], values: &[u32]) -> Result<(), Refused>
     requires { (length vars.now ≡ length values.now) × (all_below prime values.now ≡ true) × (are_entries scratch.old ≡ true) }
     ensures { CellsPut scratch.old (pairs vars.now values.now) result scratch.new }
 {
-    let mut i: usize = 0;
-    while i < vars.len() {
-        let x = vars[i] as usize;
+    for (i, var) in vars.iter().enumerate() {
+        let x = *var as usize;
         if scratch.len() <= x {
-            return 36;
+            return Err(Refused(36));
         }
         let m = scratch[x];
         let v = values[i];
         if !fits(m, v) {
-            return 33;
+            return Err(Refused(33));
         }
         scratch[x] = v + 1;
-        i += 1;
     }
-    0
+    Ok(())
 }
 
 // One step: 32 where it is not known to be an evaluation, then its cells.
-fn put_step(scratch: &mut [u32], known: u32, vars: &[u32], values: &[u32]) -> u32
+fn put_step(scratch: &mut [u32], known: u32, vars: &[u32], values: &[u32]) -> Result<(), Refused>
     requires { (length vars.now ≡ length values.now) × (all_below prime values.now ≡ true) × (are_entries scratch.old ≡ true) }
     ensures { StepPut known scratch.old (pairs vars.now values.now) result scratch.new }
 {
     if known == 0 {
-        return 32;
+        return Err(Refused(32));
     }
     put_cells(scratch, vars, values)
 }
@@ -112,8 +107,7 @@ fn look_ahead(known: u32, width: u32, rounds: u32, params: &[u32], trace: &[u32]
     if known != 0 {
         return known;
     }
-    let steps = if left < AHEAD { left } else { AHEAD };
-    permute::evaluations(width, rounds, params, trace, steps)
+    permute::evaluations(width, rounds, params, trace, left.min(AHEAD))
 }
 
 // All steps, each with the query of the same place: 32, then its cells.
@@ -125,28 +119,23 @@ fn put_steps(
     queries: &[u32],
     trace: &[u32],
     steps: u32,
-) -> u32
+) -> Result<(), Refused>
     requires { (words_of width steps ≤ length queries.now) × (words_of width steps ≤ length trace.now)
         × (all_below prime trace.now ≡ true) × (are_entries scratch.old ≡ true) }
     ensures { StepsPut (is_evaluation width rounds params.now) scratch.old
         (pieces (width + width) steps queries.now) (pieces (width + width) steps trace.now) result scratch.new }
 {
     let size = width as usize + width as usize;
-    let mut left = steps;
     let mut at: usize = 0;
     let mut known = 0;
-    while 0 < left {
-        known = look_ahead(known, width, rounds, params, &trace[at..], left);
+    for done in 0..steps {
+        known = look_ahead(known, width, rounds, params, &trace[at..], steps - done);
         let end = at + size;
-        let no = put_step(scratch, known, &queries[at..end], &trace[at..end]);
-        if no != 0 {
-            return no;
-        }
+        put_step(scratch, known, &queries[at..end], &trace[at..end])?;
         known -= 1;
         at = end;
-        left -= 1;
     }
-    0
+    Ok(())
 }
 
 // A sum below p·p with weight times unit added: the sum is kept below p·p, and is reduced only once all
@@ -160,49 +149,39 @@ fn plus(sum: u64, weight: u32, unit: u32) -> u64
 }
 
 // One equation, at a place of the words: 34 of each term, whatever its weight, then 35.
-fn equation_no(scratch: &[u32], words: &[u32], at: usize) -> u32
+fn ask_equation(scratch: &[u32], words: &[u32], at: usize) -> Result<(), Refused>
     requires { (at + size_at (drop at words.now) ≤ length words.now)
         × (all_below prime (term_weights (equation_at (drop at words.now)).terms) ≡ true) × (are_entries scratch.now ≡ true) }
-    ensures { result ≡ equation_no (value_at scratch.now) (equation_at (drop at words.now)) }
+    ensures { result ≡ outcome_of (equation_no (value_at scratch.now) (equation_at (drop at words.now))) }
 {
-    let mut left = words[at];
     let mut i = at + 1;
     let mut sum: u64 = 0;
-    while 0 < left {
+    for _ in 0..words[at] {
         let x = words[i] as usize;
         if scratch.len() <= x {
-            return 34;
+            return Err(Refused(34));
         }
         let m = scratch[x];
         if m == 0 {
-            return 34;
+            return Err(Refused(34));
         }
         sum = plus(sum, words[i + 1], m - 1);
         i += 2;
-        left -= 1;
     }
-    if sum % P as u64 != words[i] as u64 {
-        return 35;
-    }
-    0
+    limits::ask(35, sum % P as u64 == words[i] as u64)
 }
 
 // All equations, in order.
-fn equations_no(scratch: &[u32], words: &[u32], count: u32) -> u32
+fn ask_equations(scratch: &[u32], words: &[u32], count: u32) -> Result<(), Refused>
     requires { (equations_sound count words.now ≡ true) × (are_entries scratch.now ≡ true) }
-    ensures { result ≡ equations_no (value_at scratch.now) (equations_at count words.now) }
+    ensures { result ≡ outcome_of (equations_no (value_at scratch.now) (equations_at count words.now)) }
 {
-    let mut left = count;
     let mut at: usize = 0;
-    while 0 < left {
-        let no = equation_no(scratch, words, at);
-        if no != 0 {
-            return no;
-        }
+    for _ in 0..count {
+        ask_equation(scratch, words, at)?;
         at += 2 + 2 * (words[at] as usize);
-        left -= 1;
     }
-    0
+    Ok(())
 }
 
 // The words for what the wires carry filled with 0, and on them the publics and then all steps: 36 of each
@@ -214,7 +193,7 @@ fn put_all(
     trace: &[u32],
     params: &[u32],
     carried: &mut [u32],
-) -> u32
+) -> Result<(), Refused>
     requires { Sound counts.ins publics.now queries.now counts.steps trace.now (length carried.old)
         × (counts.steps ≡ counts.ins.queries) }
     ensures { AllPut (is_evaluation counts.ins.width counts.rounds params.now)
@@ -226,17 +205,14 @@ fn put_all(
     let width = ins.width;
     let count = ins.publics;
     words::fill(carried, 0);
-    let no = put_publics(carried, held_words(publics, 2 * count as usize), count);
-    if no != 0 {
-        return no;
-    }
+    put_publics(carried, held_words(publics, 2 * count as usize), count)?;
     let cells = held_pieces(queries, width, steps);
     let units = held_pieces(trace, width, steps);
     put_steps(carried, width, counts.rounds, params, cells, units, steps)
 }
 
 // 31 to 36 of held parts and a trace that are sound, on the words of scratch for what the wires carry.
-fn check_no(
+fn ask_check(
     counts: Counts,
     publics: &[u32],
     queries: &[u32],
@@ -244,27 +220,24 @@ fn check_no(
     trace: &[u32],
     params: &[u32],
     carried: &mut [u32],
-) -> u32
+) -> Result<(), Refused>
     requires { Sound counts.ins publics.now queries.now counts.steps trace.now (length carried.old)
         × (equations_sound counts.ins.equations (held_equations counts.ins equations.now) ≡ true) }
-    ensures { result ≡ check_no (is_evaluation counts.ins.width counts.rounds params.now)
+    ensures { result ≡ outcome_of (check_no (is_evaluation counts.ins.width counts.rounds params.now)
         (parts_of counts.ins publics.now queries.now equations.now)
-        (steps_of counts.ins.width counts.steps trace.now) }
+        (steps_of counts.ins.width counts.steps trace.now)) }
 {
     let ins = counts.ins;
     if counts.steps != ins.queries {
-        return 31;
+        return Err(Refused(31));
     }
-    let no = put_all(counts, publics, queries, trace, params, &mut *carried);
-    if no != 0 {
-        return no;
-    }
+    put_all(counts, publics, queries, trace, params, &mut *carried)?;
     let words = held_words(equations, ins.words as usize);
-    equations_no(carried, words, ins.equations)
+    ask_equations(carried, words, ins.equations)
 }
 
 // 1 and 2, by the lengths of what is lent.
-fn asked_sizes(
+fn ask_sizes(
     counts: Counts,
     label: usize,
     publics: usize,
@@ -273,23 +246,21 @@ fn asked_sizes(
     trace: usize,
     params: usize,
     scratch: usize,
-) -> u32
-    ensures { result ≡ first_no (size_asks counts.ins label publics queries equations counts.steps trace params scratch) }
+) -> Result<(), Refused>
+    ensures { result ≡ outcome_of (first_no (size_asks counts.ins label publics queries equations counts.steps trace params scratch)) }
 {
     let ins = counts.ins;
-    let steps = counts.steps;
-    let width = ins.width;
-    let a = limits::asked_width(0, width);
-    let b = held::asked_parts(a, ins, publics, queries, equations);
-    let c = limits::asked_store(b, trace);
-    let d = limits::asked_store(c, params);
-    let e = limits::asked_store(d, scratch);
-    let f = limits::asked(e, label < LABEL_END, 2);
-    words::asked_pieces(f, width, steps, trace, 2)
+    limits::ask_width(ins.width)?;
+    held::ask_parts(&ins, publics, queries, equations)?;
+    limits::ask_store(trace)?;
+    limits::ask_store(params)?;
+    limits::ask_store(scratch)?;
+    limits::ask(2, label < LABEL_END)?;
+    words::ask_pieces(ins.width, counts.steps, trace, 2)
 }
 
 // The questions before the check: 1, 2, 17, 11, 16.
-fn asked_valid(
+fn ask_valid(
     counts: Counts,
     label: &[u8],
     publics: &[u32],
@@ -298,16 +269,12 @@ fn asked_valid(
     trace: &[u32],
     params: &[u32],
     scratch: usize,
-) -> u32
+) -> Result<(), Refused>
     ensures { AskedValid counts.ins label.now publics.now queries.now
         equations.now counts.steps trace.now counts.rounds params.now scratch result }
 {
     let ins = counts.ins;
-    let steps = counts.steps;
-    let rounds = counts.rounds;
-    let width = ins.width;
-    let vars = ins.vars as usize;
-    let a = asked_sizes(
+    ask_sizes(
         counts,
         label.len(),
         publics.len(),
@@ -316,15 +283,15 @@ fn asked_valid(
         trace.len(),
         params.len(),
         scratch,
-    );
-    let b = permute::parameters_no(a, width, rounds, params);
-    let c = held::asked_parts_sound(b, ins, label, publics, queries, equations);
-    let d = words::asked_below(c, held_pieces(trace, width, steps), P, 11);
-    limits::asked(d, vars <= scratch, 16)
+    )?;
+    permute::ask_parameters(ins.width, counts.rounds, params)?;
+    held::ask_parts_sound(&ins, label, publics, queries, equations)?;
+    words::ask_below(held_pieces(trace, ins.width, counts.steps), P, 11)?;
+    limits::ask(16, ins.vars as usize <= scratch)
 }
 
-// The number of the first no, or 0; scratch is left as the check leaves it.
-fn valid_no(
+// All questions; scratch is left as the check leaves it.
+fn ask_witness_valid(
     counts: Counts,
     label: &[u8],
     publics: &[u32],
@@ -333,23 +300,19 @@ fn valid_no(
     trace: &[u32],
     params: &[u32],
     scratch: &mut [u32],
-) -> u32
-    ensures { result ≡ is_witness_valid_no counts.ins label.now publics.now queries.now
-        equations.now counts.steps trace.now counts.rounds params.now (length scratch.old) }
+) -> Result<(), Refused>
+    ensures { result ≡ outcome_of (is_witness_valid_no counts.ins label.now publics.now queries.now
+        equations.now counts.steps trace.now counts.rounds params.now (length scratch.old)) }
 {
-    let ins = counts.ins;
-    let vars = ins.vars as usize;
     let n = scratch.len();
-    let no = asked_valid(counts, label, publics, queries, equations, trace, params, n);
-    if no != 0 {
-        return no;
-    }
+    ask_valid(counts, label, publics, queries, equations, trace, params, n)?;
+    let vars = counts.ins.vars as usize;
     let carried = &mut scratch[..vars];
-    check_no(counts, publics, queries, equations, trace, params, carried)
+    ask_check(counts, publics, queries, equations, trace, params, carried)
 }
 
 // Does the trace satisfy the instance under the permutation (the source's `is_witness_valid`)? Questions 1, 2,
-// 17, 11, 16, and then 31, 36, 32, 33, 34, 35; yes is Accepted. Scratch is all 0 afterwards.
+// 17, 11, 16, and then 31, 36, 32, 33, 34, 35; yes is Ok. Scratch is all 0 afterwards.
 pub fn is_witness_valid(
     ins: PermutationInstance,
     label: &[u8],
@@ -361,19 +324,16 @@ pub fn is_witness_valid(
     rounds: u32,
     params: &[u32],
     scratch: &mut [u32],
-) -> Outcome
+) -> Result<(), Refused>
     ensures { (result ≡ is_witness_valid ins label.now publics.now queries.now
         equations.now steps trace.now rounds params.now (length scratch.old))
         × (scratch.new ≡ replicate (length scratch.old) 0) }
 {
     let counts = Counts { ins, steps, rounds };
     let lent = &mut *scratch;
-    let no = valid_no(
+    let valid = ask_witness_valid(
         counts, label, publics, queries, equations, trace, params, lent,
     );
     words::fill(scratch, 0);
-    if no != 0 {
-        return Outcome::Refused(no);
-    }
-    Outcome::Accepted
+    valid
 }

@@ -11,8 +11,8 @@ use Rattle.limits.specs.Numbers.{max_count}
 use Rattle.limits.proofs.Questions.{puts, puts-yes}
 use Rattle.words.specs.Pieces.{words_of}
 use Rattle.expr.specs.Equation.{ends_right}
-use Rattle.strike.specs.Strike.{struck_words, fit_struck, end_within}
-use Rattle.strike.proofs.Ends.{place-fits, place_is}
+use Rattle.strike.specs.Strike.{struck_words, fit_struck}
+use Rattle.strike.proofs.Ends.{place-fits}
 use Rattle.strike.proofs.Moves.{struck-is}
 use Rattle.permutation.specs.declared.PermutationRelation.{PermutationRelation}
 use Rattle.withdraw.specs.Relation.{withdraw_equation_asks, withdraw_equation_no, withdraw_query_asks, withdraw_query_no}
@@ -44,9 +44,6 @@ module _ (rel : PermutationRelation) (equations : List ℕ) (i : ℕ) (y : Withd
       let l = length-take rel.words equations in
       omega (arith, y.held)
 
-  pub place-right : end_within i (take rel.words equations) ≡ place_of rel equations i
-  place-right = place_is rel.equations i (take rel.words equations) y.some y.ends
-
   pub equation-struck : fit_struck (place_of rel equations i) (size_of rel equations i) rel.words equations
       ≡ struck_words (place_of rel equations i) (size_of rel equations i) rel.words equations
   equation-struck = struck-is (place_of rel equations i) (size_of rel equations i) rel.words equations size_fits y.held
@@ -72,13 +69,17 @@ withdraw_query-yes rel slots queries uses i e =
       same = eqb-true _ _ (says 10 _ tt (search puts depth 20));
     }
 
+-- a piece of n, whole
+pub piece-fits : (width i n : ℕ) → i < n → words_of width i + (width + width) ≤ words_of width n
+piece-fits width i n h =
+    let k : i + 1 ≤ n = omega arith in
+    let m = mul-le-mul_right {m = i + 1} {n = n} (width + width) k in
+    let a = add-mul i 1 (width + width) in
+    omega arith
+
 module _ (rel : PermutationRelation) (slots : ℕ) (queries uses : List ℕ) (i : ℕ) (y : WithdrawQuery rel slots queries uses i) where
   pub query-fits : words_of rel.width i + (rel.width + rel.width) ≤ words_of rel.width rel.queries
-  query-fits =
-      let k : i + 1 ≤ rel.queries = omega (arith, y.some) in
-      let m = mul-le-mul_right {m = i + 1} {n = rel.queries} (rel.width + rel.width) k in
-      let a = add-mul i 1 (rel.width + rel.width) in
-      omega arith
+  query-fits = piece-fits rel.width i rel.queries y.some
 
   pub query-struck : fit_struck (words_of rel.width i) (rel.width + rel.width) (words_of rel.width rel.queries) queries
       ≡ struck_words (words_of rel.width i) (rel.width + rel.width) (words_of rel.width rel.queries) queries

@@ -2,7 +2,7 @@
 use mathlib.Core.Path.{◌≡◌, refl}
 use Prim.Native.Nat.{ℕ}
 use mathlib.Core.List.{List, [], ◌∷◌}
-use Rattle.limits.specs.Questions.{ask, ◌▸◌}
+use Rattle.limits.specs.Questions.{ask, first_of_two}
 use Rattle.permutation.specs.Answers.{relation, recorded_of}
 use Rattle.permutation.specs.declared.PermutationRelation.{PermutationRelation}
 use Rattle.expr.specs.Equation.{size_at}
@@ -42,7 +42,7 @@ pub record QueryNumbers : Type 0 where
   pub stray-taken : withdraw_query_no (one 1) 3 (1 ∷ 5 ∷ []) (0 ∷ 1 ∷ 0 ∷ []) 0 ≡ 0
 
 pub query-numbers : QueryNumbers
-unfolding ask ◌▸◌ withdraw_query_no all_fit times strays
+unfolding ask first_of_two withdraw_query_no all_fit times strays
 query-numbers = record {
   accepted = refl;
   no_such = refl;
@@ -80,7 +80,7 @@ pub record QueryStores : Type 0 where
   pub refused-uses : withdraw_query_uses two 3 held (0 ∷ 1 ∷ 1 ∷ []) 1 ≡ 0 ∷ 1 ∷ 1 ∷ []
 
 pub query-stores : QueryStores
-unfolding ask ◌▸◌ withdraw_query_no all_fit times strays uses_after
+unfolding ask first_of_two withdraw_query_no all_fit times strays uses_after
 query-stores = record {
   first-answer = refl;
   first-words = refl;
@@ -116,7 +116,7 @@ pub record EquationCases : Type 0 where
   pub refused-words : withdraw_equation_equations (stated 2 5) words 0 ≡ words
 
 pub equation-cases : EquationCases
-unfolding ask ◌▸◌ withdraw_equation_no size_at
+unfolding ask first_of_two withdraw_equation_no size_at
 equation-cases = record {
   first-answer = refl;
   first-words = refl;

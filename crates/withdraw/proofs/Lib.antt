@@ -1,6 +1,5 @@
 pub mod Accepted
 pub mod Walked
-pub mod Cells
 pub mod Tallied
 pub mod Withdrawn
 pub mod Keeps

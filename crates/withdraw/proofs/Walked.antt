@@ -1,99 +1,88 @@
--- The walk over the equations in two parts, and the number that a withdrawal has by it. Assumes nothing.
-use Prim.Native.Nat.{ℕ, ◌+◌, ◌-◌, ◌≤◌, ◌<◌, min}
-use mathlib.Core.Path.{◌≡◌, refl, sym, ap, ap₂, ◌∙◌}
-use mathlib.Core.Bool.{Bool, true, false, ◌&&◌}
-use mathlib.Core.List.{List, [], ◌∷◌}
+-- The walk over the equations in two parts, to a place and from there on. Assumes nothing.
+use Prim.Native.Nat.{ℕ, ◌+◌, ◌-◌, ◌≤◌, ◌<◌}
+use mathlib.Core.Path.{◌≡◌, refl, sym, ap, ◌∙◌}
+use mathlib.Core.Bool.{Bool, true, false}
+use mathlib.Core.List.{List}
 use native.Mathlib.Omega.{arith}
-use borrow.Author.Tests.{ltb-true, le-leb, lt-leb, leb-true, leb-false, eq-eqb, ne_eqb, eqb-true, eqb-false}
-use lib.Dec.{eqb, ltb, leb}
+use borrow.Author.Tests.{eq-eqb, ne_eqb, eqb-true, eqb-false}
+use lib.Dec.{eqb}
 use lib.ListN.{length, take, drop, length-drop}
 use lib.Seq.{take_all}
-use Rattle.limits.specs.Questions.{ask, ◌▸◌, question, first_no}
-use Rattle.limits.proofs.Questions.{both, goes_on, says-yes, stays, ▸-assoc, zero-▸, ▸-zero, first_no-append}
+use Rattle.std.specs.Prelude.{Option, Some, None, Result, Ok, Err}
+use Rattle.std.specs.Option.{ok_or, option_eq}
+use Rattle.limits.specs.Outcome.{Outcome, refusal, asked, answer_of}
+use Rattle.limits.specs.declared.Refused.{Refused}
+use Rattle.limits.specs.Questions.{ask}
 use Rattle.expr.specs.Equation.{equations_end, ends_right}
 use Rattle.strike.specs.Strike.{end_within}
-use Rattle.strike.proofs.Ends.{ends_by, end-split}
-use Rattle.recording.specs.Relation.{add_equation_sizes}
-use Rattle.permutation.specs.declared.PermutationRelation.{PermutationRelation}
-use Rattle.withdraw.specs.Walk.{ends_from}
-use Rattle.withdraw.specs.Relation.{withdraw_equation_no}
+use Rattle.strike.proofs.Ends.{ended, unended, ends_by, end-split}
 
--- ---- from a place on
-pub ends-past : (at n : ℕ) (s : List ℕ) → length s < at → 11 ≡ ask 11 (ends_from at n s)
-unfolding ends_from ask
-ends-past at n s h = rw (lt-leb at (length s) h)
+-- ---- the walk in two parts: the equations before i, and those from i on, are all of them
+module _ (n i : ℕ) (s : List ℕ) (h : i < n) where
+  all : equations_end n s ≡ equations_end i s + equations_end (n - i) (drop (equations_end i s) s)
+  all = let k : n ≡ i + (n - i) = omega arith in ap (λ (m : ℕ). equations_end m s) k ∙ end-split i (n - i) s
 
-pub ends-part : (at n : ℕ) (r s : List ℕ) → r ≡ s → at ≤ length s → (end : ℕ) → end ≡ end_within n (take (length r - at) (drop at r))
-    → 0 ▸ ask 11 (eqb end (length (take (length r - at) (drop at r)))) ≡ ask 11 (ends_from at n s)
-unfolding ends_from
-ends-part at n r s q h end e =
-    let l = length-drop at r in
-    let p = take_all (length r - at) (drop at r) (omega arith) in
-    zero-▸ _
-    ∙ ap₂ (λ (m : ℕ) (t : List ℕ). ask 11 (eqb m (length t))) (e ∙ ap (end_within n) p) p
-    ∙ ap (ask 11) (ends_by n (drop at r) ∙ ap (λ (t : List ℕ). ends_right n (drop at t)) q)
-    ∙ rw (le-leb at (length s) h)
+  -- whether those before i end within the words
+  module _ (o : Option ℕ) (w : o ≡ end_within i s) (r : Result ℕ Refused) (v : r ≡ ok_or o (refusal 11)) where
+    -- they don't: 11
+    pub place-refused : {e : Refused} → r ≡ Err e → Err e ≡ answer_of (ask 11 (ends_right n s)) (equations_end i s)
+    unfolding ask
+    place-refused was = go o (sym w) (sym v ∙ was)
+      where
+        go : (o : Option ℕ) → end_within i s ≡ o → {e : Refused} → ok_or o (refusal 11) ≡ Err e
+            → Err e ≡ answer_of (ask 11 (ends_right n s)) (equations_end i s)
+        go None e was =
+            let l = unended i s e in
+            rw (ne_eqb (equations_end n s) (length s) (λ z. absurd (omega (arith, all, z)))) cc
+        go (Some at) e was = cc
 
--- the equations before i, and those from i on, are all of them
-pub ends-whole : (n i : ℕ) (s : List ℕ) → i ≤ n → ends_from (end_within i s) (n - i) s ≡ ends_right n s
-unfolding ends_from end_within
-ends-whole n i s h = go (leb (equations_end i s) (length s)) refl
-  where
-    all : equations_end n s ≡ equations_end i s + equations_end (n - i) (drop (equations_end i s) s)
-    all = let k : n ≡ i + (n - i) = omega arith in ap (λ (m : ℕ). equations_end m s) k ∙ end-split i (n - i) s
+    -- they do, at a place
+    module _ (at : ℕ) (was : r ≡ Ok at) where
+      found : end_within i s ≡ Some at
+      found = sym w ∙ go o (sym v ∙ was)
+        where
+          go : (o : Option ℕ) → ok_or o (refusal 11) ≡ Ok at → o ≡ Some at
+          go None was = cc
+          go (Some x) was = cc
 
-    within : equations_end i s ≤ length s → (b : Bool) → eqb (equations_end n s) (length s) ≡ b
-        → eqb (equations_end (n - i) (drop (equations_end i s) s)) (length (drop (equations_end i s) s)) ≡ b
-    within l true e =
-        let z = eqb-true (equations_end n s) (length s) e in
-        let d = length-drop (equations_end i s) s in
-        eq-eqb (equations_end (n - i) (drop (equations_end i s) s)) (length (drop (equations_end i s) s)) (omega (arith, all))
-    within l false e =
-        ne_eqb (equations_end (n - i) (drop (equations_end i s) s)) (length (drop (equations_end i s) s))
-        (λ z. let d = length-drop (equations_end i s) s in eqb-false (equations_end n s) (length s) e (omega (arith, all, z)))
+      pub place-found : (at ≡ equations_end i s) × (equations_end i s ≤ length s)
+      place-found = ended i s found
 
-    go : (b : Bool) → leb (equations_end i s) (length s) ≡ b
-        → (leb (min (equations_end i s) (length s + 1)) (length s)
-        && eqb (equations_end (n - i) (drop (min (equations_end i s) (length s + 1)) s)) (length (drop (min (equations_end i s) (length s + 1)) s)))
-        ≡ eqb (equations_end n s) (length s)
-    go true e =
-        let l = leb-true (equations_end i s) (length s) e in
-        let m : min (equations_end i s) (length s + 1) ≡ equations_end i s = omega arith in
-        rw (m, e) (within l (eqb (equations_end n s) (length s)) refl)
-    go false e =
-        let l = leb-false (equations_end i s) (length s) e in
-        let m : min (equations_end i s) (length s + 1) ≡ length s + 1 = omega arith in
-        let p : length s < length s + 1 = omega arith in
-        rw (m, lt-leb (length s + 1) (length s) p) (sym (ne_eqb (equations_end n s) (length s) (λ z. absurd (omega (arith, all)))))
+      -- those from there on are asked
+      ends-whole : ends_right (n - i) (drop at s) ≡ ends_right n s
+      ends-whole = rw place-found.0 (go (eqb (equations_end n s) (length s)) refl)
+        where
+          d : length (drop (equations_end i s) s) ≡ length s - equations_end i s
+          d = length-drop (equations_end i s) s
 
--- ---- a withdrawal's number, by what is answered before 11
-module _ (rel : PermutationRelation) (equations : List ℕ) (i sizes k : ℕ)
-    (a : sizes ≡ first_no (add_equation_sizes rel (length equations))) (e : k ≡ sizes ▸ ask 45 (ltb i rel.equations)) where
-  abbrev held : List ℕ
-  held = take rel.words equations
+          go : (b : Bool) → eqb (equations_end n s) (length s) ≡ b
+              → eqb (equations_end (n - i) (drop (equations_end i s) s)) (length (drop (equations_end i s) s)) ≡ eqb (equations_end n s) (length s)
+          go true e = let z = eqb-true _ _ e in rw e (eq-eqb _ _ (omega (arith, all, d, z)))
+          go false e = rw e (ne_eqb _ _ (λ z. eqb-false _ _ e (omega (arith, all, d, z, place-found.1))))
 
-  number_is : withdraw_equation_no rel equations i ≡ k ▸ ask 11 (ends_right rel.equations held)
-  unfolding withdraw_equation_no
-  number_is =
-      first_no-append (add_equation_sizes rel (length equations))
-      (question 45 (ltb i rel.equations) ∷ question 11 (ends_right rel.equations held) ∷ [])
-      ∙ ap (λ (n : ℕ). first_no (add_equation_sizes rel (length equations)) ▸ (ask 45 (ltb i rel.equations) ▸ n))
-      (▸-zero (ask 11 (ends_right rel.equations held)))
-      ∙ sym (▸-assoc (first_no (add_equation_sizes rel (length equations))) (ask 45 (ltb i rel.equations)) (ask 11 (ends_right rel.equations held)))
-      ∙ ap (λ (n : ℕ). n ▸ ask 11 (ends_right rel.equations held)) (sym (e ∙ ap (λ (n : ℕ). n ▸ ask 45 (ltb i rel.equations)) a))
+      -- what is asked of them
+      module _ (rest : List ℕ) (p : rest ≡ take (length s - at) (drop at s)) (end : Option ℕ) (e : end ≡ end_within (n - i) rest)
+          (says : Bool) (q : says ≡ option_eq eqb end (Some (length rest))) where
+        says-right : says ≡ ends_right n s
+        says-right =
+            q
+            ∙ ap (λ (o : Option ℕ). option_eq eqb o (Some (length rest))) e
+            ∙ ends_by (n - i) rest
+            ∙ ap (ends_right (n - i)) (p ∙ take_all (length s - at) (drop at s) (omega (arith, length-drop at s)))
+            ∙ ends-whole
 
-  pub equation-early : (k ≡ 0 → ⊥) → k ≡ withdraw_equation_no rel equations i
-  equation-early h = sym (number_is ∙ stays k (ask 11 (ends_right rel.equations held)) h)
+        pub right-refused : {a : Outcome} {e : Refused} → a ≡ asked 11 says → a ≡ Err e → Err e ≡ answer_of (ask 11 (ends_right n s)) (equations_end i s)
+        unfolding ask
+        right-refused was err = rw (sym says-right) (go says (sym was ∙ err))
+          where
+            go : (b : Bool) {e : Refused} → asked 11 b ≡ Err e → Err e ≡ answer_of (ask 11 b) (equations_end i s)
+            go true was = cc
+            go false was = cc
 
-  pub equation-some : k ≡ 0 → i < rel.equations
-  equation-some z = ltb-true i rel.equations (says-yes 44 _ (both sizes _ (sym e ∙ z)).1)
-
-  pub equation-late : k ≡ 0 → (at last : ℕ) → at ≡ end_within i held → last ≡ ask 11 (ends_from at (rel.equations - i) held)
-      → last ≡ withdraw_equation_no rel equations i
-  equation-late z at last p l =
-      let s = equation-some z in
-      let n : i ≤ rel.equations = omega arith in
-      l
-      ∙ ap (λ (m : ℕ). ask 11 (ends_from m (rel.equations - i) held)) p
-      ∙ ap (ask 11) (ends-whole rel.equations i held n)
-      ∙ sym (number_is ∙ goes_on k (ask 11 (ends_right rel.equations held)) z)
+        pub right-accepted : {a : Outcome} {u : Unit {0}} → a ≡ asked 11 says → a ≡ Ok u → Ok at ≡ answer_of (ask 11 (ends_right n s)) (equations_end i s)
+        unfolding ask
+        right-accepted was ok = rw (sym says-right) (go says (sym was ∙ ok) ∙ ap (answer_of (ask 11 says)) place-found.0)
+          where
+            go : (b : Bool) {u : Unit {0}} → asked 11 b ≡ Ok u → Ok at ≡ answer_of (ask 11 b) at
+            go true was = refl
+            go false was = cc

@@ -1,5 +1,6 @@
 -- What a withdrawal answers, and what it leaves of record and stores: by its number, which is 0 where it is accepted.
 -- Later items move down by one, and the freed words become 0. Assumes nothing.
+use Rattle.permutation.specs.Records.{Recorded}
 use Rattle.std.specs.Prelude.{ℕ, ◌+◌, ◌-◌, true, List, take, drop}
 use Rattle.limits.specs.Questions.{on_yes}
 use Rattle.words.specs.Pieces.{words_of}
@@ -8,7 +9,6 @@ use Rattle.uses.specs.Uses.{uses_after, stray_after}
 use Rattle.strike.specs.Strike.{struck_words}
 use Rattle.permutation.specs.Answers.{relation, recorded_of}
 use Rattle.permutation.specs.declared.PermutationRelation.{PermutationRelation}
-use Rattle.permutation.specs.declared.Recorded.{Recorded}
 use Rattle.withdraw.specs.Relation.{withdraw_equation_no, cells_at, withdraw_query_no}
 
 -- ---- an equation

@@ -1,7 +1,7 @@
 -- What each withdrawal does, its parts by name, as in `recording/specs/Effects`. Assumes nothing.
+use Rattle.permutation.specs.Records.{Recorded}
 use Rattle.std.specs.Prelude.{ℕ, ◌≡◌, List, length}
 use Rattle.permutation.specs.declared.PermutationRelation.{PermutationRelation}
-use Rattle.permutation.specs.declared.Recorded.{Recorded}
 use Rattle.withdraw.specs.Answers.{withdraw_equation, withdraw_equation_equations, withdraw_query, withdraw_query_queries, withdraw_query_uses}
 
 -- an equation withdrawn

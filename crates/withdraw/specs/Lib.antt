@@ -2,4 +2,3 @@ pub mod Relation
 pub mod Answers
 pub mod Effects
 pub mod Left
-pub mod Walk

@@ -6,11 +6,16 @@ use mathlib.Core.Path.{◌≡◌, sym, ap, ◌∙◌}
 use mathlib.Core.Bool.{Bool, true}
 use mathlib.Core.List.{List, ◌∷◌}
 use borrow.Author.Tests.{le-leb, leb-true, eq-eqb}
-use Rattle.limits.specs.Questions.{ask, ◌▸◌, question, first_no}
+use Rattle.std.specs.Prelude.{Err}
+use Rattle.limits.specs.Outcome.{Outcome, outcome_of, as_is}
+use lib.ListN.{length}
+use Rattle.limits.specs.Questions.{ask, ◌▸◌, question, first_no, on_yes}
+use Rattle.limits.specs.declared.Refused.{Refused}
+use Rattle.limits.proofs.Answered.{outcome-refused, stays_by, store-refused}
 use Rattle.limits.proofs.Questions.{ask-yes, stays, goes_on, both, zero-▸, ▸-zero, first_no-append, puts, puts-yes}
 use Rattle.words.specs.Pieces.{words_of}
 use Rattle.permute.specs.Parameters.{sound_parameters, permute_no}
-use Rattle.witness.specs.Trace.{input_asks, step_room, input_no, evaluate_step_no}
+use Rattle.witness.specs.Trace.{input_asks, step_room, input_no, evaluate_step_no, one_step, trace_with, evaluated_step, traced, EvaluatesStep}
 use Rattle.witness.specs.declared.PermutationWitness.{PermutationWitness}
 use Rattle.witness.proofs.Accepted.{input-yes}
 
@@ -69,3 +74,32 @@ module _ (wit : PermutationWitness) (len : ℕ) (input : List ℕ) (rounds : ℕ
     room-number h =
         only-17
         ∙ sym (rest ∙ ap (λ (n : ℕ). ask 17 (sound_parameters wit.width rounds params) ▸ n) (▸-zero _ ∙ ask-yes 10 _ (le-leb _ _ h)) ∙ ▸-zero _)
+
+-- ---- what is answered and left by the number of the call
+module _ (wit : PermutationWitness) (trace input : List ℕ) (rounds : ℕ) (params : List ℕ) where
+  -- e: what was answered
+  pub step-refused : {o : Outcome} {e : Refused} → o ≡ Err e → e.0 ≡ evaluate_step_no wit (length trace) input rounds params
+      → (e.0 ≡ 0 → ⊥) → EvaluatesStep as_is wit trace input rounds params (traced o wit) trace
+  step-refused {e = e} is n h = record {
+    answer = λ i. record {
+      outcome = (is ∙ outcome-refused e.0 h ∙ ap outcome_of n) i;
+      witness = (stays_by e.0 (one_step wit) wit h ∙ ap (λ (k : ℕ). on_yes k (one_step wit) wit) n) i;
+    };
+    trace = store-refused _ e.0 n _ trace h;
+  }
+
+  -- o, w, t: what the evaluation answered and left, where the trace has room
+  pub step-evaluated : input_no wit (length trace) input params ≡ 0 → words_of wit.width (wit.steps + 1) ≤ length trace
+      → {o : Outcome} {w : PermutationWitness} {t : List ℕ}
+      → o ≡ outcome_of (permute_no wit.width rounds params input)
+      → w ≡ on_yes (permute_no wit.width rounds params input) (one_step wit) wit
+      → t ≡ on_yes (permute_no wit.width rounds params input) (trace_with wit (evaluated_step wit input rounds params) trace) trace
+      → EvaluatesStep as_is wit trace input rounds params (traced o w) t
+  step-evaluated y r o w t =
+      let e = room-number wit (length trace) input rounds params y r in record {
+        answer = λ i. record {
+          outcome = (o ∙ ap outcome_of e) i;
+          witness = (w ∙ ap (λ (k : ℕ). on_yes k (one_step wit) wit) e) i;
+        };
+        trace = t ∙ ap (λ (k : ℕ). on_yes k (trace_with wit (evaluated_step wit input rounds params) trace) trace) e;
+      }

@@ -6,11 +6,10 @@ use Rattle.limits.specs.Questions.{Question, question, first_no, in_turn, on_yes
 use Rattle.limits.specs.Asks.{width_asks, store_asks}
 use Rattle.words.specs.Store.{put_words}
 use Rattle.words.specs.Pieces.{words_of, steps_of, held_asks, one_more_asks, half_asks, halves_asks}
-use Rattle.limits.specs.Outcome.{outcome_of}
+use Rattle.limits.specs.Outcome.{Outcome, outcome_of}
 use Rattle.permute.specs.Permute.{permute}
 use Rattle.permute.specs.Parameters.{parameters_of, sound_parameters}
 use Rattle.witness.specs.declared.PermutationWitness.{PermutationWitness}
-use Rattle.witness.specs.declared.Traced.{Traced}
 
 -- ---- questions, a group to a line
 -- 1, and 2 of the trace: its size, and that the steps fit it
@@ -67,6 +66,15 @@ unfoldable pub evaluate_step_no : PermutationWitness → ℕ → List ℕ → �
 evaluate_step_no wit len input rounds params = first_no (evaluate_step_asks wit len input rounds params)
 
 -- ---- what is answered and left: one step more, or everything as it was
+-- a call's outcome with the record beside it
+pub record Traced : Type 0 where
+  pub outcome : Outcome
+  pub witness : PermutationWitness
+
+-- of a call that records a step: its answer, and the record afterwards
+abbrev pub traced : Outcome → PermutationWitness → Traced
+traced outcome wit = record { outcome = outcome; witness = wit }
+
 -- the record with one step more
 abbrev pub one_step : PermutationWitness → PermutationWitness
 one_step wit = record { width = wit.width; steps = wit.steps + 1 }

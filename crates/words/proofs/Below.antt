@@ -1,4 +1,4 @@
--- Every word below a bound: one turn of the loop, and what it says of parts. Assumes nothing.
+-- Every word below a bound: by a fold, place by place, and of parts. Assumes nothing.
 use Prim.Native.Nat.{ℕ, ◌+◌, ◌≤◌, ◌<◌}
 use mathlib.Core.Path.{◌≡◌, refl, sym, ap, ◌∙◌}
 use mathlib.Core.Bool.{Bool, ◌&&◌, and-true, and_assoc}
@@ -7,7 +7,14 @@ use native.Mathlib.Numerals.{add-one}
 use lib.Dec.{ltb}
 use lib.ListN.{length, drop, get_or, drop_of_length-le}
 use lib.Seq.{drop-cons}
+use Rattle.std.specs.List.{fold}
 use Rattle.words.specs.Store.{all_below}
+
+-- by a fold from the first word on
+pub fold-below : (bound : ℕ) (b : Bool) (s : List ℕ) → fold (λ b x. b && ltb x bound) b s ≡ (b && all_below bound s)
+unfolding all_below
+fold-below bound b [] = sym (and-true b)
+fold-below bound b (x ∷ s) = fold-below bound (b && ltb x bound) s ∙ and_assoc b (ltb x bound) (all_below bound s)
 
 below_at : (bound : ℕ) (s : List ℕ) (i : ℕ) → i < length s
     → all_below bound (drop i s) ≡ (ltb (get_or s i 0) bound && all_below bound (drop (i + 1) s))

@@ -6,9 +6,11 @@
 #![tactic(auto)]
 
 ghost use Rattle.std.specs.Prelude.{◌≡◌};
-ghost use Rattle.limits.specs.Questions.{◌▸◌, ask};
+ghost use Rattle.limits.specs.Outcome.{asked};
 ghost use Rattle.instance.specs.Parts.{pairs_at};
 ghost use Rattle.zero_wire.specs.Zero.{zero_first, starts_at_zero};
+
+use limits::Refused;
 
 // Is the first of n pairs wire 0 with value 0? There is none where n is 0; words that the store lacks are taken to be 0.
 fn zero_first(publics: &[u32], n: u32) -> bool
@@ -33,9 +35,9 @@ fn starts_at_zero(vars: u32, publics: &[u32], n: u32) -> bool
     zero_first(publics, n)
 }
 
-// 46, after the answer so far, which 27 is among: there are wires, and the first of n pairs is wire 0 with value 0.
-pub fn asked_zero_wire(no: u32, vars: u32, publics: &[u32], n: u32) -> u32
-    ensures { result ≡ no ▸ ask 46 (starts_at_zero vars (pairs_at n publics.now)) }
+// 46, after 27 said yes: there are wires, and the first of n pairs is wire 0 with value 0.
+pub fn ask_zero_wire(vars: u32, publics: &[u32], n: u32) -> Result<(), Refused>
+    ensures { result ≡ asked 46 (starts_at_zero vars (pairs_at n publics.now)) }
 {
-    limits::asked(no, starts_at_zero(vars, publics, n), 46)
+    limits::ask(46, starts_at_zero(vars, publics, n))
 }

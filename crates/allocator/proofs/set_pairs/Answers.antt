@@ -1,71 +1,50 @@
 -- `allocator::set_pairs` meets its contract: what is left of the pairs, done to the slots as they are and
--- counted from i accepted and so many fresh ones, comes to the whole.
+-- counted from those accepted and the fresh ones, comes to the whole.
 -- Assumes nothing.
-use Prim.Native.Nat.{ℕ, ◌+◌}
-use mathlib.Core.Path.{◌≡◌, refl, sym, ap, ◌∙◌}
-use mathlib.Core.List.{List}
+use Rattle.std.proofs.Common.{◌≡◌, refl, ◌∙◌, ◌+◌, List, ℕ, sym, ap, ap₂, length, arith}
 use mathlib.Core.Logic.{inl, inr}
-use native.Mathlib.Omega.{arith}
-use lib.ListN.{length, drop, get_or}
-use Rattle.allocator.specs.Slots.{pair, pairs, pair_no, ran, set_run}
-use Rattle.allocator.proofs.Assign.{set-one, item-number, item-fresh}
-use Rattle.allocator.proofs.Run.{pairs-at, pairs_end, counted, from-none, run-ended, run-refused, run-accepted, item-length, told}
+use Rattle.allocator.specs.Slots.{pairs, pair_no, ran, set_run}
+use Rattle.allocator.specs.Assign.{set_number, set_fresh}
+use Rattle.allocator.proofs.Assign.{set-one, item-number, item-fresh, item-refused}
+use Rattle.allocator.proofs.Run.{counted, pairs_end, run-ended, run-refused, run-accepted, item-length, told}
+use Rattle.limits.proofs.Answered.{outcome-refused}
 use Rattle.allocator.proofs.set_pairs.Goals as goal
 
-pub loop-i-init : goal.loop-i-init
-loop-i-init c = (omega arith, omega arith, from-none _, refl)
+pub returns-in-Err : goal.returns-in-Err
+returns-in-Err c =
+    let l = c.loop-var in
+    let split = ap₂ pairs c.in-Some.ensures.steps.0 c.in-Some.ensures.steps.1 in
+    let d = c.assign_var.ensures in
+    let k = c.in-Err.refused.0 in
+    let no = ap set_number (sym c.in-Err.is) ∙ item-number (pair_no c.args.count) (λ p. p) l.slots _ _ _ d in
+    let some = item-refused (pair_no c.args.count) (λ p. p) l.slots _ _ _ d c.in-Err.is in
+    told (outcome-refused k some)
+    (ap (λ (t : List ℕ). ran k l.accepted l.fresh t) d.slots
+    ∙ run-refused (pair_no c.args.count) (λ p. p) l.slots l.accepted l.fresh _ _ _ _ split l.invariant.run k no some)
 
-pub returns-then-values-i : goal.returns-then-values-i
-returns-then-values-i c =
-    let l = c.loop-i in
-    let a = c.args in
-    let e = run-ended (pair_no a.count) (λ p. p) l.slots l.i l.fresh _ _ (pairs_end a.vars.now a.values.now l.i (inr c.if-values-i.true)) l.invariant.2 in
-    told e
-
-pub shape_of-slots-then-no-ne0 : goal.shape_of-slots-then-no-ne0
-shape_of-slots-then-no-ne0 c =
-    let l = c.loop-i in
-    ap length c.assign_var-set.ensures.slots ∙ item-length (pair_no _) (λ p. p) l.slots _ ∙ l.invariant.3
-
-pub returns-then-no-ne0 : goal.returns-then-no-ne0
-returns-then-no-ne0 c =
-    let l = c.loop-i in
-    let a = c.args in
-    let vars = a.vars.now in
-    let values = a.values.now in
-    let p = pair (get_or vars l.i 0) (get_or values l.i 0) in
-    let split = pairs-at vars values l.i c.loop-i-test.true c.if-values-i.false in
-    let answered = c.set_no-no.ensures ∙ item-number (pair_no a.count) (λ p. p) l.slots p _ _ c.assign_var-set.ensures in
-    told
-    (ap (λ (t : List ℕ). ran c.set_no-no.result l.i l.fresh t) c.assign_var-set.ensures.slots
-    ∙ run-refused (pair_no a.count) (λ p. p) l.slots l.i l.fresh _ p _ _ split l.invariant.2 _ answered c.if-no-ne0.true)
-
-pub overflow_add-fresh : goal.overflow_add-fresh
-overflow_add-fresh c =
-    let l = c.loop-i in
-    omega (arith, l.invariant.1, c.set_fresh-fresh.ensures, set-one c.assign_var-set.result)
-
-pub loop-i-preserved : goal.loop-i-preserved
-loop-i-preserved c =
-    let l = c.loop-i in
-    let a = c.args in
-    let vars = a.vars.now in
-    let values = a.values.now in
-    let p = pair (get_or vars l.i 0) (get_or values l.i 0) in
-    let split = pairs-at vars values l.i c.loop-i-test.true c.if-values-i.false in
-    let answered = c.set_no-no.ensures ∙ item-number (pair_no a.count) (λ p. p) l.slots p _ _ c.assign_var-set.ensures in
-    let zero : pair_no a.count l.slots p ≡ 0 = sym answered ∙ c.if-no-ne0.false in
-    let one = c.set_fresh-fresh.ensures ∙ item-fresh (pair_no a.count) (λ p. p) l.slots p _ _ c.assign_var-set.ensures zero in (
-      omega arith,
-      omega (arith, l.invariant.1, c.set_fresh-fresh.ensures, set-one c.assign_var-set.result),
-      ap (λ (t : List ℕ). counted (l.i + 1) (l.fresh + c.set_fresh-fresh.result) (set_run a.count t (drop (l.i + 1) (pairs vars values)))) c.assign_var-set.ensures.slots
-          ∙ run-accepted (pair_no a.count) (λ p. p) l.slots l.i l.fresh _ p _ _ split l.invariant.2 _ one zero,
-      ap length c.assign_var-set.ensures.slots ∙ item-length (pair_no a.count) (λ p. p) l.slots p ∙ l.invariant.3,
-    )
+pub loop-var-preserved : goal.loop-var-preserved
+loop-var-preserved c =
+    let l = c.loop-var in
+    let split = ap₂ pairs c.in-Some.ensures.steps.0 c.in-Some.ensures.steps.1 in
+    let d = c.assign_var.ensures in
+    let g = set_fresh c.assign_var.result in
+    let taken = ap set_number c.in-Ok.is in
+    let count : c.set_fresh-fresh.result ≡ g = c.set_fresh-fresh.ensures ∙ ap set_fresh (sym c.in-Ok.is) in
+    let zero = sym (item-number _ _ _ _ _ _ d) ∙ taken in
+    let one = item-fresh _ _ _ _ _ _ d zero in
+    let left = pairs c.next.new.self.a.rest.now c.next.new.self.b.rest.now in record {
+      can = (tt, tt);
+      finite = tt;
+      fresh = omega (arith, count, set-one c.assign_var.result);
+      accepted = omega (arith, ap length c.in-Some.ensures.steps.0);
+      run =
+          ap₂ (λ (f : ℕ) (t : List ℕ). counted (l.accepted + 1) f (set_run c.args.count t left)) (ap (λ (n : ℕ). l.fresh + n) count) d.slots
+          ∙ run-accepted (pair_no _) (λ p. p) _ l.accepted l.fresh _ _ _ _ split l.invariant.run g one zero;
+      slots = ap length d.slots ∙ item-length (pair_no _) (λ p. p) _ _ ∙ l.invariant.slots;
+    }
 
 pub returns : goal.returns
 returns c =
-    let l = c.loop-i in
-    let a = c.args in
-    let e = run-ended (pair_no a.count) (λ p. p) l.slots l.i l.fresh _ _ (pairs_end a.vars.now a.values.now l.i (inl c.loop-i-test.false)) l.invariant.2 in
-    told e
+    let l = c.loop-var in
+    let none = pairs_end _ _ 0 (elim c.in-None.ensures.steps [ inl h ↦ inl (omega (arith, h.1.0)) | inr h ↦ inr (omega (arith, h.1.0)) ]) in
+    told refl (run-ended (pair_no _) (λ p. p) _ l.accepted l.fresh _ _ none l.invariant.run)

@@ -7,4 +7,4 @@ pub returns : goal.returns
 returns c =
     let a = c.args in
     let made = c.add_equation.ensures in
-    equated a.rel a.equations.now a.terms.now a.image.0 _ _ made.answer made.equations
+    equated a.rel.now a.equations.now a.terms.now a.image.0 _ _ made.answer made.equations

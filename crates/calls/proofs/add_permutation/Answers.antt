@@ -7,4 +7,4 @@ pub returns : goal.returns
 returns c =
     let a = c.args in
     let made = c.add_permutation.ensures in
-    recorded a.rel a.slots.now a.queries.now a.uses.now a.input.now a.output.now _ _ _ made.answer made.queries made.uses
+    recorded a.rel.now a.slots.now a.queries.now a.uses.now a.input.now a.output.now _ _ _ made.answer made.queries made.uses

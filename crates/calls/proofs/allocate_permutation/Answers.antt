@@ -7,4 +7,4 @@ pub returns : goal.returns
 returns c =
     let a = c.args in
     let made = c.allocate_permutation.ensures in
-    minted a.rel a.slots.now a.queries.now a.uses.now a.input.now _ _ _ _ made.answer made.slots made.queries made.uses
+    minted a.rel.now a.slots.now a.queries.now a.uses.now a.input.now _ _ _ _ made.answer made.slots made.queries made.uses

@@ -7,4 +7,4 @@ pub returns : goal.returns
 returns c =
     let a = c.args in
     let made = c.allocate_vars.ensures in
-    allocated a.rel a.slots.now a.n _ _ made.answer made.slots
+    allocated a.rel.now a.slots.now a.n _ _ made.answer made.slots

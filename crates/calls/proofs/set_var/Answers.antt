@@ -8,4 +8,4 @@ pub returns : goal.returns
 returns c =
     let a = c.args in
     let made = c.set_var.ensures in
-    set a.rel a.slots.now (pair a.var.0 a.value.0) _ _ made.answer made.slots
+    set a.rel.now a.slots.now (pair a.var.0 a.value.0) _ _ made.answer made.slots

@@ -7,4 +7,4 @@ pub returns : goal.returns
 returns c =
     let a = c.args in
     let made = c.set_vars.ensures in
-    listed a.rel a.slots.now a.vars.now a.values.now _ _ made.answer made.slots
+    listed a.rel.now a.slots.now a.vars.now a.values.now _ _ made.answer made.slots

@@ -7,4 +7,4 @@ pub returns : goal.returns
 returns c =
     let a = c.args in
     let made = c.withdraw_equation.ensures in
-    equation-withdrawn a.rel a.equations.now a.i _ _ made.answer made.equations
+    equation-withdrawn a.rel.now a.equations.now a.i _ _ made.answer made.equations

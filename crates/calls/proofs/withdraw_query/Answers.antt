@@ -7,4 +7,4 @@ pub returns : goal.returns
 returns c =
     let a = c.args in
     let made = c.withdraw_query.ensures in
-    query-withdrawn a.rel a.slots.now a.queries.now a.uses.now a.i _ _ _ made.answer made.queries made.uses
+    query-withdrawn a.rel.now a.slots.now a.queries.now a.uses.now a.i _ _ _ made.answer made.queries made.uses

@@ -2,8 +2,8 @@
 -- and so does what is left of them stored from there, where the store holds them all.
 -- Assumes nothing.
 use native.Mathlib.Omega.{arith}
-use mathlib.Core.Path.{refl, sym, ap, ◌∙◌}
-use lib.ListN.{length, length-set}
+use mathlib.Core.Path.{sym, ap, ◌∙◌}
+use lib.ListN.{length}
 use Rattle.compile.specs.Gate.{publics_from}
 use Rattle.compile.proofs.Publics.{publics-whole, publics-done, publics-skip, publics-take, stored, store_pair, stored-none, stored-put}
 use Rattle.compile.proofs.put_publics.Goals as goal
@@ -13,40 +13,7 @@ pub loop-i-init : goal.loop-i-init
 loop-i-init c =
     let a = c.args in
     let e = publics-whole a.slots.now in
-    (rw e (omega arith), omega arith, omega arith, refl, omega arith, λ f. (omega arith, ap (stored a.out.now 0) e))
-
-pub overflow_add-to : goal.overflow_add-to
-overflow_add-to c = omega arith
-
-pub overflow_cast-out : goal.overflow_cast-out
-overflow_cast-out c = omega arith
-
-pub offset_bounds-out-to : goal.offset_bounds-out-to
-offset_bounds-out-to c = omega arith
-
-pub bounds-out-to : goal.bounds-out-to
-bounds-out-to c = omega arith
-
-pub overflow_add-out : goal.overflow_add-out
-overflow_add-out c = omega arith
-
-pub offset_bounds-out-to-then-to-out : goal.offset_bounds-out-to-then-to-out
-offset_bounds-out-to-then-to-out c = omega arith
-
-pub bounds-out-to-then-to-out : goal.bounds-out-to-then-to-out
-bounds-out-to-then-to-out c = simp length-set (omega arith)
-
-pub overflow_add-to-then-to-out : goal.overflow_add-to-then-to-out
-overflow_add-to-then-to-out c = omega arith
-
-pub overflow_add-n : goal.overflow_add-n
-overflow_add-n c = omega arith
-
-pub overflow_add-i : goal.overflow_add-i
-overflow_add-i c = omega arith
-
-pub loop-i-smaller : goal.loop-i-smaller
-loop-i-smaller c = omega arith
+    (rw e (omega arith), omega arith, omega arith, λ f. (omega arith, ap (stored a.out.now 0) e))
 
 pub loop-i-preserved : goal.loop-i-preserved
 loop-i-preserved c =
@@ -62,21 +29,12 @@ loop-i-preserved c =
               omega arith,
               omega arith,
               omega arith,
-              rw (w.out-is, u.out-is) (simp length-set l.invariant.3),
-              omega arith,
               λ f. (
-                omega (arith, (l.invariant.5 f).0),
-                rw (w.out-is, w.to-is, u.out-is, u.to-is) (store_pair l.out l.to _ _ ∙ ap (stored l.out l.to) (sym e) ∙ (l.invariant.5 f).1),
+                omega (arith, (l.invariant.3 f).0),
+                rw (w.out-is, w.to-is, u.out-is, u.to-is) (store_pair l.out l.to _ _ ∙ ap (stored l.out l.to) (sym e) ∙ (l.invariant.3 f).1),
               ),
             )
-            | else-to-out u ↦ (
-              omega arith,
-              omega arith,
-              omega arith,
-              rw (w.out-is, u.out-is) l.invariant.3,
-              omega arith,
-              λ f. absurd (omega (arith, (l.invariant.5 f).0)),
-            )
+            | else-to-out u ↦ (omega arith, omega arith, omega arith, λ f. absurd (omega (arith, (l.invariant.3 f).0)))
           ]
       | else-v w ↦
           let e = publics-skip s l.i h w.if-v.false in
@@ -84,11 +42,9 @@ loop-i-preserved c =
             omega arith,
             omega arith,
             omega arith,
-            rw w.out-is l.invariant.3,
-            omega arith,
             λ f. (
-              omega (arith, (l.invariant.5 f).0),
-              rw (w.out-is, w.to-is) (ap (stored l.out l.to) (sym e) ∙ (l.invariant.5 f).1),
+              omega (arith, (l.invariant.3 f).0),
+              rw (w.out-is, w.to-is) (ap (stored l.out l.to) (sym e) ∙ (l.invariant.3 f).1),
             ),
           )
     ]
@@ -104,6 +60,6 @@ returns c =
       stored = λ f.
           sym (stored-none l.out l.to)
           ∙ ap (stored l.out l.to) (sym d)
-          ∙ (l.invariant.5 f).1
+          ∙ (l.invariant.3 f).1
           ∙ stored-put a.out.now (publics_from 0 a.slots.now) f;
     }

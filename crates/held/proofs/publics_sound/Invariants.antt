@@ -1,10 +1,8 @@
-use mathlib.Core.Path.{◌≡◌}
-use lib.ListN.{drop}
+use Rattle.std.proofs.Common.{◌≡◌}
 use Rattle.held.specs.Held.{publics_sound}
 use Rattle.held.proofs.publics_sound.Given as goal
 
-abbrev pub invariant-loop-left : goal.invariant-loop-left
-invariant-loop-left l = publics_sound l.left (drop l.i l.held) ≡ publics_sound l.n l.held
-
-abbrev pub decreases-loop-left : goal.decreases-loop-left
-decreases-loop-left l = l.left
+abbrev pub invariant-loop-pair : goal.invariant-loop-pair
+invariant-loop-pair l =
+    let left = l.pair-iterator in
+    (left.iter.size ≡ 2) × (publics_sound left.n left.iter.rest.now ≡ publics_sound l.n l.held)

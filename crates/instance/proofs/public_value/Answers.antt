@@ -1,31 +1,10 @@
--- `public_value` meets its contract: 1, 2 and 3, then the last pair that lists the wire.
--- Assumes nothing.
-use Prim.Native.Nat.{ℕ}
-use mathlib.Core.Path.{◌≡◌, ◌∙◌}
-use lib.ListN.{length}
-use Rattle.limits.proofs.Questions.{▸-assoc, zero-▸, ▸-zero}
-use Rattle.instance.specs.Looks.{public_value_no}
-use Rattle.instance.proofs.Looks.{value_of, public_value-refused, public_value-accepted, public_value-fits}
+-- Where no question says no, the value is that of the last pair that lists the wire. Assumes nothing.
+use Rattle.std.proofs.Common.{arith}
+use Rattle.limits.specs.Questions.{ask, first_of_two}
+use Rattle.instance.specs.Looks.{public_value_no, public_value}
+use Rattle.instance.proofs.Parts.{pairs_at-take}
 use Rattle.instance.proofs.public_value.Goals as goal
-use Rattle.instance.proofs.public_value.Goals.{After-asked-no}
-
--- the chain of questions is the list
-abbrev Number : After-asked-no → ℕ → Type 0
-Number o k = k ≡ public_value_no o.args.ins (length o.args.publics.now) o.args.var.0
-
-number : (s : After-asked-no) → Number s s.asked-no.result
-unfolding public_value_no
-number s =
-    rw (s.asked-no.ensures, s.asked-c.ensures, s.asked_store-b.ensures, s.asked_width-a.ensures)
-    (simp (▸-assoc, zero-▸, ▸-zero))
-
-pub returns-then-no-ne0 : goal.returns-then-no-ne0
-returns-then-no-ne0 c = public_value-refused _ _ _ _ (number (goal.at.returns-then-no-ne0 c).After-asked-no) c.if-no-ne0.true
-
-pub last_value-requires : goal.last_value-requires
-last_value-requires c = public_value-fits _ _ _ _ (number (goal.at.last_value-requires c).After-asked-no) c.if-no-ne0.false
 
 pub returns : goal.returns
-unfolding value_of
-returns c =
-    c.last_value.ensures ∙ public_value-accepted _ _ _ _ (number (goal.at.returns c).After-asked-no) c.if-no-ne0.false
+unfolding public_value public_value_no ask first_of_two
+returns c = grind (arith, pairs_at-take)

@@ -1,11 +1,11 @@
 -- `kept` meets its contract: by the answer's two cases.
 -- Assumes nothing.
-use mathlib.Core.Path.{refl, sym, ap, ◌∙◌}
-use Rattle.header.specs.declared.Field.{Field}
-use Rattle.items.specs.Told.{kept_on}
+use mathlib.Core.Path.{refl, sym, ◌∙◌}
+use Rattle.items.proofs.Lists.{kept-err, kept-ok}
 use Rattle.items.proofs.kept.Goals as goal
 
-pub returns-in_default : goal.returns-in_default
-returns-in_default c =
-    let a = c.args in
-    (refl, c.fill.ensures ∙ sym (ap (λ (x : Field). kept_on x a.out.now) c.in_default.is))
+pub returns-then-is_err : goal.returns-then-is_err
+returns-then-is_err c = (refl, c.fill.ensures ∙ kept-err c.args.list c.args.out.now (sym c.is_err.ensures.value ∙ c.if-is_err.true))
+
+pub returns-else-is_err : goal.returns-else-is_err
+returns-else-is_err c = (refl, kept-ok c.args.list c.args.out.now (sym c.is_err.ensures.value ∙ c.if-is_err.false))

@@ -1,16 +1,12 @@
 -- `matrix_inverse::invert_matrix` meets its contract: a copy is eliminated, and put over the words where there is an inverse.
 -- Assumes nothing.
-use native.Mathlib.Omega.{arith}
 use borrow.Author.Rules.{rules}
 use lib.ListN.{replicate}
-use Rattle.matrix_inverse.proofs.Inverted.{square-small, too_wide, wrong_size, inverted-no, inverted-yes}
+use Rattle.matrix_inverse.proofs.Inverted.{too_wide, wrong_size, inverted-no, inverted-yes}
 use Rattle.matrix_inverse.proofs.invert_matrix.Goals as goal
 
 pub returns-then-width-gt-MAX_WIDTH : goal.returns-then-width-gt-MAX_WIDTH
 returns-then-width-gt-MAX_WIDTH c = too_wide _ _ c.if-width-gt-MAX_WIDTH.true
-
-pub overflow_mul-size : goal.overflow_mul-size
-overflow_mul-size c = omega (arith, square-small c.args.width c.if-width-gt-MAX_WIDTH.false)
 
 pub returns-then-words-size : goal.returns-then-words-size
 returns-then-words-size c = wrong_size _ _ c.if-width-gt-MAX_WIDTH.false c.if-words-size.true

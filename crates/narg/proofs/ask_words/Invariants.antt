@@ -1,16 +1,10 @@
-use Prim.Native.Nat.{◌-◌, ◌/◌, ◌≤◌, min}
 use mathlib.Core.Path.{◌≡◌}
-use lib.ListN.{length}
+use Rattle.std.specs.Prelude.{Err}
 use Rattle.limits.specs.Questions.{pick}
-use Rattle.narg.specs.declared.Item.TheVariants.{Refused}
+use Rattle.limits.specs.Outcome.{refusal}
 use Rattle.narg.proofs.Items.{asked_from}
 use Rattle.narg.proofs.ask_words.Given as goal
 
-abbrev pub invariant-loop-i : goal.invariant-loop-i
-invariant-loop-i l =
-    (l.i ≤ l.held)
-    × (l.held ≡ min l.n ((length l.bytes - l.at) / 4))
-    × (pick l.below (asked_from l.bytes l.at l.n l.bound l.k l.i) (Refused l.k) ≡ asked_from l.bytes l.at l.n l.bound l.k 0)
-
-abbrev pub decreases-loop-i : goal.decreases-loop-i
-decreases-loop-i l = l.held - l.i
+abbrev pub invariant-loop-word : goal.invariant-loop-word
+invariant-loop-word l =
+    pick l.below (asked_from l.bytes l.c.at l.n l.bound l.k l.word-index) (Err (refusal l.k)) ≡ asked_from l.bytes l.c.at l.n l.bound l.k 0

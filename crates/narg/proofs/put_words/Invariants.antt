@@ -1,4 +1,4 @@
-use Prim.Native.Nat.{◌+◌, ◌*◌, ◌-◌, ◌≤◌}
+use Prim.Native.Nat.{◌+◌, ◌*◌, ◌≤◌}
 use mathlib.Core.Path.{◌≡◌}
 use lib.ListN.{length, take}
 use Rattle.words.specs.Store.{put_words}
@@ -9,9 +9,4 @@ use Rattle.narg.proofs.put_words.Given as goal
 abbrev pub invariant-loop-i : goal.invariant-loop-i
 invariant-loop-i l =
     (l.out ≡ put_words l.at (each u32_bytes (take l.i l.words)) l.initial.out)
-    × (l.i ≤ length l.words)
     × (l.at + 4 * length l.words ≤ length l.initial.out)
-    × (length l.out ≡ length l.initial.out)
-
-abbrev pub decreases-loop-i : goal.decreases-loop-i
-decreases-loop-i l = length l.words - l.i

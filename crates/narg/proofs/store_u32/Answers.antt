@@ -1,20 +1,16 @@
--- `narg::store_u32` meets its contract: four stores in a row are one written part.
+-- `narg::store_u32` meets its contract: the four bytes are one written part.
 -- Assumes nothing.
+use mathlib.Core.Path.{ap, ◌∙◌}
+use mathlib.Core.List.{List}
+use Prim.Native.Nat.{ℕ}
 use native.Mathlib.Omega.{arith}
-use lib.ListN.{length-set}
-use Rattle.narg.specs.Bytes.{u32_bytes}
-use Rattle.narg.proofs.Stores.{stores4}
+use Rattle.words.specs.Store.{put_words}
+use Rattle.narg.proofs.Words.{u32_bytes-le}
+use Rattle.narg.proofs.Stores.{put_words-mid}
 use Rattle.narg.proofs.store_u32.Goals as goal
 
-pub bounds-out-at-2 : goal.bounds-out-at-2
-bounds-out-at-2 c = simp length-set (omega arith)
-
-pub bounds-out-at-3 : goal.bounds-out-at-3
-bounds-out-at-3 c = simp length-set (omega arith)
-
-pub bounds-out-at-4 : goal.bounds-out-at-4
-bounds-out-at-4 c = simp length-set (omega arith)
-
 pub returns : goal.returns
-unfolding u32_bytes
-returns c = let a = c.args in stores4 a.out.now a.at _ _ _ _ c.requires
+returns c =
+    let a = c.args in
+    let e = c.copy_from_slice.ensures.after ∙ c.to_le_bytes.ensures ∙ u32_bytes-le a.value in
+    put_words-mid a.at _ _ a.out.now (omega (arith, c.copy_from_slice.ensures.len)) ∙ ap (λ (l : List ℕ). put_words a.at l a.out.now) e

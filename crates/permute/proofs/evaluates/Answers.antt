@@ -2,6 +2,7 @@
 -- Assumes nothing.
 use mathlib.Core.Path.{sym, ◌∙◌}
 use Rattle.permute.proofs.Trace.{not-units, rounds-asked, evaluates-is}
+use Rattle.permute.proofs.Words.{pointwise-is}
 use Rattle.permute.proofs.evaluates.Goals as goal
 
 pub returns-then-not-are_units : goal.returns-then-not-are_units
@@ -17,4 +18,4 @@ pub returns : goal.returns
 returns c =
     evaluates-is c.requires.0 c.args.step.now c.requires.1 (sym c.are_units.ensures ∙ c.if-not-are_units.false)
     c.put.ensures
-    c.run_rounds.ensures c.same_words.ensures
+    c.run_rounds.ensures (c.eq.ensures ∙ pointwise-is _ _)

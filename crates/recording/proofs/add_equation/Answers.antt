@@ -1,24 +1,28 @@
--- `recording::add_equation` meets its contract: by the number of the sizes, the terms and the rest.
--- Assumes nothing.
-use Rattle.recording.proofs.Equated.{equation-fits, equated-stored, equated-kept}
+-- `recording::add_equation` meets its contract. Assumes nothing.
+use native.Mathlib.Omega.{arith}
+use Rattle.limits.proofs.Answered.{accepted-zero}
+use Rattle.recording.proofs.Equated.{equation-fits, equated-stored}
 use Rattle.recording.proofs.add_equation.Goals as goal
 
-pub equation_recorded-recorded-requires : goal.equation_recorded-recorded-requires
-equation_recorded-recorded-requires c =
-    let a = c.args in
-    equation-fits a.rel a.equations.now a.terms.now a.image.0 c.asked_equations-no.result c.asked_terms-no.result c.add_equation_no-no.result
-    c.asked_equations-no.ensures c.asked_terms-no.ensures c.add_equation_no-no.ensures
+pub overflow_cast-rel-2 : goal.overflow_cast-rel-2
+overflow_cast-rel-2 c =
+    let f = equation-fits _ _ _ _ (accepted-zero _ _ c.ask_add_equation.ensures c.in_ok-ask_add_equation.was) in
+    omega (arith, f.words)
 
-pub returns-then-no-ne0 : goal.returns-then-no-ne0
-returns-then-no-ne0 c =
-    let a = c.args in
-    equated-kept a.rel a.equations.now a.terms.now a.image.0 c.asked_equations-no.result c.asked_terms-no.result c.add_equation_no-no.result
-    c.asked_equations-no.ensures c.asked_terms-no.ensures c.add_equation_no-no.ensures c.equation_recorded-recorded.result
-    c.equation_recorded-recorded.ensures c.if-no-ne0.true
+pub overflow_mul-rel : goal.overflow_mul-rel
+overflow_mul-rel c =
+    let f = equation-fits _ _ _ _ (accepted-zero _ _ c.ask_add_equation.ensures c.in_ok-ask_add_equation.was) in
+    omega (arith, f.words)
 
-pub returns-else-no-ne0 : goal.returns-else-no-ne0
-returns-else-no-ne0 c =
-    let a = c.args in
-    equated-stored a.rel a.equations.now a.terms.now a.image.0 c.asked_equations-no.result c.asked_terms-no.result c.add_equation_no-no.result
-    c.asked_equations-no.ensures c.asked_terms-no.ensures c.add_equation_no-no.ensures c.equation_recorded-recorded.result
-    c.equation_recorded-recorded.ensures c.if-no-ne0.false c.put_equation.new.out c.put_equation.ensures
+pub overflow_add-rel-2 : goal.overflow_add-rel-2
+overflow_add-rel-2 c =
+    let f = equation-fits _ _ _ _ (accepted-zero _ _ c.ask_add_equation.ensures c.in_ok-ask_add_equation.was) in
+    omega (arith, f.words)
+
+pub overflow_add-rel-3 : goal.overflow_add-rel-3
+overflow_add-rel-3 c =
+    let f = equation-fits _ _ _ _ (accepted-zero _ _ c.ask_add_equation.ensures c.in_ok-ask_add_equation.was) in
+    omega (arith, f.words)
+
+pub returns : goal.returns
+returns c = equated-stored _ _ _ _ (accepted-zero _ _ c.ask_add_equation.ensures c.in_ok-ask_add_equation.was) _ c.put_equation.ensures

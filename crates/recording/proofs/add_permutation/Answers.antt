@@ -2,83 +2,58 @@
 -- the query.
 -- Assumes nothing.
 use Prim.Native.Nat.{ℕ, ◌+◌}
-use mathlib.Core.Path.{◌≡◌, sym, ap, ◌∙◌}
-use mathlib.Core.Bool.{false}
-use mathlib.Core.List.{◌++◌}
-use native.Mathlib.Omega.{arith}
-use lib.ListN.{length}
-use Rattle.limits.specs.declared.Outcome.TheVariants as outcome
-use Rattle.limits.proofs.Answered.{store-refused, store-accepted}
+use mathlib.Core.Path.{refl, sym, ap, ◌∙◌}
+use Rattle.std.proofs.Common.{rules}
+use Rattle.limits.proofs.Answered.{accepted-zero, refused-number, refused-own, store-accepted}
+use Rattle.std.specs.Prelude.{Ok}
+use Rattle.uses.proofs.Left.{counts-answer, uses-left, stray-left}
+use Rattle.permutation.specs.Records.{recorded}
 use Rattle.words.specs.Store.{fit_words}
 use Rattle.words.specs.Pieces.{words_of}
-use Rattle.words.proofs.Pieces.{pieces-few}
 use Rattle.words.proofs.Held.{halves-put}
-use Rattle.uses.proofs.Left.{uses-left, stray-left}
 use Rattle.permutation.specs.Answers.{relation}
-use Rattle.permutation.proofs.Answered.{recorded-refused, recorded-accepted}
-use Rattle.recording.specs.Numbers.{add_permutation_no}
-use Rattle.recording.proofs.Accepted.{AddPermutation, add_permutation-yes}
-use Rattle.recording.proofs.Tallied.{record-early, record-late}
+use Rattle.permutation.proofs.Answered.{recorded-accepted}
+use Rattle.recording.proofs.Accepted.{add_permutation-yes}
+use Rattle.recording.proofs.Tallied.{record-early, record-counted, record-refused}
 use Rattle.recording.proofs.add_permutation.Goals as goal
-use Rattle.recording.proofs.add_permutation.Goals.{After-count_cells-counted, Else-counted-ne0}
 
--- 1, 2, 9 and 3 said yes, and the cells are counted: the number is the call's
-late : (w : After-count_cells-counted) → w.count_cells-counted.result.number ≡ (add_permutation_no w.args.rel (length w.args.slots.now) (length w.args.queries.now) w.args.uses.now w.args.input.now w.args.output.now)
-late w =
-    record-late w.args.rel (length w.args.slots.now) (length w.args.queries.now) w.args.uses.now w.args.input.now w.args.output.now _ w.add_permutation_no-no.ensures w.if-no-ne0.false _ _
-    w.asked_one_more-room.ensures w.count_cells-counted.ensures.number
+pub returns-in_err-ask_add_permutation : goal.returns-in_err-ask_add_permutation
+returns-in_err-ask_add_permutation c =
+    let e = c.ask_add_permutation.ensures in
+    let was = c.in_err-ask_add_permutation.was in
+    let h = refused-own _ _ e was in
+    record-refused _ _ _ _ _ _ (search rules) (record-early _ _ _ _ _ _ _ (sym (refused-number _ _ e was)) h) h
 
--- all said yes
-yes : (t : Else-counted-ne0) → AddPermutation t.args.rel (length t.args.queries.now) t.args.input.now t.args.output.now
-yes t = add_permutation-yes _ _ _ _ _ _ (sym (record-late t.args.rel (length t.args.slots.now) (length t.args.queries.now) t.args.uses.now t.args.input.now t.args.output.now _ t.add_permutation_no-no.ensures t.if-no-ne0.false _ _
-    t.asked_one_more-room.ensures t.count_cells-counted.ensures.number) ∙ t.if-counted-ne0.false)
-
-pub returns-then-no-ne0 : goal.returns-then-no-ne0
-returns-then-no-ne0 c =
-    let e = record-early c.args.rel (length c.args.slots.now) (length c.args.queries.now) c.args.uses.now c.args.input.now c.args.output.now _ c.add_permutation_no-no.ensures c.if-no-ne0.true in record {
-      answer = recorded-refused _ _ e _ c.args.rel c.if-no-ne0.true;
-      queries = store-refused _ _ e _ c.args.queries.now c.if-no-ne0.true;
-      uses = store-refused _ _ e _ c.args.uses.now c.if-no-ne0.true;
-    }
-
-pub returns-then-counted-ne0 : goal.returns-then-counted-ne0
-returns-then-counted-ne0 c =
-    let e = late (goal.at.returns-then-counted-ne0 c).After-count_cells-counted in
-    record {
-      answer = recorded-refused _ _ e _ c.args.rel c.if-counted-ne0.true;
-      queries = store-refused _ _ e _ c.args.queries.now c.if-counted-ne0.true;
-      uses = uses-left false (length c.args.slots.now) c.args.uses.now c.args.rel.stray (c.args.input.now ++ c.args.output.now) _ _ _ c.count_cells-counted.ensures _ e;
-    }
-
-pub overflow_mul-at : goal.overflow_mul-at
-overflow_mul-at c = let f = yes (goal.at.overflow_mul-at c).Else-counted-ne0 in omega arith
-
-pub overflow_add-at-2 : goal.overflow_add-at-2
-overflow_add-at-2 c = let f = yes (goal.at.overflow_add-at-2 c).Else-counted-ne0 in omega arith
-
-pub overflow_add-result : goal.overflow_add-result
-overflow_add-result c =
-    let f = yes (goal.at.overflow_add-result c).Else-counted-ne0 in
-    let few = pieces-few _ _ _ f.least f.room in
-    omega arith
+pub returns-in_err-stray : goal.returns-in_err-stray
+returns-in_err-stray c =
+    let n = record-counted _ _ _ _ _ _ (accepted-zero _ _ c.ask_add_permutation.ensures c.in_ok-ask_add_permutation.was) in
+    let t = c.count_cells.ensures in
+    let room = c.ask_one_more-room.ensures in
+    let e = counts-answer _ _ _ _ _ _ _ _ t _ room in
+    let was = c.in_err-stray.was in
+    let k = sym (refused-number _ _ e was) ∙ n in
+    let h = refused-own _ _ e was in
+    let r = record-refused c.args.rel.now c.args.slots.now c.args.queries.now c.args.uses.now c.args.input.now c.args.output.now (search rules) k h in
+    record { answer = r.answer; queries = r.queries; uses = uses-left _ _ _ _ _ _ _ _ t _ room _ n }
 
 pub returns : goal.returns
 returns c =
-    let w = (goal.at.returns c).After-count_cells-counted in
-    let e = late w in
-    let f = yes (goal.at.returns c).Else-counted-ne0 in
-    let m = w.count_cells-counted.ensures in
-    let z = c.if-counted-ne0.false in
-    let at = words_of w.args.rel.width w.args.rel.queries in
+    let n = record-counted _ _ _ _ _ _ (accepted-zero _ _ c.ask_add_permutation.ensures c.in_ok-ask_add_permutation.was) in
+    let t = c.count_cells.ensures in
+    let room = c.ask_one_more-room.ensures in
+    let was = c.in_ok-stray.was in
+    let z = sym n ∙ accepted-zero _ _ (counts-answer _ _ _ _ _ _ _ _ t _ room) was in
+    let f = add_permutation-yes _ _ _ _ _ _ z in
+    let rel = c.args.rel.now in
+    let at = words_of rel.width rel.queries in
     record {
       answer =
-          ap (λ (n : ℕ). record { outcome = outcome.Accepted; relation = relation w.args.rel.width w.args.rel.vars (w.args.rel.queries + 1) w.args.rel.equations w.args.rel.words n })
-          (stray-left false (length w.args.slots.now) w.args.uses.now w.args.rel.stray (w.args.input.now ++ w.args.output.now) _ _ _ m z)
-          ∙ recorded-accepted _ _ e _ w.args.rel z;
+          ap (λ (s : ℕ). recorded (Ok tt) (relation rel.width rel.vars (rel.queries + 1) rel.equations rel.words s)) (stray-left _ _ _ _ _ _ _ _ t was)
+          ∙ recorded-accepted _ 0 (sym z) _ rel refl;
       queries =
           c.put-2.ensures
-          ∙ ap (fit_words (at + w.args.rel.width) w.args.output.now) c.put.ensures
-          ∙ halves-put w.args.rel.width w.args.rel.queries w.args.input.now w.args.output.now w.args.queries.now f.inputs f.outputs f.room
-          ∙ store-accepted _ _ e _ w.args.queries.now z;
-      uses = uses-left false (length w.args.slots.now) w.args.uses.now w.args.rel.stray (w.args.input.now ++ w.args.output.now) _ _ _ m _ e;
+          ∙ ap (fit_words (at + rel.width) c.args.output.now) c.put.ensures
+          ∙ halves-put rel.width rel.queries c.args.input.now c.args.output.now c.args.queries.now f.inputs f.outputs f.room
+          ∙ store-accepted _ 0 (sym z) _ c.args.queries.now refl;
+      uses = uses-left _ _ _ _ _ _ _ _ t _ room _ n;
     }

@@ -7,4 +7,4 @@ pub returns : goal.returns
 returns c =
     let a = c.args in
     let made = c.add_equation_on.ensures in
-    equated a.allocator a.index a.rel a.equations.now a.terms.now a.image.0 _ _ made.answers made.leaves
+    equated a.allocator.now a.index a.rel.now a.equations.now a.terms.now a.image.0 _ _ made.answers made.leaves

@@ -7,5 +7,5 @@ pub returns : goal.returns
 returns c =
     let a = c.args in
     let made = c.add_permutation_on.ensures in
-    recorded a.allocator a.index a.rel a.slots.now a.queries.now a.uses.now a.input.now a.output.now _ _ _
+    recorded a.allocator.now a.index a.rel.now a.slots.now a.queries.now a.uses.now a.input.now a.output.now _ _ _
     made.answers made.leaves made.leaves-too

@@ -7,5 +7,5 @@ pub returns : goal.returns
 returns c =
     let a = c.args in
     let made = c.allocate_permutation_on.ensures in
-    minted a.allocator a.index a.rel a.slots.now a.queries.now a.uses.now a.input.now _ _ _ _
+    minted a.allocator.now a.index a.rel.now a.slots.now a.queries.now a.uses.now a.input.now _ _ _ _
     made.answers made.leaves made.leaves-too made.leaves_last

@@ -7,4 +7,4 @@ pub returns : goal.returns
 returns c =
     let a = c.args in
     let made = c.allocate_vars_on.ensures in
-    allocated a.allocator a.index a.rel a.slots.now a.n _ _ made.answers made.leaves
+    allocated a.allocator.now a.index a.rel.now a.slots.now a.n _ _ made.answers made.leaves

@@ -7,4 +7,4 @@ pub returns : goal.returns
 returns c =
     let a = c.args in
     let made = c.set_tickets_on.ensures in
-    ticketed a.allocator a.index a.rel a.slots.now a.text.now _ _ made.answer made.slots
+    ticketed a.allocator.now a.index a.rel.now a.slots.now a.text.now _ _ made.answer made.slots

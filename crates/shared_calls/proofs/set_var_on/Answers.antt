@@ -8,4 +8,4 @@ pub returns : goal.returns
 returns c =
     let a = c.args in
     let made = c.set_var_on.ensures in
-    set_is a.allocator a.index a.rel a.slots.now (pair a.var.0 a.value.0) _ _ made.answers made.leaves
+    set_is a.allocator.now a.index a.rel.now a.slots.now (pair a.var.0 a.value.0) _ _ made.answers made.leaves

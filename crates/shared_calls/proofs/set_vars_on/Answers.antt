@@ -7,4 +7,4 @@ pub returns : goal.returns
 returns c =
     let a = c.args in
     let made = c.set_vars_on.ensures in
-    listed a.allocator a.index a.rel a.slots.now a.vars.now a.values.now _ _ made.answer made.slots
+    listed a.allocator.now a.index a.rel.now a.slots.now a.vars.now a.values.now _ _ made.answer made.slots

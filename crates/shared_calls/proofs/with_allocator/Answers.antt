@@ -7,4 +7,4 @@ pub returns : goal.returns
 returns c =
     let a = c.args in
     let made = c.with_allocator.ensures in
-    opens a.width a.quota _ a.allocator a.slots.now a.uses.now _ _ made.answers made.leaves made.leaves-too
+    opens a.width a.quota _ a.allocator.now a.slots.now a.uses.now _ _ made.answers made.leaves made.leaves-too

@@ -7,4 +7,4 @@ pub returns : goal.returns
 returns c =
     let a = c.args in
     let made = c.withdraw_equation_on.ensures in
-    equation-withdrawn a.allocator a.index a.rel a.equations.now a.i _ _ made.answers made.leaves
+    equation-withdrawn a.allocator.now a.index a.rel.now a.equations.now a.i _ _ made.answers made.leaves

@@ -7,5 +7,5 @@ pub returns : goal.returns
 returns c =
     let a = c.args in
     let made = c.withdraw_query_on.ensures in
-    query-withdrawn a.allocator a.index a.rel a.slots.now a.queries.now a.uses.now a.i _ _ _
+    query-withdrawn a.allocator.now a.index a.rel.now a.slots.now a.queries.now a.uses.now a.i _ _ _
     made.answers made.leaves made.leaves-too

@@ -12,13 +12,13 @@ returns-then-line-ne-BLANK c = not-blank _ c.if-line-ne-BLANK.true
 pub returns-then-line-ne-NEWLINE : goal.returns-then-line-ne-NEWLINE
 returns-then-line-ne-NEWLINE c = not-newline _ c.if-line-ne-NEWLINE.true
 
-pub returns-in_default : goal.returns-in_default
-returns-in_default c = not-wire _ (sym c.number_in.ensures ∙ c.in_default.is)
+pub returns-in_err-wire : goal.returns-in_err-wire
+returns-in_err-wire c = c.from_residual.ensures ∙ not-wire _ (sym c.number_in.ensures ∙ c.in_err-wire.was)
 
-pub returns-in_default-number_in : goal.returns-in_default-number_in
-returns-in_default-number_in c = not-grams _ (sym c.number_in-2.ensures ∙ c.in_default-number_in.is)
+pub returns-in_err-grams : goal.returns-in_err-grams
+returns-in_err-grams c = c.from_residual-in_err-grams.ensures ∙ not-grams _ (sym c.number_in-2.ensures ∙ c.in_err-grams.was)
 
 pub returns : goal.returns
 returns c =
     all-parts _ c.if-line-ne-LINE.false c.if-line-ne-BLANK.false c.if-line-ne-NEWLINE.false _ _
-    (sym c.number_in.ensures ∙ c.in-Number.is) (sym c.number_in-2.ensures ∙ c.in-Number-number_in.is)
+    (sym c.number_in.ensures ∙ c.in_ok-wire.was) (sym c.number_in-2.ensures ∙ c.in_ok-grams.was)

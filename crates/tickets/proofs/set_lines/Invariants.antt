@@ -1,17 +1,14 @@
-use Prim.Native.Nat.{◌≤◌, ◌-◌}
+use Prim.Native.Nat.{◌≤◌, ◌+◌}
 use mathlib.Core.Path.{◌≡◌}
-use lib.ListN.{length, drop}
+use lib.ListN.{length}
+use Rattle.std.specs.Slice.Iter.{chunks_rest, chunks_size}
 use Rattle.allocator.proofs.Run.{counted}
 use Rattle.tickets.specs.Lines.{set_lines}
 use Rattle.tickets.proofs.set_lines.Given as goal
 
-abbrev pub invariant-loop-at : goal.invariant-loop-at
-invariant-loop-at l =
-    (l.at ≤ length l.text)
-    × (l.i ≤ l.at)
-    × (l.fresh ≤ l.i)
-    × (counted l.i l.fresh (set_lines l.count l.slots (drop l.at l.text)) ≡ set_lines l.count l.initial.slots l.text)
-    × (length l.slots ≡ length l.initial.slots)
-
-abbrev pub decreases-loop-at : goal.decreases-loop-at
-decreases-loop-at l = length l.text - l.at
+abbrev pub invariant-loop-line : goal.invariant-loop-line
+invariant-loop-line l =
+    (chunks_size l.line-iterator ≡ 24)
+    × (l.accepted + length (chunks_rest l.line-iterator) ≤ length l.text)
+    × (l.fresh ≤ l.accepted)
+    × (counted l.accepted l.fresh (set_lines l.count l.slots (chunks_rest l.line-iterator)) ≡ set_lines l.count l.initial.slots l.text)

@@ -1,15 +1,14 @@
--- `at_most` meets its contract: what was said so far and the rest is what is said of all.
+-- `at_most` meets its contract: the fold over the cells is what is said of all.
 -- Assumes nothing.
-use native.Mathlib.Omega.{arith}
-use mathlib.Core.Path.{refl}
-use Rattle.uses.proofs.Steps.{most_step, most-end}
+use Rattle.std.proofs.Common.{◌&&◌, ◌∙◌, true, rules, tests}
+use Rattle.std.proofs.lemmas.Iterator.{YieldsList-from_slice}
+use Rattle.std.proofs.lemmas.Iterator.Consumers.{fold_from_yields_List}
+use Rattle.uses.specs.Moves.{cell_at_most}
+use Rattle.uses.proofs.Steps.{most-folded}
 use Rattle.uses.proofs.at_most.Goals as goal
 
-pub loop-i-init : goal.loop-i-init
-loop-i-init c = (omega arith, refl)
-
-pub loop-i-preserved : goal.loop-i-preserved
-loop-i-preserved c = let l = c.loop-i in (omega arith, most_step _ _ _ l.i l.all _ c.loop-i-test.true c.cell_at_most-all.ensures l.invariant.1)
-
 pub returns : goal.returns
-returns c = let l = c.loop-i in most-end _ _ _ l.i l.all c.loop-i-test.false l.invariant.1
+returns c =
+    let a = c.args in
+    fold_from_yields_List _ (λ all x. all && cell_at_most a.end a.uses.now x) true _ c.fold.ensures.ran (YieldsList-from_slice a.cells.now cc) (λ p x b q k. search (rules, tests))
+    ∙ most-folded a.end a.uses.now a.cells.now true

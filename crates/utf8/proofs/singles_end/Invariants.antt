@@ -1,12 +1,7 @@
-use Prim.Native.Nat.{◌-◌, ◌≤◌}
 use mathlib.Core.Path.{◌≡◌}
-use lib.ListN.{length}
 use Rattle.utf8.specs.Scan.{byte_before, Fit}
 use Rattle.utf8.proofs.singles_end.Given as goal
 
 abbrev pub invariant-loop-i : goal.invariant-loop-i
 invariant-loop-i l =
-    (l.at ≤ l.i) × (l.i ≤ length l.bytes) × (l.a ≡ byte_before l.bytes l.i 3) × (l.b ≡ byte_before l.bytes l.i 2) × (l.c ≡ byte_before l.bytes l.i 1) × Fit l.bytes l.at l.i
-
-abbrev pub decreases-loop-i : goal.decreases-loop-i
-decreases-loop-i l = l.end - l.i
+    (l.a ≡ byte_before l.bytes l.i 3) × (l.b ≡ byte_before l.bytes l.i 2) × (l.c ≡ byte_before l.bytes l.i 1) × Fit l.bytes l.at l.i

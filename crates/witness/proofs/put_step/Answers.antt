@@ -11,7 +11,7 @@ pub returns : goal.returns
 returns c =
     let a = c.args in
     let p = c.requires in
-    let w = a.wit.width in
+    let w = a.wit.now.width in
     c.put-2.ensures
-    ∙ ap (fit_words (words_of w a.wit.steps + w) a.output.now) c.put.ensures
-    ∙ halves-put w a.wit.steps a.input.now a.output.now a.trace.now p.0 p.1 p.2
+    ∙ ap (fit_words (words_of w a.wit.now.steps + w) a.output.now) c.put.ensures
+    ∙ halves-put w a.wit.now.steps a.input.now a.output.now a.trace.now p.0 p.1 p.2

@@ -1,19 +1,11 @@
--- `words::all_below` meets its contract: what the words so far say and what is left of them say together what all
--- of them say.
+-- `words::all_below` meets its contract: folded from the first word on, the tests of the words are what all of them say.
 -- Assumes nothing.
-use mathlib.Core.Path.{refl}
-use native.Mathlib.Omega.{arith}
-use borrow.Author.Rules.{rules}
-use Rattle.words.proofs.Below.{below_more, below_all}
+use Rattle.std.proofs.Common.{rules, ◌≡◌, ◌∙◌, true, ◌&&◌, ltb}
+use Rattle.std.specs.List.{fold}
+use Rattle.words.proofs.Below.{fold-below}
 use Rattle.words.proofs.all_below.Goals as goal
 
-pub loop-i-init : goal.loop-i-init
-loop-i-init c = (search rules, refl)
-
-pub loop-i-preserved : goal.loop-i-preserved
-loop-i-preserved c =
-    let l = c.loop-i in
-    (omega arith, below_more _ _ l.below l.i l.invariant.1 c.loop-i-test.true)
-
 pub returns : goal.returns
-returns c = below_all _ _ _ _ c.loop-i.invariant.1 c.loop-i-test.false
+returns c =
+    let e : c.fold.result ≡ fold (λ b x. b && ltb x c.args.bound) true c.args.s.now = search rules in
+    e ∙ fold-below _ true c.args.s.now

@@ -1,11 +1,6 @@
-use Prim.Native.Nat.{◌≤◌, ◌-◌}
-use mathlib.Core.Path.{◌≡◌}
-use mathlib.Core.List.{◌++◌}
-use lib.ListN.{length, drop, replicate}
+use Rattle.std.proofs.Common.{◌≡◌, take, replicate}
 use Rattle.words.proofs.fill.Given as goal
 
-abbrev pub invariant-loop-i : goal.invariant-loop-i
-invariant-loop-i l = (l.s ≡ replicate l.i l.v ++ drop l.i l.initial.s) × (l.i ≤ length l.initial.s) × (length l.s ≡ length l.initial.s)
-
-abbrev pub decreases-loop-i : goal.decreases-loop-i
-decreases-loop-i l = length l.initial.s - l.i
+-- the first words are v
+abbrev pub invariant-loop-x : goal.invariant-loop-x
+invariant-loop-x l = take l.x-index l.s ≡ replicate l.x-index l.v

@@ -40,11 +40,6 @@ queries-placed s =
       kept = s.put_list-after_queries.auto.out ∙ s.put_list-after_publics.auto.out ∙ s.put_u32.auto.out ∙ s.put_label-at.auto.out ∙ s.put_header.auto.out;
     }
 
-pub overflow_add-at : goal.overflow_add-at
-overflow_add-at c =
-    let l = label-placed (goal.at.overflow_add-at c).After-put_label-at in
-    omega (arith, c.requires.room)
-
 pub put_list-after_publics-requires : goal.put_list-after_publics-requires
 put_list-after_publics-requires c =
     let l = label-placed (goal.at.put_list-after_publics-requires c).After-put_label-at in

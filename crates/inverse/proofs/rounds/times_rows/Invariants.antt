@@ -1,10 +1,5 @@
-use Prim.Native.Nat.{◌-◌}
-use lib.ListN.{length}
 use Rattle.inverse.proofs.Walk.{Rows}
 use Rattle.inverse.proofs.rounds.times_rows.Given as goal
 
 abbrev pub invariant-loop-i : goal.invariant-loop-i
-invariant-loop-i l = Rows l.matrix l.x l.out l.i l.at
-
-abbrev pub decreases-loop-i : goal.decreases-loop-i
-decreases-loop-i l = length l.x - l.i
+invariant-loop-i l = Rows l.matrix l.x l.out l.i

@@ -3,9 +3,6 @@ use Rattle.items.proofs.Run.{Run}
 use Rattle.items.proofs.Equations.{two_words}
 use Rattle.items.proofs.into.read_pairs.Given as goal
 
-abbrev pub invariant-loop-left : goal.invariant-loop-left
-invariant-loop-left l =
-    Run read_pair pair_size two_words l.bytes l.initial.next.at l.n l.initial.out l.out l.next.at l.to l.left
-
-abbrev pub decreases-loop-left : goal.decreases-loop-left
-decreases-loop-left l = l.left
+abbrev pub invariant-loop : goal.invariant-loop
+invariant-loop l =
+    Run read_pair pair_size two_words l.bytes l.initial.next.at l.n l.initial.out l.out l.next.at l.to l.counter

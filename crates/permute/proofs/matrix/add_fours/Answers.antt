@@ -1,31 +1,37 @@
 -- `permute::matrix::add_fours` meets its contract. The invariant is `Summing`: the sums and the columns that are
--- left make the whole, and the sums fit. The measure is the columns left. Assumes nothing.
+-- left make the whole, and the sums fit. Assumes nothing.
+use Prim.Native.Nat.{◌+◌, ◌-◌, ◌%◌}
+use mathlib.Core.Path.{◌≡◌}
 use native.Mathlib.Omega.{arith}
-use Rattle.permute.proofs.Columns.{summing_start, columns-room, sums-asked, four-asked, four-turn, summing-at}
+use lib.ListN.{length}
+use Rattle.permute.proofs.Columns.{columns-room, sums-asked, four-asked, four-turn, summing-at}
 use Rattle.permute.proofs.matrix.add_fours.Goals as goal
 
-pub loop-j-init : goal.loop-j-init
-loop-j-init c = let p = c.requires in summing_start p.0 p.1
-
-pub overflow_add-end : goal.overflow_add-end
-overflow_add-end c =
-    let r = columns-room c.requires.0 c.loop-j.invariant 4 c.loop-j-test.true in
-    omega arith
-
-pub offset_bounds-columns-at : goal.offset_bounds-columns-at
-offset_bounds-columns-at c =
-    let r = columns-room c.requires.0 c.loop-j.invariant 4 c.loop-j-test.true in
+pub slice_bounds-add_columns-end : goal.slice_bounds-add_columns-end
+slice_bounds-add_columns-end c =
+    let i = c.loop-j.invariant in
+    let r = columns-room c.requires.0 i.0 4 (omega (arith, c.loop-j-test.true)) in
     omega arith
 
 pub add_columns-requires : goal.add_columns-requires
 add_columns-requires c =
     let p = c.requires.0 in
-    (four-asked p c.loop-j.invariant c.loop-j-test.true, sums-asked p c.loop-j.invariant)
+    let i = c.loop-j.invariant in
+    (four-asked p i.0 (omega (arith, c.loop-j-test.true)), sums-asked p i.0)
 
 pub loop-j-preserved : goal.loop-j-preserved
 loop-j-preserved c =
+    let p = c.requires.0 in
+    let i = c.loop-j.invariant in
     let d = c.add_columns in
-    four-turn c.requires.0 c.loop-j.invariant c.loop-j-test.true d.auto.low d.auto.high d.ensures
+    (summing-at p (four-turn p i.0 (omega (arith, c.loop-j-test.true)) d.auto.low d.auto.high d.ensures), omega arith)
 
-pub returns : goal.returns
-returns c = summing-at c.requires.0 c.loop-j.invariant
+-- after the last four, where no next number is made
+pub returns-2 : goal.returns-2
+returns-2 c =
+    let p = c.requires.0 in
+    let i = c.loop-j.invariant in
+    let d = c.add_columns in
+    let w = length c.args.x.now in
+    let e : c.loop-j.j + 4 ≡ w - w % 4 = omega arith in
+    rw (← e) (summing-at p (four-turn p i.0 (omega (arith, c.loop-j-test.true)) d.auto.low d.auto.high d.ensures))

@@ -1,9 +1,5 @@
-use Prim.Native.Nat.{◌-◌}
 use Rattle.permute.proofs.Columns.{Turning}
 use Rattle.permute.proofs.matrix.turn_matrix.Given as goal
 
 abbrev pub invariant-loop-k : goal.invariant-loop-k
-invariant-loop-k l = Turning l.matrix l.w l.initial.columns l.columns l.k l.at
-
-abbrev pub decreases-loop-k : goal.decreases-loop-k
-decreases-loop-k l = l.w - l.k
+invariant-loop-k l = Turning l.matrix l.w l.initial.columns l.columns l.k

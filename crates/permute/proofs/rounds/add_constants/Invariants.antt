@@ -1,12 +1,8 @@
-use Prim.Native.Nat.{◌≤◌, ◌-◌}
 use mathlib.Core.Path.{◌≡◌}
 use mathlib.Core.List.{◌++◌}
-use lib.ListN.{length, take, drop}
+use lib.ListN.{take, drop}
 use Rattle.permute.specs.Permute.{add_constants}
 use Rattle.permute.proofs.rounds.add_constants.Given as goal
 
 abbrev pub invariant-loop-i : goal.invariant-loop-i
-invariant-loop-i l = (take l.i l.out ++ add_constants (drop l.i l.constants) (drop l.i l.x) ≡ add_constants l.constants l.x) × (length l.out ≡ length l.x) × (l.i ≤ length l.x)
-
-abbrev pub decreases-loop-i : goal.decreases-loop-i
-decreases-loop-i l = length l.x - l.i
+invariant-loop-i l = take l.i l.out ++ add_constants (drop l.i l.constants) (drop l.i l.x) ≡ add_constants l.constants l.x

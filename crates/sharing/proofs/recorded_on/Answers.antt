@@ -1,7 +1,0 @@
--- `sharing::recorded_on` meets its contract: field by field.
--- Assumes nothing.
-use mathlib.Core.Path.{refl}
-use Rattle.sharing.proofs.recorded_on.Goals as goal
-
-pub returns : goal.returns
-returns c = rw c.off_allocator.ensures refl
