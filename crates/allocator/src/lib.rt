@@ -10,7 +10,7 @@ ghost use Rattle.std.specs.Prelude.{◌≡◌};
 ghost use Rattle.limits.specs.Questions.{first_no};
 ghost use Rattle.limits.specs.Outcome.{outcome_of};
 ghost use Rattle.allocator.specs.Slots.{slots_asks, grow_asks, wire_asks, pair, pairs, set_run};
-ghost use Rattle.allocator.specs.Assign.{AssignsVar, fresh_of, how_far, Runs, grow_slots};
+ghost use Rattle.allocator.specs.Assign.{AssignsVar, fresh_of, set_fresh, how_far, Runs, grow_slots};
 
 use baby_bear::BabyBearUnit;
 use limits::{MAX_COUNT, P, Refused, UNASSIGNED};
@@ -103,12 +103,22 @@ pub fn assign_var(
 }
 
 // How many fresh ones an accepted set counts.
-pub fn set_fresh(set: Set) -> usize
+pub fn fresh_of(set: Set) -> usize
     ensures { result ≡ fresh_of set }
 {
     match set {
         Set::Fresh => 1,
         Set::Repeated => 0,
+    }
+}
+
+// How many an answer counts: none where it refuses.
+pub fn set_fresh(answer: Result<Set, Refused>) -> usize
+    ensures { result ≡ set_fresh answer }
+{
+    match answer {
+        Ok(set) => fresh_of(set),
+        Err(_) => 0,
     }
 }
 
@@ -120,7 +130,7 @@ pub fn set_pairs(count: u32, slots: &mut [u32], vars: &[u32], values: &[u32]) ->
     let mut fresh = 0;
     for (var, value) in vars.iter().zip(values) {
         match assign_var(count, slots, FieldVar(*var), BabyBearUnit(*value)) {
-            Ok(set) => fresh += set_fresh(set),
+            Ok(set) => fresh += fresh_of(set),
             Err(refused) => {
                 return SetPairs {
                     outcome: Err(refused),

@@ -23,7 +23,10 @@ pub(crate) fn put_bytes(out: &mut [u8], at: usize, bytes: &[u8])
     requires { at + length bytes.now ≤ length out.old }
     ensures { out.new ≡ put_words at bytes.now out.old }
 {
-    out[at..at + bytes.len()].copy_from_slice(bytes);
+    // By a loop: the library's copy would have the archive ask for `memmove`.
+    for (i, byte) in bytes.iter().enumerate() {
+        out[at + i] = *byte;
+    }
 }
 
 // A count and the words of a list at a place of an output; and the place past them.

@@ -17,7 +17,7 @@ use Rattle.words.specs.Pieces.{words_of}
 use Rattle.expr.specs.Equation.{term_vars, term_weights, equation_at, equations_at, equations_end, equations_held, size_at}
 use Rattle.instance.specs.Parts.{pair_vars, pair_values, pairs_at}
 use Rattle.held.specs.Held.{equations_sound, publics_sound, slots_sound}
-use Rattle.instance.proofs.Pairs.{at_first, vars-same, values_same}
+use Rattle.instance.proofs.Pairs.{at_first, pairs-at, vars-same, values_same}
 use Rattle.instance.proofs.Parts.{pairs_at-take}
 
 -- ---- pairs
@@ -39,41 +39,40 @@ sound-piece (a ∷ b ∷ []) r n e h =
     interchange (ltb a max_count) (ltb b prime) (all_below max_count (pair_vars (pairs_at n r))) (all_below prime (pair_values (pairs_at n r)))
 sound-piece (a ∷ b ∷ y ∷ x) r n e h = absurd (omega arith)
 
+sound-at : (s : List ℕ) (i n : ℕ) → 0 < n
+    → publics_sound n (drop i s)
+    ≡ ((ltb (get_or s i 0) max_count && ltb (get_or s (i + 1) 0) prime) && publics_sound (n - 1) (drop (i + 2) s))
+unfolding publics_sound all_below
+sound-at s i n h =
+    rw (pairs-at s i n h)
+    (interchange (ltb (get_or s i 0) max_count) (ltb (get_or s (i + 1) 0) prime)
+    (all_below max_count (pair_vars (pairs_at (n - 1) (drop (i + 2) s))))
+    (all_below prime (pair_values (pairs_at (n - 1) (drop (i + 2) s)))))
+
 -- words that are lacking count as 0, which is sound
 lacking : (n : ℕ) → publics_sound n [] ≡ true
 unfolding publics_sound all_below
 lacking zero = refl
 lacking (suc n) = lacking n
 
-module _ (n : ℕ) (s : List ℕ) (whole : Bool) (e : publics_sound n s ≡ whole) where
-  -- no pair is left, or no word
-  pub sound-all : (0 < n → length s ≡ 0) → true ≡ whole
+module _ (s : List ℕ) (i n : ℕ) (whole : Bool) (e : publics_sound n (drop i s) ≡ whole) where
+  pub sound-lacking : length s ≤ i → true ≡ whole
+  sound-lacking h = sym (ap (publics_sound n) (drop_of_length-le s h) ∙ lacking n) ∙ e
+
+  pub sound-all : n ≤ 0 → true ≡ whole
   unfolding publics_sound all_below
-  sound-all h = go n s h e
-    where
-      go : (m : ℕ) (r : List ℕ) → (0 < m → length r ≡ 0) → publics_sound m r ≡ whole → true ≡ whole
-      go zero r k f = f
-      go (suc m) [] k f = sym (lacking (suc m)) ∙ f
-      go (suc m) (y ∷ r) k f = absurd (let z = k (omega arith) in omega arith)
+  sound-all h = let z : n ≡ 0 = omega arith in rw z at e
 
-  -- the first of n pairs is in the piece x, and m pairs in r are left
-  module _ (x r : List ℕ) (m k : ℕ) (two : k ≡ 2) (t : (s ≡ x ++ r) × (length x ≡ min k (length s)) × (0 < length s)) (c : m + 1 ≡ n) where
-    step : ((ltb (get_or x 0 0) max_count && ltb (get_or x 1 0) prime) && publics_sound m r) ≡ whole
-    step =
-        let z : n ≡ suc m = omega arith in
-        let l = length-append x r in
-        let g = ap length t.0 in
-        sym (sound-piece x r m (omega arith) (omega arith)) ∙ (rw (z, t.0) at e)
+  module _ (h : 0 < n) where
+    pub sound-wire : max_count ≤ get_or s i 0 → false ≡ whole
+    sound-wire k = sym (sound-at s i n h ∙ simp (le-ltb (get_or s i 0) max_count k)) ∙ e
 
-    pub sound-wire : max_count ≤ get_or x 0 0 → false ≡ whole
-    sound-wire w = simp (le-ltb (get_or x 0 0) max_count w) at step
+    module _ (k : get_or s i 0 < max_count) where
+      pub sound-unit : prime ≤ get_or s (i + 1) 0 → false ≡ whole
+      sound-unit l = sym (sound-at s i n h ∙ simp (lt-ltb (get_or s i 0) max_count k, le-ltb (get_or s (i + 1) 0) prime l)) ∙ e
 
-    module _ (w : get_or x 0 0 < max_count) where
-      pub sound-unit : prime ≤ get_or x 1 0 → false ≡ whole
-      sound-unit u = simp (lt-ltb (get_or x 0 0) max_count w, le-ltb (get_or x 1 0) prime u) at step
-
-      pub sound_more : get_or x 1 0 < prime → publics_sound m r ≡ whole
-      sound_more u = simp (lt-ltb (get_or x 0 0) max_count w, lt-ltb (get_or x 1 0) prime u) at step
+      pub sound_more : get_or s (i + 1) 0 < prime → publics_sound (n - 1) (drop (i + 2) s) ≡ whole
+      sound_more l = sym (sound-at s i n h ∙ simp (lt-ltb (get_or s i 0) max_count k, lt-ltb (get_or s (i + 1) 0) prime l)) ∙ e
 
 -- what the pairs before say, with those in s still to be looked at
 module _ (sound : Bool) (s : List ℕ) (whole : Bool) (e : (sound && publics_sound (length s / 2) s) ≡ whole) where

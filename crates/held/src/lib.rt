@@ -65,11 +65,16 @@ pub fn size_at(s: &[u32], at: usize) -> usize
 fn publics_sound(held: &[u32], n: u32) -> bool
     ensures { result ≡ publics_sound n held.now }
 {
-    for pair in held.chunks(2).take(n as usize) {
-        if MAX_COUNT <= pair[0] {
+    // By places: over chunks a pair takes a third more instructions, most of them to ask how long the chunk is.
+    for i in 0..n as usize {
+        let at = 2 * i;
+        if held.len() <= at {
+            return true;
+        }
+        if MAX_COUNT <= held[at] {
             return false;
         }
-        if P <= word_at(pair, 1) {
+        if P <= word_at(held, at + 1) {
             return false;
         }
     }

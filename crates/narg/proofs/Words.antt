@@ -157,6 +157,13 @@ module _ (s : List ℕ) (at n : ℕ) (cs : List (List ℕ)) where
       let m : k ≡ min n ((length s - at) / 4) = omega arith in
       ap (take k) e ∙ take-first_chunks k (length (drop at s) / 4) (drop at s) (omega arith) ∙ ap (λ (j : ℕ). first_chunks 4 j (drop at s)) m
 
+  -- where the bytes hold all n, those are the first n
+  pub chunks_held-all : cs ≡ first_chunks 4 (length (drop at s) / 4) (drop at s) → 4 * n ≤ length s - at → take n cs ≡ chunks_held s at n
+  chunks_held-all e h =
+      let d = length-drop at s in
+      let l = ap length e ∙ length-first_chunks (length (drop at s) / 4) (drop at s) in
+      chunks_held-take n e (omega arith)
+
   pub length-chunks_held : cs ≡ chunks_held s at n → length cs ≡ min n ((length s - at) / 4)
   length-chunks_held e = ap length e ∙ length-first_chunks (min n ((length s - at) / 4)) (drop at s)
 

@@ -117,7 +117,9 @@ fn store_words(bytes: &[u8], at: usize, out: &mut [u32], place: usize, n: usize)
     requires { (4 * n ≤ length bytes.now - at) × (place + n ≤ length out.old) }
     ensures { out.new ≡ store_of place out.old (times word n (drop at bytes.now)) }
 {
-    for (i, word) in words_held(bytes, at, n).iter().enumerate() {
+    // The bytes hold all n, so the loop's end is n itself: as short as n is, asking again how many they hold costs.
+    let (words, _) = behind(bytes, at).as_chunks::<WORD>();
+    for (i, word) in words[..n].iter().enumerate() {
         out[place + i] = u32::from_le_bytes(*word);
     }
 }

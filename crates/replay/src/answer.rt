@@ -174,10 +174,7 @@ impl From<Result<Option<u32>, Refused>> for Answer {
 // The number, 0, and 1 where the set is fresh.
 impl From<Result<Set, Refused>> for Answer {
     fn from(set: Result<Set, Refused>) -> Answer {
-        match set {
-            Ok(set) => Answer::of(0).with_third(u32::from(set == Set::Fresh)),
-            Err(refused) => Answer::of(refused.0),
-        }
+        Answer::of(limits::number(&set)).with_third(count(allocator::set_fresh(set)))
     }
 }
 

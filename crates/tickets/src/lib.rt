@@ -57,7 +57,7 @@ fn set_lines(count: u32, slots: &mut [u32], text: &[u8]) -> SetPairs
     let mut fresh: usize = 0;
     for line in text.chunks(LINE) {
         match set_line(count, slots, line) {
-            Ok(set) => fresh += allocator::set_fresh(set),
+            Ok(set) => fresh += allocator::fresh_of(set),
             Err(refused) => {
                 return SetPairs {
                     outcome: Err(refused),

@@ -41,7 +41,7 @@ is_witness_valid_no ins label publics queries equations steps trace rounds param
     ▸ check_no (is_evaluation ins.width rounds params) (parts_of ins publics queries equations)
     (steps_of ins.width steps trace)
 
--- yes is Accepted
+-- yes is Ok
 abbrev pub is_witness_valid : PermutationInstance → (label publics queries equations : List ℕ)
     → (steps : ℕ) (trace : List ℕ) (rounds : ℕ) (params : List ℕ) (scratch : ℕ) → Outcome
 is_witness_valid ins label publics queries equations steps trace rounds params scratch =

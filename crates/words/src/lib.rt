@@ -27,7 +27,10 @@ pub fn put(out: &mut [u32], at: usize, words: &[u32])
     ensures { out.new ≡ fit_words at words.now out.old }
 {
     if at <= out.len() && words.len() <= out.len() - at {
-        out[at..at + words.len()].copy_from_slice(words);
+        // By a loop: the library's copy would have the archive ask for `memmove`, and takes a third longer for one word.
+        for (i, word) in words.iter().enumerate() {
+            out[at + i] = *word;
+        }
     }
 }
 
@@ -69,7 +72,7 @@ pub fn ask_one_more(width: u32, n: u32, len: usize) -> Result<(), Refused>
     limits::ask(10, wanted <= len as u64 / 2)
 }
 
-// Questions 9 and 3 of one half of a query: has it `width` words, and is each a wire?
+// Questions 9 and k of one half of a piece: has it `width` words, and is each below the bound?
 pub fn ask_half(width: u32, k: u32, bound: u32, half: &[u32]) -> Result<(), Refused>
     ensures { result ≡ outcome (half_asks width k bound half.now) }
 {

@@ -36,7 +36,7 @@ loop-line-preserved c =
     let split = next-line (chunks_rest l.line-iterator) c.in-Some.line.now (chunks_rest c.next.new.self) cut.1.0 (omega arith) cut.1.2 in
     let d = c.set_line.ensures in
     let g = set_fresh c.set_line.result in
-    let count : c.set_fresh-fresh.result ≡ g = c.set_fresh-fresh.ensures ∙ ap set_fresh (sym c.in-Ok.is) in
+    let count : c.fresh_of-fresh.result ≡ g = c.fresh_of-fresh.ensures ∙ ap set_fresh (sym c.in-Ok.is) in
     let zero = sym (item-number _ _ _ _ _ _ d) ∙ ap set_number c.in-Ok.is in
     let one = item-fresh _ _ _ _ _ _ d zero in (
       omega arith,

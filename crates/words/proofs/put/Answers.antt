@@ -1,0 +1,42 @@
+-- `words::put` meets its contract: after i turns the first i words stand at their place and the rest of the
+-- store is as it was (`paste` of lib.Seq).
+-- Assumes nothing.
+use Prim.Native.Nat.{ℕ, ◌+◌, ◌<◌}
+use mathlib.Core.Path.{◌≡◌, refl, ap, ◌∙◌}
+use mathlib.Core.List.{List, append_assoc}
+use native.Mathlib.Omega.{arith}
+use native.Mathlib.Numerals.{add-one}
+use borrow.Author.Tests.{le-leb}
+use lib.ListN.{length, set, get_or, length-set}
+use lib.Seq.{paste, paste-zero, paste-suc, take-length}
+use Rattle.words.proofs.put.Goals as goal
+
+pub loop-i-init : goal.loop-i-init
+loop-i-init c =
+    let a = c.args in
+    (paste-zero a.out.now a.at a.words.now, omega arith, refl)
+
+pub loop-i-preserved : goal.loop-i-preserved
+loop-i-preserved c =
+    let l = c.loop-i in
+    let a = c.args in
+    let d = a.out.now in
+    let s = a.words.now in
+    let hd : a.at + l.i < length d = omega arith in
+    let hs : l.i < length s = omega arith in (
+      ap (λ (t : List ℕ). set t (a.at + l.i) (get_or s l.i 0)) l.invariant.0
+          ∙ rw add-one (paste-suc d a.at s l.i 0 hd hs),
+      l.invariant.1,
+      length-set l.out (a.at + l.i) _ ∙ l.invariant.2,
+    )
+
+pub returns-after-loop-i : goal.returns-after-loop-i
+returns-after-loop-i c =
+    let l = c.loop-i in
+    let a = c.args in
+    let d = a.out.now in
+    let s = a.words.now in
+    let e : l.i ≡ length s = omega arith in
+    l.invariant.0
+    ∙ ap (λ (k : ℕ). paste d a.at s k) e
+    ∙ simp (take-length, append_assoc, le-leb (a.at + length s) (length d) l.invariant.1)
